@@ -1,0 +1,17 @@
+-- `bits::with_bit` meets its contract: 1 shifted by less than the width keeps its bit.
+-- Assumes nothing.
+use borrow.Author.Needs.{needs}
+use Rattle.bits.specs.Bit.{withBit}
+use Rattle.bits.proofs.Bits.{shl-one}
+use Rattle.bits.proofs.with_bit.Statement.{statement}
+use Rattle.bits.proofs.with_bit.Tie as tie
+
+shl-result : tie.Need-shl-result
+shl-result c = search needs
+
+returns : tie.Need-returns
+unfolding withBit
+returns c = rw (shl-one (c .args .k) 64 (c .pre))
+
+pub with-bit-spec : {M : Type 1} → statement M
+with-bit-spec = tie.close (tie.spec shl-result returns)

@@ -1,0 +1,28 @@
+// A word as a set of bits: test, set, lowest. The union of two words is `|` itself.
+ghost use mathlib.Core.Path.{_≡_};
+ghost use Prim.Native.Nat.{_<_};
+ghost use Rattle.bits.specs.Bit.{bitOf, withBit, Lowest};
+
+// Bit k of w.
+pub fn bit(w: u64, k: usize) -> bool
+    requires { ⌜ k < 64 ⌝ }
+    ensures { λ r. ⌜ r ≡ bitOf w k ⌝ }
+{
+    (w >> k) % 2 == 1
+}
+
+// w with bit k set too.
+pub fn with_bit(w: u64, k: usize) -> u64
+    requires { ⌜ k < 64 ⌝ }
+    ensures { λ r. ⌜ r ≡ withBit w k ⌝ }
+{
+    w | (1 << k)
+}
+
+// The number of the lowest bit that is set.
+pub fn lowest(w: u64) -> usize
+    requires { ⌜ (w ≡ 0 → ⊥) ⌝ }
+    ensures { λ r. ⌜ Lowest 64 w r ⌝ }
+{
+    u64::trailing_zeros(w) as usize
+}

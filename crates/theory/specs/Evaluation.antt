@@ -1,0 +1,50 @@
+-- The pairs of a path on a register, computed: a table of N rows of N. proofs/Evaluation.antt: they are those of `Holds`.
+-- 01-scope.md, "The meaning of a path".
+-- Assumes nothing.
+use mathlib.Core.Bool.{Bool, true, _&&_, _||_}
+use mathlib.Core.List.{List}
+use Prim.Native.Nat.{ℕ}
+use Rattle.theory.specs.Lists.{some?, range}
+use Rattle.theory.specs.KindSet.{has}
+use Rattle.theory.specs.TransitiveClosure.{Table, table, look, closure?}
+use Rattle.theory.specs.PathExpr.{Direction, forward, reverse, Via, any, through, Op, union, conjunction, branch-right, branch-left, PathExpr, step, join, op, closure}
+use Rattle.theory.specs.Register.{edge, same-edge?, Register, records, kind}
+use Rattle.theory.specs.Merging.{Member}
+
+abbrev pub linked? : Register → ℕ → ℕ → ℕ → Bool
+linked? r l s t = some? (same-edge? (edge s l t)) (r .links)
+
+abbrev pub step? : Register → Direction → ℕ → ℕ → ℕ → Bool
+step? r forward l s t = linked? r l s t
+step? r reverse l s t = linked? r l t s
+
+abbrev pub passes? : Register → Via → ℕ → Bool
+passes? r any z = true
+passes? r (through m) z = has m (kind r z)
+
+abbrev pub join? : Register → Via → Table → Table → ℕ → ℕ → Bool
+join? r v x y s t = some? (λ z. look x s z && (look y z t && passes? r v z)) (range (records r))
+
+abbrev pub op? : ℕ → Op → Table → Table → ℕ → ℕ → Bool
+op? n union x y s t = look x s t || look y s t
+op? n conjunction x y s t = look x s t && look y s t
+op? n branch-right x y s t = look x s t && some? (look y t) (range n)
+op? n branch-left x y s t = look y s t && some? (look x s) (range n)
+
+abbrev pub evaluate : Register → PathExpr → Table
+evaluate r (step d l) = table (records r) (step? r d l)
+evaluate r (join v p q) = let x = evaluate r p in let y = evaluate r q in table (records r) (join? r v x y)
+evaluate r (op o p q) = let x = evaluate r p in let y = evaluate r q in table (records r) (op? (records r) o x y)
+evaluate r (closure p) = let x = evaluate r p in closure? (records r) (look x)
+
+-- a plain answer's pair
+unfoldable pub plain-answer : Register → PathExpr → ℕ → ℕ → Bool
+plain-answer r q s t = look (evaluate r q) s t
+
+-- a member's pair: of its path, with ends whose kinds are in its from set and to set
+abbrev pub member-answer : Register → ℕ → ℕ → Member → Bool
+member-answer r s t m = look (evaluate r (m .path)) s t && (has (m .from) (kind r s) && has (m .to) (kind r t))
+
+-- a narrowed answer's pair: of some member
+unfoldable pub narrowed-answer : Register → List Member → ℕ → ℕ → Bool
+narrowed-answer r ms s t = some? (member-answer r s t) ms

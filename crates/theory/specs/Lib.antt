@@ -1,0 +1,20 @@
+-- general: lists, transitive closure, kind sets
+pub mod Lists
+pub mod TransitiveClosure
+pub mod KindSet
+-- paths and their meaning
+pub mod PathExpr
+pub mod Postfix
+pub mod Register
+-- sheets, the rules of inference, and the triples that are computed
+pub mod Sheet
+pub mod Derivation
+pub mod Inference
+-- narrowing and answers
+pub mod Merging
+pub mod Narrowing
+pub mod Evaluation
+pub mod Words
+-- what is promised, and the cases
+pub mod Demand3
+pub mod Cases

@@ -1,0 +1,58 @@
+-- The definitions of theory give what the reference program gives, on every case of the tables: antt computes them.
+-- Assumes nothing.
+use mathlib.Core.Path.{_≡_, refl}
+use mathlib.Core.Bool.{true}
+use native.Mathlib.Decide.{ℕ-discrete}
+use Rattle.bits.specs.Bit.{bitOf}
+use Rattle.theory.specs.Lists.{every?, adjoin}
+use Rattle.theory.specs.KindSet.{has, singleton, set-union}
+use Rattle.theory.specs.TransitiveClosure.{closure?}
+use Rattle.theory.specs.PathExpr as paths
+use Rattle.theory.specs.Register.{same-edge?, well-formed?}
+use Rattle.theory.specs.Sheet.{sheet?, permits?, breach}
+use Rattle.theory.specs.Inference.{triple?, reach, meets-cyclic?, of-closure}
+use Rattle.theory.specs.Merging.{same-shape?}
+use Rattle.theory.specs.Narrowing.{part-fault, narrow-symbols}
+use Rattle.theory.specs.Evaluation.{plain-answer, narrowed-answer}
+use Rattle.theory.specs.Words.{answer-words}
+use Rattle.agreement.specs.Format.{same?}
+use Rattle.agreement.specs.Table1 as t1
+use Rattle.agreement.specs.Table2 as t2
+use Rattle.agreement.specs.Table3 as t3
+use Rattle.agreement.specs.Table4 as t4
+use Rattle.agreement.specs.Table5 as t5
+use Rattle.agreement.specs.Table6 as t6
+use Rattle.agreement.specs.Table7 as t7
+use Rattle.agreement.specs.Table8 as t8
+
+pub agree-1 : every? same? t1.table ≡ true
+unfolding bitOf adjoin has singleton set-union closure? paths.same? same-edge? well-formed? sheet? permits? breach triple? reach meets-cyclic? of-closure same-shape? part-fault narrow-symbols plain-answer narrowed-answer answer-words same? t1.table ℕ-discrete
+agree-1 = refl
+
+pub agree-2 : every? same? t2.table ≡ true
+unfolding bitOf adjoin has singleton set-union closure? paths.same? same-edge? well-formed? sheet? permits? breach triple? reach meets-cyclic? of-closure same-shape? part-fault narrow-symbols plain-answer narrowed-answer answer-words same? t2.table ℕ-discrete
+agree-2 = refl
+
+pub agree-3 : every? same? t3.table ≡ true
+unfolding bitOf adjoin has singleton set-union closure? paths.same? same-edge? well-formed? sheet? permits? breach triple? reach meets-cyclic? of-closure same-shape? part-fault narrow-symbols plain-answer narrowed-answer answer-words same? t3.table ℕ-discrete
+agree-3 = refl
+
+pub agree-4 : every? same? t4.table ≡ true
+unfolding bitOf adjoin has singleton set-union closure? paths.same? same-edge? well-formed? sheet? permits? breach triple? reach meets-cyclic? of-closure same-shape? part-fault narrow-symbols plain-answer narrowed-answer answer-words same? t4.table ℕ-discrete
+agree-4 = refl
+
+pub agree-5 : every? same? t5.table ≡ true
+unfolding bitOf adjoin has singleton set-union closure? paths.same? same-edge? well-formed? sheet? permits? breach triple? reach meets-cyclic? of-closure same-shape? part-fault narrow-symbols plain-answer narrowed-answer answer-words same? t5.table ℕ-discrete
+agree-5 = refl
+
+pub agree-6 : every? same? t6.table ≡ true
+unfolding bitOf adjoin has singleton set-union closure? paths.same? same-edge? well-formed? sheet? permits? breach triple? reach meets-cyclic? of-closure same-shape? part-fault narrow-symbols plain-answer narrowed-answer answer-words same? t6.table ℕ-discrete
+agree-6 = refl
+
+pub agree-7 : every? same? t7.table ≡ true
+unfolding bitOf adjoin has singleton set-union closure? paths.same? same-edge? well-formed? sheet? permits? breach triple? reach meets-cyclic? of-closure same-shape? part-fault narrow-symbols plain-answer narrowed-answer answer-words same? t7.table ℕ-discrete
+agree-7 = refl
+
+pub agree-8 : every? same? t8.table ≡ true
+unfolding bitOf adjoin has singleton set-union closure? paths.same? same-edge? well-formed? sheet? permits? breach triple? reach meets-cyclic? of-closure same-shape? part-fault narrow-symbols plain-answer narrowed-answer answer-words same? t8.table ℕ-discrete
+agree-8 = refl

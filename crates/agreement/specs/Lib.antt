@@ -1,0 +1,9 @@
+pub mod Format
+pub mod Table1
+pub mod Table2
+pub mod Table3
+pub mod Table4
+pub mod Table5
+pub mod Table6
+pub mod Table7
+pub mod Table8

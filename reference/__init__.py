@@ -1,0 +1,1 @@
+"""Reference program for path questions over a bench register."""

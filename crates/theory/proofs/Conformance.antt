@@ -7,7 +7,7 @@ use mathlib.Core.Option.{Option, none, some}
 use Prim.Native.Nat.{ℕ, _≤_, _<_}
 use native.Mathlib.Nat.{zero-add}
 use native.Mathlib.Omega.{arith}
-use lib.Dec.{T, T-not, not-T, ltb, ltb→lt, lt→ltb, nltb→le}
+use lib.Dec.{T-not, not-T, ltb, ltb→lt, lt→ltb, nltb→le}
 use Rattle.theory.specs.Lists.{every?, first-failing, First}
 use Rattle.theory.specs.Register.{Edge, Register, records}
 use Rattle.theory.specs.Sheet.{Sheet, kind-known?, link-permitted?, conforms?, or-else, breach, Breached, conforming, unknown-kind, forbidden-link}
@@ -24,9 +24,6 @@ module _ (S : Sheet) (r : Register) where
     where
       over : k < S .kinds → ⊥
       over l = omega arith
-
-  abbrev forbidden : Edge → Type 0
-  forbidden e = ¬ T (link-permitted? S r e)
 
   of-breached : {o : Option ℕ} → Breached S r o → breach S r ≡ o
   unfolding breach conforms?

@@ -5,7 +5,6 @@ use mathlib.Core.Logic.{_⊎_, inl, inr, ⊎-elim}
 use mathlib.Core.Bool.{Bool}
 use mathlib.Core.List.{List, [], _∷_, _++_, List·Memᴰ as In, List·Memᴰ·head as here, List·Memᴰ·tail as there, List·Memᴰ·append-cases as in-append, List·Memᴰ·not-nil as in-nil, List·Memᴰ·eq-of-singleton as in-one, Memᴰ·append-left as in-left, Memᴰ·append-right as in-right}
 use Prim.Native.Nat.{suc, _≤_, zero-le}
-use native.Mathlib.Nat.{le-antisymm}
 use native.Mathlib.Omega.{arith}
 use lib.Dec.{T, T-not}
 use lib.ListN.{length}
@@ -83,6 +82,3 @@ module _ {A : Type 0} where
       let m = f x (here refl) in
       let l = length-le xs (without m) (n .1) (λ y i. in-without m (f y (there i)) (λ e. n .0 (subst (λ z. In z xs) e i))) in
       omega (arith, length-without m)
-
-  pub length-same : (xs ys : List A) → NoRepeat xs → NoRepeat ys → ((x : A) → In x xs → In x ys) → ((x : A) → In x ys → In x xs) → length xs ≡ length ys
-  length-same xs ys n k f g = le-antisymm (length-le xs ys n f) (length-le ys xs k g)

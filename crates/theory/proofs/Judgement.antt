@@ -32,11 +32,6 @@ module _ {S : Sheet} {p : PathExpr} where
   is-fine (many n m) e = absurd (omega arith)
   is-fine (long l) e = absurd (omega arith)
 
-  fine-is : {n : ℕ} → PartIs S p n → ¬ Faulty S p → n ≡ 0
-  fine-is (fine f) h = refl
-  fine-is (many n m) h = absurd (h (inr m))
-  fine-is (long l) h = absurd (h (inl l))
-
   long-is : {n : ℕ} → PartIs S p n → TooLong S p → n ≡ 13
   long-is (fine f) l = absurd (f (inl l))
   long-is (many n m) l = absurd (n l)

@@ -123,10 +123,6 @@ module _ (n : ℕ) (f : ℕ → ℕ → Bool) where
   unfolding closure?
   closure-sound {a} {b} w = sound n a b w
 
-  pub closure-bounds : {a b : ℕ} → T (look (closure? n f) a b) → (a < n) × (b < n)
-  unfolding closure?
-  closure-bounds {a} {b} w = bounds n a b w
-
   module _ (inside : (a b : ℕ) → T (f a b) → (a < n) × (b < n)) where
     edge : (a b : ℕ) → T (f a b) → W n a b
     edge a b t = lift n a b (look-make n f (inside a b t .0) (inside a b t .1) t)

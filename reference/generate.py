@@ -427,8 +427,18 @@ FILE_MAKERS = {"sheet": sheet_file, "question": question_file,
                "register": register_file, "narrowed": narrowed_file}
 
 
+def spoiled_narrowed_file(rng: Random) -> bytes:
+    """Members in a wrong order or with wrong symbols, in fields that are whole."""
+    while True:
+        members = random_members(rng)
+        if members:
+            return narrowed_bytes(spoiled_members(rng, members))
+
+
 def random_file(rng: Random, file: str) -> bytes:
     """A file of the given name: whole one time in three, else damaged."""
+    if file == "narrowed" and rng.random() < 0.2:
+        return spoiled_narrowed_file(rng)
     data = FILE_MAKERS[file](rng)
     return data if rng.random() < 1 / 3 else damaged(rng, data)
 

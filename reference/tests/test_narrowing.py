@@ -242,6 +242,10 @@ class Limits(unittest.TestCase):
             job = generate.size_edge(5, code)
             self.assertEqual(refusal_of(narrow, *job), (13, len(job.question) - 1))
 
+    def test_a_kept_chain_has_a_size_too(self):
+        # Longer than a question that is read, so that the kept path is too long.
+        self.refused(sheet(1, [(0, 0)]), [A] + [CHAINED] * 50, 13, 48)
+
     def test_size_edges_of_a_chain(self):
         # Paths of 3, then 4 symbols: 12 * 3 + 11 is 47 and 10 * 4 + 9 is 49.
         line = [(n, n + 1) for n in range(24)]

@@ -1,0 +1,36 @@
+-- Tests that came out one way, taken apart; and answers that were got.
+-- Assumes nothing.
+use mathlib.Core.Path.{_≡_, refl}
+use mathlib.Core.Bool.{Bool, true, false, cond, _&&_, _||_, false≢true}
+use Prim.Native.Nat.{ℕ}
+use native.Mathlib.Omega.{arith}
+use Rattle.fields.specs.Answer.{Answer, got, refused, onward}
+
+-- a choice that is z, where one side is not z
+pub cond-else : {A : Type 0} (b : Bool) {x y z : A} → (x ≡ z → ⊥) → cond b x y ≡ z → (b ≡ false) × (y ≡ z)
+cond-else true n e = absurd (n e)
+cond-else false n e = (refl, e)
+
+pub cond-then : {A : Type 0} (b : Bool) {x y z : A} → (y ≡ z → ⊥) → cond b x y ≡ z → (b ≡ true) × (x ≡ z)
+cond-then true n e = (refl, e)
+cond-then false n e = absurd (n e)
+
+pub and-left : (a b : Bool) → (a && b) ≡ true → a ≡ true
+and-left true b e = refl
+and-left false b e = e
+
+pub and-right : (a b : Bool) → (a && b) ≡ true → b ≡ true
+and-right true b e = e
+and-right false b e = absurd (false≢true e)
+
+pub or-none : (a : Bool) → (a || false) ≡ true → a ≡ true
+or-none true e = refl
+or-none false e = e
+
+pub not-got : {A : Type 0} (n p : ℕ) (x : A) → refused n p ≡ got x → ⊥
+not-got n p x e = let z : _≡_ {A = ℕ} 0 1 = cc in omega arith
+
+-- a chain of two that came to a value
+pub onward-got : {A B : Type 0} (f : A → Answer B) (a : Answer A) (y : B) → onward f a ≡ got y → (x : A) × (a ≡ got x) × (f x ≡ got y)
+onward-got f (got x) y e = (x, refl, e)
+onward-got f (refused n p) y e = absurd (not-got n p y e)

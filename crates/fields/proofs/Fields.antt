@@ -1,0 +1,141 @@
+-- What is known where a field was found, and where the file's end was.
+-- Assumes nothing.
+use Prim.Native.Nat.{ℕ, _+_, _<_, _≤_}
+use mathlib.Core.Path.{_≡_, refl, ap, _∙_, sym}
+use mathlib.Core.Bool.{Bool, true, false, cond, _&&_}
+use mathlib.Core.List.{List}
+use lib.ListN.{length, getD, take, drop, length-take, length-drop}
+use lib.Seq.{getD-take, getD-drop}
+use lib.Dec.{leb, ltb, eqb}
+use native.Mathlib.Omega.{arith}
+use borrow.Author.Tests.{leb-true, ltb-false, eqb-true, eqb-false}
+use Rattle.fields.specs.declared.File.{File}
+use Rattle.fields.specs.declared.Due.{Due}
+use Rattle.fields.specs.declared.Stack.{Stack}
+use Rattle.fields.specs.Table.{among, rows}
+use Rattle.fields.specs.Reading.{ends, wrong, body, field-at, fitting, word}
+use Rattle.fields.specs.Symbols.{due-symbols, symbol-length}
+use Rattle.fields.proofs.Bools.{cond-else, cond-then, and-left, and-right, or-none}
+
+pub record Found (d : Due) (s : List ℕ) (at t n : ℕ) : Type 0 where
+  pub more : d .over ≡ false
+  pub fit : fitting d t n ≡ true
+  pub room : at + 3 + n ≤ length s
+  pub tag : getD s at 0 ≡ t
+  pub len : word s (at + 1) ≡ n
+
+not-early : (b : Bool) (at t n : ℕ) → cond b ends (wrong 5 at) ≡ body t n → ⊥
+not-early true at t n e = let z : _≡_ {A = ℕ} 0 1 = cc in omega arith
+not-early false at t n e = let z : _≡_ {A = ℕ} 0 1 = cc in omega arith
+
+not-wrong : (k p t n : ℕ) → wrong k p ≡ body t n → ⊥
+not-wrong k p t n e = let z : _≡_ {A = ℕ} 0 1 = cc in omega arith
+
+pub found : (d : Due) (s : List ℕ) (at t n : ℕ) → field-at d s at ≡ body t n → Found d s at t n
+unfolding field-at
+found d s at t n e =
+    let a = cond-else (leb (length s) at) (not-early (d .ends) at t n) e in
+    let b = cond-else (d .over) (not-wrong 5 at t n) (a .1) in
+    let c = cond-else (ltb (length s) (at + 3)) (not-wrong 1 at t n) (b .1) in
+    let f = cond-then (fitting d (getD s at 0) (word s (at + 1))) (not-wrong 2 at t n) (c .1) in
+    let g = cond-else (ltb (length s) (at + 3 + word s (at + 1))) (not-wrong 1 at t n) (f .1) in
+    let ht : getD s at 0 ≡ t = cc (g .1) in
+    let hn : word s (at + 1) ≡ n = cc (g .1) in
+    record { more = b .0; fit = rw (← ht, ← hn) (f .0); room = rw (← hn) (ltb-false _ _ (g .0)); tag = ht; len = hn }
+
+-- A tag's length is the table's.
+len-43 : (f : File) (n : ℕ) → among rows f 0x43 n ≡ true → n ≡ 2
+unfolding among rows
+len-43 f n e = sym (eqb-true 2 n (and-left _ _ (or-none _ e)))
+
+len-44 : (f : File) (n : ℕ) → among rows f 0x44 n ≡ true → n ≡ 1
+unfolding among rows
+len-44 f n e = sym (eqb-true 1 n (and-left _ _ (or-none _ e)))
+
+len-45 : (f : File) (n : ℕ) → among rows f 0x45 n ≡ true → n ≡ 8
+unfolding among rows
+len-45 f n e = sym (eqb-true 8 n (and-left _ _ (or-none _ e)))
+
+-- within a path, a field that fits has a symbol's tag
+pub symbol-range : (f : File) (q : Stack) (t n : ℕ) → fitting (due-symbols f q) t n ≡ true → (0x43 ≤ t) × (t ≤ 0x45)
+unfolding fitting
+symbol-range f q t n e =
+    let h = and-left _ (among rows f t n) e in
+    (leb-true 0x43 t (and-left _ (leb t 0x45) h), leb-true t 0x45 (and-right (leb 0x43 t) _ h))
+
+-- and its length
+pub symbol-len : (f : File) (q : Stack) (t n : ℕ) → fitting (due-symbols f q) t n ≡ true → n ≡ symbol-length t
+unfolding fitting
+symbol-len f q t n e = by-tag (eqb t 0x43) (eqb t 0x44) refl refl
+  where
+    own : among rows f t n ≡ true
+    own = and-right (leb 0x43 t && leb t 0x45) _ e
+
+    by-tag : (a b : Bool) → eqb t 0x43 ≡ a → eqb t 0x44 ≡ b → n ≡ cond a 2 (cond b 1 8)
+    by-tag true b p r = len-43 f n (rw (eqb-true t 0x43 p) at own)
+    by-tag false true p r = len-44 f n (rw (eqb-true t 0x44 r) at own)
+    by-tag false false p r =
+        let x : t ≡ 0x43 → ⊥ = eqb-false t 0x43 p in
+        let y : t ≡ 0x44 → ⊥ = eqb-false t 0x44 r in
+        let g = symbol-range f q t n e in
+        let z : t ≡ 0x45 = omega (arith, g .0, g .1) in
+        len-45 f n (rw z at own)
+
+pub body-length : {d : Due} {s : List ℕ} {at t n : ℕ} → Found d s at t n → length (take n (drop (at + 3) s)) ≡ n
+body-length r = let h = r .room in simp (length-take, length-drop) (omega arith)
+
+-- what is known where a symbol's field was found
+pub record InPath (q : Stack) (s : List ℕ) (at t n : ℕ) : Type 0 where
+  pub room : at + 3 + n ≤ length s
+  pub long : length (take n (drop (at + 3) s)) ≡ symbol-length t
+  pub low : 0x43 ≤ t
+  pub high : t ≤ 0x45
+  pub some : 0 < q .left
+
+pub in-path : (f : File) (q : Stack) (s : List ℕ) (at t n : ℕ) → field-at (due-symbols f q) s at ≡ body t n → InPath q s at t n
+in-path f q s at t n e =
+    let r = found (due-symbols f q) s at t n e in
+    let h : q .left ≡ 0 → ⊥ = eqb-false (q .left) 0 (r .more) in
+    let g = symbol-range f q t n (r .fit) in
+    record { room = r .room; long = body-length r ∙ symbol-len f q t n (r .fit); low = g .0; high = g .1; some = omega arith }
+
+-- where one tag alone is due, the field has it
+pub one-due : (d : Due) (t n : ℕ) → d .lo ≡ d .hi → fitting d t n ≡ true → (t ≡ d .lo) × (among rows (d .file) (d .lo) n ≡ true)
+unfolding fitting
+one-due d t n e h =
+    let low = leb-true (d .lo) t (and-left _ _ (and-left _ (among rows (d .file) t n) h)) in
+    let high = leb-true t (d .hi) (and-right (leb (d .lo) t) _ (and-left _ (among rows (d .file) t n) h)) in
+    let z : t ≡ d .lo = omega arith in
+    (z, rw z at (and-right (leb (d .lo) t && leb t (d .hi)) _ h))
+
+wrong-not-ends : (k p : ℕ) → wrong k p ≡ ends → ⊥
+wrong-not-ends k p e = let z : _≡_ {A = ℕ} 0 1 = cc in omega arith
+
+-- the file's end is found only at the end, and where it may be
+pub record Ended (d : Due) (s : List ℕ) (at : ℕ) : Type 0 where
+  pub may : d .ends ≡ true
+  pub past : length s ≤ at
+
+pub ended : (d : Due) (s : List ℕ) (at : ℕ) → field-at d s at ≡ ends → Ended d s at
+unfolding field-at
+ended d s at e = at-end (leb (length s) at) refl e
+  where
+    late : cond (d .over) (wrong 5 at) (cond (ltb (length s) (at + 3)) (wrong 1 at) (cond (fitting d (getD s at 0) (word s (at + 1)))
+        (cond (ltb (length s) (at + 3 + word s (at + 1))) (wrong 1 at) (body (getD s at 0) (word s (at + 1)))) (wrong 2 at))) ≡ ends → ⊥
+    late e =
+        let a = cond-else (d .over) (wrong-not-ends 5 at) e in
+        let b = cond-else (ltb (length s) (at + 3)) (wrong-not-ends 1 at) (a .1) in
+        let f = cond-then (fitting d (getD s at 0) (word s (at + 1))) (wrong-not-ends 2 at) (b .1) in
+        let g = cond-else (ltb (length s) (at + 3 + word s (at + 1))) (wrong-not-ends 1 at) (f .1) in
+        let h = g .1 in
+        let z : _≡_ {A = ℕ} 0 1 = cc in omega arith
+
+    at-end : (b : Bool) → leb (length s) at ≡ b → cond b (cond (d .ends) ends (wrong 5 at)) (cond (d .over) (wrong 5 at) (cond (ltb (length s) (at + 3)) (wrong 1 at)
+        (cond (fitting d (getD s at 0) (word s (at + 1))) (cond (ltb (length s) (at + 3 + word s (at + 1))) (wrong 1 at) (body (getD s at 0) (word s (at + 1)))) (wrong 2 at)))) ≡ ends
+        → Ended d s at
+    at-end true q e = record { may = cond-then (d .ends) (wrong-not-ends 5 at) e .0; past = leb-true (length s) at q }
+    at-end false q e = absurd (late e)
+
+-- a byte of a body is a byte of the file
+pub body-get : (s : List ℕ) (a n i j : ℕ) → i < n → a + i ≡ j → getD (take n (drop a s)) i 0 ≡ getD s j 0
+body-get s a n i j h e = getD-take n (drop a s) i 0 h ∙ getD-drop a s i 0 ∙ ap (λ (k : ℕ). getD s k 0) e

@@ -1,0 +1,10 @@
+-- tests, the table, the field at a place
+pub mod Bools
+pub mod Rows
+pub mod Raws
+pub mod Fields
+-- reading: the loop, and induction over an accepted file
+pub mod Going
+pub mod Accepted
+-- symbols
+pub mod Symbols

@@ -1,0 +1,37 @@
+use borrow.Author.Needs.{needs}
+use borrow.Author.Tests.{le-leb, lt-leb}
+use Rattle.fields.specs.Symbols.{operator-of}
+use Rattle.fields.proofs.operator_in.Statement.{statement}
+use Rattle.fields.proofs.operator_in.Tie as tie
+
+shared-slice-read-if1 : tie.Need-shared-slice-read-if1
+shared-slice-read-if1 c = search needs
+
+shared-slice-read-if2 : tie.Need-shared-slice-read-if2
+shared-slice-read-if2 c = search needs
+
+shared-slice-read-t10 : tie.Need-shared-slice-read-t10
+shared-slice-read-t10 c = search needs
+
+returns : tie.Need-returns
+unfolding operator-of
+returns c = simp (le-leb _ _ (c .before .if2 .taken), le-leb _ _ (c .before .before .before .if1 .taken))
+
+returns-2 : tie.Need-returns-2
+unfolding operator-of
+returns-2 c = simp (lt-leb _ _ (c .if2 .left), le-leb _ _ (c .before .before .if1 .taken))
+
+returns-3 : tie.Need-returns-3
+unfolding operator-of
+returns-3 c = simp (lt-leb _ _ (c .if1 .left))
+
+pub operator-in-spec : {M : Type 1} → statement M
+operator-in-spec =
+    tie.close
+    (tie.spec
+    shared-slice-read-if1
+    shared-slice-read-if2
+    shared-slice-read-t10
+    returns
+    returns-2
+    returns-3)

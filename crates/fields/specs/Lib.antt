@@ -1,0 +1,6 @@
+pub mod Answer
+pub mod Table
+pub mod Reading
+pub mod Raw
+pub mod Symbols
+pub mod Said

@@ -1,0 +1,59 @@
+-- What the code's enums say, in the paper's numbers: "Where an answer is an enum, a definition gives this paper's number and values for each case."
+-- Assumes nothing.
+use Prim.Native.Nat.{ℕ}
+use Rattle.fields.specs.declared.Refusal.{Refusal}
+use Rattle.fields.specs.declared.Refusal.the-variants.{Truncated, Unexpected, OutOfRange, NotAscending, WrongEnd, Operands, UnnamedLink, TooMany, TooLong, AreaShort, WorkShort, Breach}
+use Rattle.fields.specs.declared.Seen as declared·Seen
+use Rattle.fields.specs.declared.Seen.the-variants as seen
+use Rattle.fields.specs.declared.Read as declared·Read
+use Rattle.fields.specs.declared.Read.the-variants as read
+use Rattle.fields.specs.declared.Pushed as declared·Pushed
+use Rattle.fields.specs.declared.Pushed.the-variants as pushed
+use Rattle.fields.specs.declared.Stack.{Stack}
+use Rattle.fields.specs.Answer.{Answer, got, refused}
+use Rattle.fields.specs.Reading.{Field, ends, wrong, body}
+use Rattle.fields.specs.Symbols.{Numbered, numbered}
+
+abbrev pub number-of : Refusal → ℕ
+number-of (Truncated p) = 1
+number-of (Unexpected p) = 2
+number-of (OutOfRange p) = 3
+number-of (NotAscending p) = 4
+number-of (WrongEnd p) = 5
+number-of (Operands p) = 6
+number-of (UnnamedLink p) = 11
+number-of (TooMany p) = 12
+number-of (TooLong p) = 13
+number-of (AreaShort p) = 14
+number-of (WorkShort p) = 15
+number-of (Breach p) = 16
+
+abbrev pub place-of : Refusal → ℕ
+place-of (Truncated p) = p
+place-of (Unexpected p) = p
+place-of (OutOfRange p) = p
+place-of (NotAscending p) = p
+place-of (WrongEnd p) = p
+place-of (Operands p) = p
+place-of (UnnamedLink p) = p
+place-of (TooMany p) = p
+place-of (TooLong p) = p
+place-of (AreaShort p) = p
+place-of (WorkShort p) = p
+place-of (Breach p) = p
+
+abbrev pub refusal-said : {A : Type 0} → Refusal → Answer A
+refusal-said r = refused (number-of r) (place-of r)
+
+abbrev pub field-said : declared·Seen.Seen → Field
+field-said seen.Ends = ends
+field-said (seen.Wrong r) = wrong (number-of r) (place-of r)
+field-said (seen.Body t n) = body t n
+
+abbrev pub symbol-said : declared·Read.Read → Answer Numbered
+symbol-said (read.Refused r) = refusal-said r
+symbol-said (read.Is x) = got (numbered (x .number) (x .set))
+
+abbrev pub push-said : declared·Pushed.Pushed → Answer Stack
+push-said (pushed.Lacking r) = refusal-said r
+push-said (pushed.Stands q) = got q

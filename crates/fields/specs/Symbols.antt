@@ -1,0 +1,69 @@
+-- The symbols of a path: what a symbol's field holds, and the counting of operands.
+-- 01-scope.md, "Fields of a file": 43, 44, 45; refusals 3 and 6.
+-- Assumes nothing.
+use mathlib.Core.Bool.{cond, not, _&&_}
+use mathlib.Core.List.{List}
+use Prim.Native.Nat.{ℕ, _+_, _-_, _*_, zero, suc}
+use lib.Dec.{leb, ltb, eqb}
+use lib.ListN.{getD}
+use Rattle.theory.specs.PathExpr.{forward, reverse, any, through, union, conjunction, branch-right, branch-left, Symbol, s-step, s-join, s-op, s-closure}
+use Rattle.fields.specs.declared.File.{File}
+use Rattle.fields.specs.declared.Due.{Due}
+use Rattle.fields.specs.declared.Stack.{Stack}
+use Rattle.fields.specs.Answer.{Answer, got, refused}
+use Rattle.fields.specs.Reading.{eight}
+
+-- ---- a symbol as a number: its code, and 255 for a join through the set beside it
+abbrev operator-numbered : ℕ → Symbol
+operator-numbered zero = s-join any
+operator-numbered (suc zero) = s-op union
+operator-numbered (suc (suc zero)) = s-op conjunction
+operator-numbered (suc (suc (suc zero))) = s-op branch-right
+operator-numbered (suc (suc (suc (suc zero)))) = s-op branch-left
+operator-numbered (suc (suc (suc (suc (suc n))))) = s-closure
+
+unfoldable pub symbol-numbered : ℕ → ℕ → Symbol
+symbol-numbered c m =
+    cond (ltb c 64) (s-step forward c)
+    (cond (ltb c 128) (s-step reverse (c - 64))
+    (cond (eqb c 255) (s-join (through m)) (operator-numbered (c - 128))))
+
+-- ---- how many paths a symbol takes
+unfoldable pub arity : ℕ → ℕ
+arity c = cond (ltb c 128) 0 (cond (eqb c 133) 1 2)
+
+-- the length of a symbol's body
+abbrev pub symbol-length : ℕ → ℕ
+symbol-length t = cond (eqb t 0x43) 2 (cond (eqb t 0x44) 1 8)
+
+-- number and set
+pub record Numbered : Type 0 where
+  pub number : ℕ
+  pub set : ℕ
+
+abbrev pub numbered : ℕ → ℕ → Numbered
+numbered c m = record { number = c; set = m }
+
+-- 43: direction and link; refusal 3
+unfoldable pub step-of : ℕ → List ℕ → Answer Numbered
+step-of at b = cond (ltb (getD b 0 0) 2 && ltb (getD b 1 0) 64) (got (numbered (getD b 0 0 * 64 + getD b 1 0) 0)) (refused 3 at)
+
+-- 44: an operator; refusal 3
+unfoldable pub operator-of : ℕ → List ℕ → Answer Numbered
+operator-of at b = cond (leb 128 (getD b 0 0) && leb (getD b 0 0) 133) (got (numbered (getD b 0 0) 0)) (refused 3 at)
+
+-- the symbol of a field at a place, by its tag: 43, 44 or 45
+unfoldable pub symbol-in : ℕ → ℕ → List ℕ → Answer Numbered
+symbol-in at t b = cond (eqb t 0x43) (step-of at b) (cond (eqb t 0x44) (operator-of at b) (got (numbered 255 (eight b 0))))
+
+-- ---- operands: `left` symbols are still due, `depth` paths stand on the stack
+-- one symbol more, that takes k paths; its field is at a place, with the place after it: refusal 6
+unfoldable pub push : Stack → ℕ → ℕ → ℕ → Answer Stack
+push q at next k =
+    cond (ltb (q .depth) k) (refused 6 at)
+    (cond (eqb (q .left) 1 && not (eqb (q .depth - k + 1) 1)) (refused 6 next)
+    (got (record { left = q .left - 1; depth = q .depth - k + 1 })))
+
+-- what is due within a path: its symbols, and nothing after them
+abbrev pub due-symbols : File → Stack → Due
+due-symbols f q = record { file = f; lo = 0x43; hi = 0x45; ends = eqb (q .left) 0; over = eqb (q .left) 0 }

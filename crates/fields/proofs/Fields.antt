@@ -1,7 +1,7 @@
 -- What is known where a field was found, and where the file's end was.
 -- Assumes nothing.
 use Prim.Native.Nat.{ℕ, _+_, _<_, _≤_}
-use mathlib.Core.Path.{_≡_, refl, ap, _∙_, sym}
+use mathlib.Core.Path.{_≡_, refl, ap, _∙_}
 use mathlib.Core.Bool.{Bool, true, false, cond, _&&_}
 use mathlib.Core.List.{List}
 use lib.ListN.{length, getD, take, drop, length-take, length-drop}
@@ -12,10 +12,11 @@ use borrow.Author.Tests.{leb-true, ltb-false, eqb-true, eqb-false}
 use Rattle.fields.specs.declared.File.{File}
 use Rattle.fields.specs.declared.Due.{Due}
 use Rattle.fields.specs.declared.Stack.{Stack}
-use Rattle.fields.specs.Table.{among, rows}
+use Rattle.fields.specs.Table.{among, rows, tag-length}
 use Rattle.fields.specs.Reading.{ends, wrong, body, field-at, fitting, word}
 use Rattle.fields.specs.Symbols.{due-symbols, symbol-length}
-use Rattle.fields.proofs.Bools.{cond-else, cond-then, and-left, and-right, or-none}
+use Rattle.fields.proofs.Rows.{own-length}
+use Rattle.fields.proofs.Bools.{cond-else, cond-then, and-left, and-right}
 
 pub record Found (d : Due) (s : List ℕ) (at t n : ℕ) : Type 0 where
   pub more : d .over ≡ false
@@ -43,19 +44,6 @@ found d s at t n e =
     let hn : word s (at + 1) ≡ n = cc (g .1) in
     record { more = b .0; fit = rw (← ht, ← hn) (f .0); room = rw (← hn) (ltb-false _ _ (g .0)); tag = ht; len = hn }
 
--- A tag's length is the table's.
-len-43 : (f : File) (n : ℕ) → among rows f 0x43 n ≡ true → n ≡ 2
-unfolding among rows
-len-43 f n e = sym (eqb-true 2 n (and-left _ _ (or-none _ e)))
-
-len-44 : (f : File) (n : ℕ) → among rows f 0x44 n ≡ true → n ≡ 1
-unfolding among rows
-len-44 f n e = sym (eqb-true 1 n (and-left _ _ (or-none _ e)))
-
-len-45 : (f : File) (n : ℕ) → among rows f 0x45 n ≡ true → n ≡ 8
-unfolding among rows
-len-45 f n e = sym (eqb-true 8 n (and-left _ _ (or-none _ e)))
-
 -- within a path, a field that fits has a symbol's tag
 pub symbol-range : (f : File) (q : Stack) (t n : ℕ) → fitting (due-symbols f q) t n ≡ true → (0x43 ≤ t) × (t ≤ 0x45)
 unfolding fitting
@@ -65,21 +53,21 @@ symbol-range f q t n e =
 
 -- and its length
 pub symbol-len : (f : File) (q : Stack) (t n : ℕ) → fitting (due-symbols f q) t n ≡ true → n ≡ symbol-length t
-unfolding fitting
+unfolding fitting tag-length rows
 symbol-len f q t n e = by-tag (eqb t 0x43) (eqb t 0x44) refl refl
   where
-    own : among rows f t n ≡ true
-    own = and-right (leb 0x43 t && leb t 0x45) _ e
+    own : n ≡ tag-length t
+    own = own-length f t n (and-right (leb 0x43 t && leb t 0x45) _ e)
 
     by-tag : (a b : Bool) → eqb t 0x43 ≡ a → eqb t 0x44 ≡ b → n ≡ cond a 2 (cond b 1 8)
-    by-tag true b p r = len-43 f n (rw (eqb-true t 0x43 p) at own)
-    by-tag false true p r = len-44 f n (rw (eqb-true t 0x44 r) at own)
+    by-tag true b p r = own ∙ ap tag-length (eqb-true t 0x43 p)
+    by-tag false true p r = own ∙ ap tag-length (eqb-true t 0x44 r)
     by-tag false false p r =
         let x : t ≡ 0x43 → ⊥ = eqb-false t 0x43 p in
         let y : t ≡ 0x44 → ⊥ = eqb-false t 0x44 r in
         let g = symbol-range f q t n e in
         let z : t ≡ 0x45 = omega (arith, g .0, g .1) in
-        len-45 f n (rw z at own)
+        own ∙ ap tag-length z
 
 pub body-length : {d : Due} {s : List ℕ} {at t n : ℕ} → Found d s at t n → length (take n (drop (at + 3) s)) ≡ n
 body-length r = let h = r .room in simp (length-take, length-drop) (omega arith)
@@ -99,14 +87,14 @@ in-path f q s at t n e =
     let g = symbol-range f q t n (r .fit) in
     record { room = r .room; long = body-length r ∙ symbol-len f q t n (r .fit); low = g .0; high = g .1; some = omega arith }
 
--- where one tag alone is due, the field has it
-pub one-due : (d : Due) (t n : ℕ) → d .lo ≡ d .hi → fitting d t n ≡ true → (t ≡ d .lo) × (among rows (d .file) (d .lo) n ≡ true)
+-- where one tag alone is due, the field has it, and its length
+pub one-due : (d : Due) (t n : ℕ) → d .lo ≡ d .hi → fitting d t n ≡ true → (t ≡ d .lo) × (n ≡ tag-length (d .lo))
 unfolding fitting
 one-due d t n e h =
     let low = leb-true (d .lo) t (and-left _ _ (and-left _ (among rows (d .file) t n) h)) in
     let high = leb-true t (d .hi) (and-right (leb (d .lo) t) _ (and-left _ (among rows (d .file) t n) h)) in
     let z : t ≡ d .lo = omega arith in
-    (z, rw z at (and-right (leb (d .lo) t && leb t (d .hi)) _ h))
+    (z, own-length (d .file) t n (and-right (leb (d .lo) t && leb t (d .hi)) _ h) ∙ ap tag-length z)
 
 wrong-not-ends : (k p : ℕ) → wrong k p ≡ ends → ⊥
 wrong-not-ends k p e = let z : _≡_ {A = ℕ} 0 1 = cc in omega arith

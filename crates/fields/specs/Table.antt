@@ -1,6 +1,6 @@
 -- The table of tags. 01-scope.md, "Fields of a file": "Each tag has one fixed length."
 -- Assumes nothing.
-use mathlib.Core.Bool.{Bool, true, false, _&&_, _||_}
+use mathlib.Core.Bool.{Bool, true, false, cond, _&&_, _||_}
 use mathlib.Core.List.{List, [], _∷_}
 use Prim.Native.Nat.{ℕ}
 use lib.Dec.{eqb}
@@ -41,3 +41,11 @@ matching r f t n = eqb (r .0) t && eqb (r .1) n && allowed r f
 unfoldable pub among : List Row → File → ℕ → ℕ → Bool
 among [] f t n = false
 among (r ∷ rs) f t n = matching r f t n || among rs f t n
+
+-- the length of a tag: that of its row
+abbrev pub length-in : List Row → ℕ → ℕ
+length-in [] t = 0
+length-in (r ∷ rs) t = cond (eqb (r .0) t) (r .1) (length-in rs t)
+
+unfoldable pub tag-length : ℕ → ℕ
+tag-length t = length-in rows t

@@ -1,81 +1,61 @@
+-- `fields::eight_at` meets its contract.
+-- Assumes nothing.
 use Rattle.fields.specs.Reading.{eight}
 use borrow.Author.Needs.{needs}
 use Rattle.fields.proofs.eight_at.Statement.{statement}
 use Rattle.fields.proofs.eight_at.Tie as tie
-use Rattle.fields.proofs.eight_at.Reads as reads
-use Rattle.fields.proofs.eight_at.Lts as lts
-use Rattle.fields.proofs.long.Reads as long-reads
-use Rattle.fields.proofs.two.Reads as two-reads
 
--- src/lib.rt:149:12
 two-requires : tie.Need-two-requires
 two-requires c κs = search needs
 
--- src/lib.rt:149:7
 long-requires : tie.Need-long-requires
 long-requires c κs = search needs
 
--- src/lib.rt:149:7
 mul-result : tie.Need-mul-result
 mul-result c = search needs
 
--- src/lib.rt:149:46
 add-two : tie.Need-add-two
 add-two c = search needs
 
--- src/lib.rt:149:39
 two-requires-2 : tie.Need-two-requires-2
 two-requires-2 c κs = search needs
 
--- src/lib.rt:149:34
 long-requires-2 : tie.Need-long-requires-2
 long-requires-2 c κs = search needs
 
--- src/lib.rt:149:7
 add-result : tie.Need-add-result
 add-result c = search needs
 
--- src/lib.rt:149:6
 mul-result-2 : tie.Need-mul-result-2
 mul-result-2 c = search needs
 
--- src/lib.rt:149:78
 add-two-2 : tie.Need-add-two-2
 add-two-2 c = search needs
 
--- src/lib.rt:149:71
 two-requires-3 : tie.Need-two-requires-3
 two-requires-3 c κs = search needs
 
--- src/lib.rt:149:66
 long-requires-3 : tie.Need-long-requires-3
 long-requires-3 c κs = search needs
 
--- src/lib.rt:149:6
 add-result-2 : tie.Need-add-result-2
 add-result-2 c = search needs
 
--- src/lib.rt:149:5
 mul-result-3 : tie.Need-mul-result-3
 mul-result-3 c = search needs
 
--- src/lib.rt:150:23
 add-two-3 : tie.Need-add-two-3
 add-two-3 c = search needs
 
--- src/lib.rt:150:16
 two-requires-4 : tie.Need-two-requires-4
 two-requires-4 c κs = search needs
 
--- src/lib.rt:150:11
 long-requires-4 : tie.Need-long-requires-4
 long-requires-4 c κs = search needs
 
--- src/lib.rt:149:5
 add-result-3 : tie.Need-add-result-3
 add-result-3 c = search needs
 
--- src/lib.rt:145:1
 returns : tie.Need-returns
 unfolding eight
 returns c = search needs

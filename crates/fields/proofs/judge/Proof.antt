@@ -1,3 +1,5 @@
+-- `fields::judge` meets its contract.
+-- Assumes nothing.
 use borrow.Author.Needs.{needs}
 use Rattle.fields.proofs.judge.Statement.{statement}
 use Rattle.fields.proofs.judge.Tie as tie

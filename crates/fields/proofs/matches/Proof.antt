@@ -1,3 +1,5 @@
+-- `fields::matches` meets its contract.
+-- Assumes nothing.
 use borrow.Author.Needs.{needs}
 use borrow.Author.Tests.{eq-eqb, ne-eqb}
 use Rattle.fields.proofs.matches.Statement.{statement}

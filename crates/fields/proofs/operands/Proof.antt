@@ -1,21 +1,18 @@
+-- `fields::operands` meets its contract.
+-- Assumes nothing.
 use Rattle.fields.specs.Symbols.{arity}
 use borrow.Author.Tests.{lt-ltb, le-ltb, eq-eqb, ne-eqb}
 use Rattle.fields.proofs.operands.Statement.{statement}
 use Rattle.fields.proofs.operands.Tie as tie
-use Rattle.fields.proofs.operands.Reads as reads
-use Rattle.fields.proofs.operands.Lts as lts
 
--- src/lib.rt:309:9
 returns : tie.Need-returns
 unfolding arity
 returns c = simp (lt-ltb _ _ (c .if1 .taken))
 
--- src/lib.rt:312:9
 returns-2 : tie.Need-returns-2
 unfolding arity
 returns-2 c = simp (eq-eqb _ _ (c .if2 .taken), le-ltb _ _ (c .before .if1 .left))
 
--- src/lib.rt:305:1
 returns-3 : tie.Need-returns-3
 unfolding arity
 returns-3 c = simp (ne-eqb _ _ (c .if2 .left), le-ltb _ _ (c .before .if1 .left))

@@ -1,3 +1,5 @@
+-- `fields::operator_in` meets its contract.
+-- Assumes nothing.
 use borrow.Author.Needs.{needs}
 use borrow.Author.Tests.{le-leb, lt-leb}
 use Rattle.fields.specs.Symbols.{operator-of}

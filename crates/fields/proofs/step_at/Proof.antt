@@ -1,3 +1,5 @@
+-- `fields::step_at` meets its contract.
+-- Assumes nothing.
 use borrow.Author.Needs.{needs}
 use borrow.Author.Tests.{lt-ltb, lt-leb, le-ltb, le-leb}
 use Rattle.fields.specs.Raw.{raw-at}

@@ -1,46 +1,37 @@
+-- `fields::step_in` meets its contract.
+-- Assumes nothing.
 use Rattle.fields.specs.Symbols.{step-of}
 use borrow.Author.Tests.{lt-ltb, le-ltb}
 use borrow.Author.Needs.{needs}
 use Rattle.fields.proofs.step_in.Statement.{statement}
 use Rattle.fields.proofs.step_in.Tie as tie
-use Rattle.fields.proofs.step_in.Reads as reads
-use Rattle.fields.proofs.step_in.Lts as lts
 
--- src/lib.rt:259:8
 shared-slice-read-if1 : tie.Need-shared-slice-read-if1
 shared-slice-read-if1 c = search needs
 
--- src/lib.rt:260:12
 shared-slice-read-if2 : tie.Need-shared-slice-read-if2
 shared-slice-read-if2 c = search needs
 
--- src/lib.rt:262:25
 shared-slice-read-t10 : tie.Need-shared-slice-read-t10
 shared-slice-read-t10 c = search needs
 
--- src/lib.rt:262:25
 mul-t11 : tie.Need-mul-t11
 mul-t11 c = search needs
 
--- src/lib.rt:262:37
 shared-slice-read-t13 : tie.Need-shared-slice-read-t13
 shared-slice-read-t13 c = search needs
 
--- src/lib.rt:262:25
 add-t14 : tie.Need-add-t14
 add-t14 c = search needs
 
--- src/lib.rt:261:13
 returns : tie.Need-returns
 unfolding step-of
 returns c = simp (lt-ltb _ _ (c .before .before .if2 .taken), lt-ltb _ _ (c .before .before .before .before .if1 .taken))
 
--- src/lib.rt:266:9
 returns-2 : tie.Need-returns-2
 unfolding step-of
 returns-2 c = simp (le-ltb _ _ (c .if2 .left), lt-ltb _ _ (c .before .before .if1 .taken))
 
--- src/lib.rt:255:1
 returns-3 : tie.Need-returns-3
 unfolding step-of
 returns-3 c = simp (le-ltb _ _ (c .if1 .left))

@@ -1,3 +1,5 @@
+-- `fields::symbol_in` meets its contract.
+-- Assumes nothing.
 use native.Mathlib.Omega.{arith}
 use borrow.Author.Tests.{eq-eqb, ne-eqb}
 use mathlib.Core.Path.{_∙_, ap}
@@ -5,35 +7,24 @@ use Rattle.fields.specs.Answer.{got}
 use Rattle.fields.specs.Symbols.{symbol-in, numbered}
 use Rattle.fields.proofs.symbol_in.Statement.{statement}
 use Rattle.fields.proofs.symbol_in.Tie as tie
-use Rattle.fields.proofs.symbol_in.Reads as reads
-use Rattle.fields.proofs.symbol_in.Lts as lts
-use Rattle.fields.proofs.eight_at.Reads as eight-at-reads
-use Rattle.fields.proofs.operator_in.Reads as operator-in-reads
-use Rattle.fields.proofs.step_in.Reads as step-in-reads
 
--- src/lib.rt:293:9
 step-in-requires : tie.Need-step-in-requires
 step-in-requires c κs = c .before .before .pre ∙ simp (eq-eqb _ _ (c .if1 .taken))
 
--- src/lib.rt:293:9
 returns : tie.Need-returns
 unfolding symbol-in
 returns c = simp (eq-eqb _ _ (c .before .if1 .taken)) (c .step-in .ensures)
 
--- src/lib.rt:296:9
 operator-in-requires : tie.Need-operator-in-requires
 operator-in-requires c κs = c .before .before .before .pre ∙ simp (ne-eqb _ _ (c .before .if1 .left), eq-eqb _ _ (c .if2 .taken))
 
--- src/lib.rt:296:9
 returns-2 : tie.Need-returns-2
 unfolding symbol-in
 returns-2 c = simp (ne-eqb _ _ (c .before .before .if1 .left), eq-eqb _ _ (c .before .if2 .taken)) (c .operator-in .ensures)
 
--- src/lib.rt:300:14
 eight-at-requires : tie.Need-eight-at-requires
 eight-at-requires c κs = let e = simp (ne-eqb _ _ (c .before .if1 .left), ne-eqb _ _ (c .if2 .left)) at (c .before .before .before .pre) in omega arith
 
--- src/lib.rt:288:1
 returns-3 : tie.Need-returns-3
 unfolding symbol-in
 returns-3 c = simp (ne-eqb _ _ (c .before .before .if1 .left), ne-eqb _ _ (c .before .if2 .left)) (ap (λ n. got (numbered 255 n)) (c .eight-at .ensures))

@@ -1,0 +1,64 @@
+-- What the code says of the reading of a question.
+-- Assumes nothing.
+use mathlib.Core.Path.{_≡_}
+use mathlib.Core.List.{List, _++_}
+use Prim.Native.Nat.{ℕ, _-_, _<_}
+use lib.ListN.{length, replicate}
+use Rattle.fields.specs.declared.Due.{Due}
+use Rattle.fields.specs.declared.File.the-variants as file
+use Rattle.fields.specs.declared.Stack.{Stack}
+use Rattle.fields.specs.Answer.{Answer, got, refused, onward}
+use Rattle.fields.specs.Said.{refusal-said}
+use Rattle.fields.specs.Symbols.{symbol-in, symbol-length, arity, push, due-symbols}
+use Rattle.question.specs.declared.Outcome.{Outcome}
+use Rattle.question.specs.declared.Outcome.the-variants as outcome
+use Rattle.question.specs.declared.Standing.{Standing}
+use Rattle.question.specs.declared.Standing.the-variants.{Head, Within}
+use Rattle.question.specs.declared.Turn.{Turn}
+use Rattle.question.specs.declared.Turn.the-variants as turn
+use Rattle.question.specs.Form.{due-head, head-of}
+
+-- ---- the outcome
+abbrev pub outcome-said : Outcome → Answer ℕ
+outcome-said (outcome.Accepted n) = got n
+outcome-said (outcome.Refused r) = refusal-said r
+
+-- the number of symbols
+abbrev pub counted : Answer (List ℕ) → Answer ℕ
+counted a = onward (λ cs. got (length cs)) a
+
+-- the codes, and 0 from there on
+unfoldable pub padded : List ℕ → List ℕ
+padded cs = cs ++ replicate (32 - length cs) 0
+
+abbrev pub codes-in : Answer (List ℕ) → List ℕ
+codes-in (got cs) = padded cs
+codes-in (refused n p) = replicate 32 0
+
+-- the outcome, and every element of the array
+pub record Reads (a : Answer (List ℕ)) (o : Outcome) (array : List ℕ) : Type 0 where
+  pub outcome : outcome-said o ≡ counted a
+  pub codes : array ≡ codes-in a
+
+-- ---- one turn
+abbrev pub due-of : Standing → Due
+due-of Head = due-head
+due-of (Within q) = due-symbols file.Question q
+
+pub data Move : Type 0 where
+  go : Stack → Move
+  more : ℕ → Stack → Move
+
+abbrev pub judged : Standing → ℕ → ℕ → ℕ → List ℕ → Answer Move
+judged Head at next t b = onward (λ n. got (go (record { left = n; depth = 0 }))) (head-of at b)
+judged (Within q) at next t b = onward (λ x. onward (λ q′. got (more (x .number) q′)) (push q at next (arity (x .number)))) (symbol-in at t b)
+
+-- what the code needs of a body before it looks
+abbrev pub Ready : Standing → ℕ → ℕ → Type 0
+Ready Head t n = n ≡ 1
+Ready (Within q) t n = (n ≡ symbol-length t) × ((0 < q .left) × (q .depth < 255))
+
+abbrev pub turn-said : Turn → Answer Move
+turn-said (turn.Stop r) = refusal-said r
+turn-said (turn.Go q) = got (go q)
+turn-said (turn.More c q) = got (more c q)

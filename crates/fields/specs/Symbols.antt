@@ -28,6 +28,10 @@ symbol-numbered c m =
     (cond (ltb c 128) (s-step reverse (c - 64))
     (cond (eqb c 255) (s-join (through m)) (operator-numbered (c - 128))))
 
+-- the code by which members are compared: "45 is a join and has code 128"
+unfoldable pub order-code : ℕ → ℕ
+order-code c = cond (eqb c 255) 128 c
+
 -- ---- how many paths a symbol takes
 unfoldable pub arity : ℕ → ℕ
 arity c = cond (ltb c 128) 0 (cond (eqb c 133) 1 2)

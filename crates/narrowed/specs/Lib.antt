@@ -2,3 +2,4 @@ pub mod Form
 pub mod Writing
 pub mod Formed
 pub mod Members
+pub mod Said

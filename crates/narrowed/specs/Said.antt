@@ -1,0 +1,121 @@
+-- What the code says of the reading of a narrowed question, and how it hands on the members.
+-- Assumes nothing.
+use mathlib.Core.Path.{_≡_}
+use mathlib.Core.Bool.{true, false, cond, _&&_}
+use mathlib.Core.List.{List, [], _++_, map}
+use Prim.Native.Nat.{ℕ, _-_, _<_}
+use lib.Dec.{leb, eqb}
+use lib.ListN.{length, getD, take, drop, replicate}
+use Rattle.theory.specs.Lists.{concat-map}
+use Rattle.fields.specs.declared.File.the-variants as file
+use Rattle.fields.specs.declared.Due.{Due}
+use Rattle.fields.specs.declared.Stack.{Stack}
+use Rattle.fields.specs.Answer.{Answer, got, refused, onward}
+use Rattle.fields.specs.Reading.{word, eight}
+use Rattle.fields.specs.Said.{refusal-said}
+use Rattle.fields.specs.Symbols.{Numbered, order-code, symbol-in, symbol-length, arity, push, due-symbols}
+use Rattle.narrowed.specs.declared.Members.{Members}
+use Rattle.narrowed.specs.declared.Outcome.{Outcome}
+use Rattle.narrowed.specs.declared.Outcome.the-variants as outcome
+use Rattle.narrowed.specs.declared.Standing.{Standing}
+use Rattle.narrowed.specs.declared.Standing.the-variants.{Head, Between, Within}
+use Rattle.narrowed.specs.declared.Turn.{Turn}
+use Rattle.narrowed.specs.declared.Turn.the-variants as turn
+use Rattle.narrowed.specs.Form.{Flat}
+
+-- ---- the members, as arrays filled from the front
+unfoldable pub padded : ℕ → List ℕ → List ℕ
+padded n xs = xs ++ replicate (n - length xs) 0
+
+abbrev pub sizes-of : List Flat → List ℕ
+sizes-of ms = map (λ m. length (m .symbols)) ms
+
+abbrev pub from-of : List Flat → List ℕ
+from-of ms = map (λ m. m .from) ms
+
+abbrev pub to-of : List Flat → List ℕ
+to-of ms = map (λ m. m .to) ms
+
+abbrev pub numbers-of : List Flat → List ℕ
+numbers-of ms = concat-map (λ m. map (λ x. x .number) (m .symbols)) ms
+
+abbrev pub sets-of : List Flat → List ℕ
+sets-of ms = concat-map (λ m. map (λ x. x .set) (m .symbols)) ms
+
+-- every number of the struct
+pub record Packed (ms : List Flat) (q : Members) : Type 0 where
+  pub count : q .count ≡ length ms
+  pub sizes : q .sizes ≡ padded 128 (sizes-of ms)
+  pub from : q .from ≡ padded 128 (from-of ms)
+  pub to : q .to ≡ padded 128 (to-of ms)
+  pub numbers : q .numbers ≡ padded 6144 (numbers-of ms)
+  pub sets : q .sets ≡ padded 6144 (sets-of ms)
+
+-- ---- the outcome
+abbrev pub outcome-said : Outcome → Answer ℕ
+outcome-said (outcome.Accepted n) = got n
+outcome-said (outcome.Refused r) = refusal-said r
+
+abbrev pub counted : Answer (List Flat) → Answer ℕ
+counted a = onward (λ ms. got (length ms)) a
+
+-- the members read; none where the file is refused
+abbrev pub members-in : Answer (List Flat) → List Flat
+members-in (got ms) = ms
+members-in (refused n p) = []
+
+pub record Reads (a : Answer (List Flat)) (o : Outcome) (q : Members) : Type 0 where
+  pub outcome : outcome-said o ≡ counted a
+  pub members : Packed (members-in a) q
+
+-- ---- one turn
+abbrev pub due-of : Standing → Due
+due-of Head = record { file = file.Narrowed; lo = 0x41; hi = 0x41; ends = false; over = false }
+due-of (Between l) = record { file = file.Narrowed; lo = 0x42; hi = 0x42; ends = eqb l 0; over = eqb l 0 }
+due-of (Within l p q) = due-symbols file.Narrowed q
+
+-- what a body does: it goes on; it opens a member of so many symbols with these sets; a symbol, with its set; a member's last symbol
+pub data Move : Type 0 where
+  go : Standing → Move
+  open-as : ℕ → ℕ → ℕ → Standing → Move
+  more : ℕ → ℕ → Standing → Move
+  last : ℕ → ℕ → ℕ → ℕ → Move
+
+-- 41
+unfoldable pub count-of : ℕ → List ℕ → Answer Move
+count-of at b = cond (leb (word b 0) 128) (got (go (Between (word b 0)))) (refused 3 at)
+
+-- 42
+unfoldable pub open-move : ℕ → ℕ → List ℕ → Answer Move
+open-move l at b =
+    cond (leb 1 (getD b 0 0) && leb (getD b 0 0) 48)
+    (got (open-as (getD b 0 0) (eight b 1) (eight b 9) (Within (l - 1) at (record { left = getD b 0 0; depth = 0 })))) (refused 3 at)
+
+-- a symbol that leaves the stack as q
+abbrev pub moved : ℕ → ℕ → Numbered → Stack → Move
+moved l p x q = cond (eqb (q .left) 0) (last (x .number) (x .set) l p) (more (x .number) (x .set) (Within l p q))
+
+unfoldable pub symbol-move : ℕ → ℕ → Stack → ℕ → ℕ → ℕ → List ℕ → Answer Move
+symbol-move l p q at next t b = onward (λ x. onward (λ q′. got (moved l p x q′)) (push q at next (arity (x .number)))) (symbol-in at t b)
+
+abbrev pub judged : Standing → ℕ → ℕ → ℕ → List ℕ → Answer Move
+judged Head at next t b = count-of at b
+judged (Between l) at next t b = open-move l at b
+judged (Within l p q) at next t b = symbol-move l p q at next t b
+
+-- what the code needs of a body before it looks
+abbrev pub Ready : Standing → ℕ → ℕ → Type 0
+Ready Head t n = n ≡ 2
+Ready (Between l) t n = (n ≡ 17) × (0 < l)
+Ready (Within l p q) t n = (n ≡ symbol-length t) × ((0 < q .left) × (q .depth < 255))
+
+abbrev pub turn-said : Turn → Answer Move
+turn-said (turn.Stop r) = refusal-said r
+turn-said (turn.Go st) = got (go st)
+turn-said (turn.Open n f t st) = got (open-as n f t st)
+turn-said (turn.More c m st) = got (more c m st)
+turn-said (turn.Last c m l p) = got (last c m l p)
+
+-- the codes of the symbols from a to b
+abbrev pub segment-codes : List ℕ → ℕ → ℕ → List ℕ
+segment-codes l a b = map order-code (take (b - a) (drop a l))

@@ -1,1 +1,5 @@
 pub mod Comparing
+pub mod Moves
+pub mod Tracks
+pub mod Filled
+pub mod Loop

@@ -197,3 +197,79 @@ fn refused(r: Refusal) -> Narrowed
     };
     Narrowed { outcome, members }
 }
+
+// Reads a narrowed question's file.
+pub fn read(s: &[u8]) -> Narrowed
+    ensures { λ r. ⌜ Reads (read-file narrowed-form (now (s .entry))) (r .outcome) (r .members) ⌝ }
+{
+    let mut sizes = [0u8; 128];
+    let mut from = [0u64; 128];
+    let mut to = [0u64; 128];
+    let mut numbers = [0u8; 6144];
+    let mut sets = [0u64; 6144];
+    let mut st = Standing::Head;
+    let mut at = 0;
+    let mut done = 0;
+    let mut prev = 0;
+    let mut first = 0;
+    let mut used = 0;
+    loop {
+        match fields::field(s, at, due(st)) {
+            Seen::Ends => {
+                let outcome = Outcome::Accepted(done);
+                let members = Members {
+                    count: done,
+                    sizes,
+                    from,
+                    to,
+                    numbers,
+                    sets,
+                };
+                return Narrowed { outcome, members };
+            }
+            Seen::Wrong(r) => {
+                return refused(r);
+            }
+            Seen::Body(tag, len) => {
+                let next = at + 3 + len as usize;
+                match judge(st, at, next, tag, fields::body_at(s, at)) {
+                    Turn::Stop(r) => {
+                        return refused(r);
+                    }
+                    Turn::Go(w) => {
+                        st = w;
+                        at = next;
+                    }
+                    Turn::Open(n, f, t, w) => {
+                        sizes[done] = n;
+                        from[done] = f;
+                        to[done] = t;
+                        st = w;
+                        at = next;
+                    }
+                    Turn::More(c, m, w) => {
+                        numbers[used] = c;
+                        sets[used] = m;
+                        used += 1;
+                        st = w;
+                        at = next;
+                    }
+                    Turn::Last(c, m, l, p) => {
+                        numbers[used] = c;
+                        sets[used] = m;
+                        used += 1;
+                        if earlier(&numbers, prev, first, used) {
+                            prev = first;
+                            first = used;
+                            done += 1;
+                            st = Standing::Between(l);
+                            at = next;
+                        } else {
+                            return refused(Refusal::NotAscending(p));
+                        }
+                    }
+                }
+            }
+        }
+    }
+}

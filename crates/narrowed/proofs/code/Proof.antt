@@ -1,17 +1,15 @@
+-- `narrowed::code` meets its contract.
+-- Assumes nothing.
 use borrow.Author.Tests.{lt-ltb, lt-leb, le-ltb, le-leb, eq-eqb, ne-eqb}
 use Rattle.fields.specs.Symbols.{order-code}
 use borrow.Author.Needs.{needs}
 use Rattle.narrowed.proofs.code.Statement.{statement}
 use Rattle.narrowed.proofs.code.Tie as tie
-use Rattle.narrowed.proofs.code.Reads as reads
-use Rattle.narrowed.proofs.code.Lts as lts
 
--- src/lib.rt:151:9
 returns : tie.Need-returns
 unfolding order-code
 returns c = simp (eq-eqb _ _ (c .if1 .taken))
 
--- src/lib.rt:147:1
 returns-2 : tie.Need-returns-2
 unfolding order-code
 returns-2 c = simp (ne-eqb _ _ (c .if1 .left))

@@ -1,26 +1,21 @@
+-- `narrowed::count` meets its contract.
+-- Assumes nothing.
 use borrow.Author.Tests.{lt-ltb, lt-leb, le-ltb, le-leb, eq-eqb, ne-eqb}
 use Rattle.narrowed.specs.Said.{count-of}
 use borrow.Author.Needs.{needs}
 use Rattle.narrowed.proofs.count.Statement.{statement}
 use Rattle.narrowed.proofs.count.Tie as tie
-use Rattle.narrowed.proofs.count.Reads as reads
-use Rattle.narrowed.proofs.count.Lts as lts
-use Rattle.fields.proofs.two.Reads as two-reads
 
--- src/lib.rt:86:9
 two-requires : tie.Need-two-requires
 two-requires c κs = search needs
 
--- src/lib.rt:88:9
 returns : tie.Need-returns
 unfolding count-of
 returns c = simp (lt-leb _ _ (c .if1 .taken), ← c .before .two .ensures)
 
--- src/lib.rt:90:32
 cast-t7 : tie.Need-cast-t7
 cast-t7 c = search needs
 
--- src/lib.rt:82:1
 returns-2 : tie.Need-returns-2
 unfolding count-of
 returns-2 c = simp (le-leb _ _ (c .if1 .left), ← c .before .two .ensures)

@@ -1,36 +1,28 @@
+-- `narrowed::due` meets its contract.
+-- Assumes nothing.
 use borrow.Author.Tests.{lt-ltb, lt-leb, le-ltb, le-leb, eq-eqb, ne-eqb}
 use borrow.Author.Needs.{needs}
 use Rattle.narrowed.proofs.due.Statement.{statement}
 use Rattle.narrowed.proofs.due.Tie as tie
-use Rattle.narrowed.proofs.due.Reads as reads
-use Rattle.narrowed.proofs.due.Lts as lts
-use Rattle.fields.proofs.symbols_due.Reads as symbols-due-reads
 
--- src/lib.rt:61:19
 enum-told : tie.Need-enum-told
 enum-told c = search needs
 
--- src/lib.rt:67:27
 enum-known-st : tie.Need-enum-known-st
 enum-known-st c = search needs
 
--- src/lib.rt:77:32
 enum-known-st-2 : tie.Need-enum-known-st-2
 enum-known-st-2 c = search needs
 
--- src/lib.rt:77:38
 symbols-due-requires : tie.Need-symbols-due-requires
 symbols-due-requires c κs = search needs
 
--- src/lib.rt:56:1
 returns : tie.Need-returns
 returns c = simp (c .enum-told .given .1)
 
--- src/lib.rt:56:1
 returns-2 : tie.Need-returns-2
 returns-2 c = simp (c .before .st .given .1)
 
--- src/lib.rt:56:1
 returns-3 : tie.Need-returns-3
 returns-3 c = simp (← c .symbols-due .ensures, c .before .before .st2 .given .1)
 

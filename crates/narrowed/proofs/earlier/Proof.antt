@@ -1,3 +1,5 @@
+-- `narrowed::earlier` meets its contract.
+-- Assumes nothing.
 use mathlib.Core.Path.{_≡_, refl}
 use lib.ListN.{length}
 use Rattle.theory.specs.PathExpr.{before?}
@@ -8,9 +10,6 @@ use Prim.Native.Nat.{ℕ, _+_, _-_, _*_, _≤_, _<_}
 use native.Mathlib.Omega.{arith}
 use Rattle.narrowed.proofs.earlier.Statement.{statement}
 use Rattle.narrowed.proofs.earlier.Tie as tie
-use Rattle.narrowed.proofs.earlier.Reads as reads
-use Rattle.narrowed.proofs.earlier.Lts as lts
-use Rattle.narrowed.proofs.code.Reads as code-reads
 
 abbrev Inv-loop : tie.InvT-loop
 Inv-loop numbers a b e i₀ j₀ i j = (i ≤ b) × ((j ≤ e) × ((b ≤ length numbers) × ((e ≤ length numbers) × (before? (segment-codes numbers i b) (segment-codes numbers j e) ≡ before? (segment-codes numbers a b) (segment-codes numbers b e)))))
@@ -18,55 +17,42 @@ Inv-loop numbers a b e i₀ j₀ i j = (i ≤ b) × ((j ≤ e) × ((b ≤ length
 abbrev μ-loop : tie.MeasureT-loop
 μ-loop numbers a b e i₀ j₀ i j = b - i
 
--- src/lib.rt:163:5
 loop-holds : tie.Need-loop-holds Inv-loop μ-loop
 loop-holds c = (c .before .pre .0, (c .before .pre .1 .0, (omega arith, (c .before .pre .1 .1, refl))))
 
--- src/lib.rt:165:13
 returns : tie.Need-returns Inv-loop μ-loop
 returns c = second-ends _ _ _ _ _ _ (c .before .before .loop .inv .1 .1 .1 .1) (c .before .before .loop .inv .1 .1 .0) (c .before .before .loop .inv .1 .1 .1 .0) (c .before .loop-test .taken) (c .if1 .taken)
 
--- src/lib.rt:167:22
 shared-slice-read-code : tie.Need-shared-slice-read-code Inv-loop μ-loop
 shared-slice-read-code c = search needs
 
--- src/lib.rt:167:13
 code-requires : tie.Need-code-requires Inv-loop μ-loop
 code-requires c κs = search needs
 
--- src/lib.rt:168:22
 shared-slice-read-code-2 : tie.Need-shared-slice-read-code-2 Inv-loop μ-loop
 shared-slice-read-code-2 c = search needs
 
--- src/lib.rt:168:13
 code-requires-2 : tie.Need-code-requires-2 Inv-loop μ-loop
 code-requires-2 c κs = search needs
 
--- src/lib.rt:170:13
 returns-2 : tie.Need-returns-2 Inv-loop μ-loop
 returns-2 c = less _ _ _ _ _ _ (c .before .before .before .before .before .before .before .loop .inv .1 .1 .1 .1) (c .before .before .before .before .before .before .before .loop .inv .1 .1 .0) (c .before .before .before .before .before .before .before .loop .inv .1 .1 .1 .0) (c .before .before .before .before .before .before .loop-test .taken) (c .before .before .before .before .before .if1 .left) (omega (arith, c .before .before .before .code .ensures, c .before .code2 .ensures, c .if2 .taken))
 
--- src/lib.rt:173:13
 returns-3 : tie.Need-returns-3 Inv-loop μ-loop
 returns-3 c = greater _ _ _ _ _ _ (c .before .before .before .before .before .before .before .before .loop .inv .1 .1 .1 .1) (c .before .before .before .before .before .before .before .before .loop .inv .1 .1 .0) (c .before .before .before .before .before .before .before .before .loop .inv .1 .1 .1 .0) (c .before .before .before .before .before .before .before .loop-test .taken) (c .before .before .before .before .before .before .if1 .left) (omega (arith, c .before .before .before .before .code .ensures, c .before .before .code2 .ensures, c .if3 .taken))
 
--- src/lib.rt:175:9
 add-i : tie.Need-add-i Inv-loop μ-loop
 add-i c = search needs
 
--- src/lib.rt:176:9
 add-j : tie.Need-add-j Inv-loop μ-loop
 add-j c = search needs
 
--- src/lib.rt:163:5
 loop-less : tie.Need-loop-less Inv-loop μ-loop
 loop-less c = search needs
 
--- src/lib.rt:163:5
 loop-again : tie.Need-loop-again Inv-loop μ-loop
 loop-again c = (omega arith, (omega arith, (c .before .before .before .before .before .before .before .before .loop .inv .1 .1 .0, (c .before .before .before .before .before .before .before .before .loop .inv .1 .1 .1 .0, equal _ _ _ _ _ _ (c .before .before .before .before .before .before .before .before .loop .inv .1 .1 .1 .1) (c .before .before .before .before .before .before .before .before .loop .inv .1 .1 .0) (c .before .before .before .before .before .before .before .before .loop .inv .1 .1 .1 .0) (c .before .before .before .before .before .before .before .loop-test .taken) (c .before .before .before .before .before .before .if1 .left) (omega (arith, c .before .before .before .before .code .ensures, c .before .before .code2 .ensures, c .if3 .left, c .before .if2 .left))))))
 
--- src/lib.rt:157:1
 returns-4 : tie.Need-returns-4 Inv-loop μ-loop
 returns-4 c = first-ends _ _ _ _ _ _ (c .before .loop .inv .1 .1 .1 .1) (c .before .loop .inv .1 .1 .0) (c .before .loop .inv .1 .1 .1 .0) (c .loop-test .left)
 

@@ -1,45 +1,33 @@
+-- `narrowed::judge` meets its contract.
+-- Assumes nothing.
 use borrow.Author.Needs.{needs}
 use Rattle.narrowed.proofs.judge.Statement.{statement}
 use Rattle.narrowed.proofs.judge.Tie as tie
-use Rattle.narrowed.proofs.judge.Reads as reads
-use Rattle.narrowed.proofs.judge.Lts as lts
-use Rattle.narrowed.proofs.count.Reads as count-reads
-use Rattle.narrowed.proofs.grow.Reads as grow-reads
-use Rattle.narrowed.proofs.open_member.Reads as open-member-reads
 
--- src/lib.rt:140:27
 enum-told : tie.Need-enum-told
 enum-told c = search needs
 
--- src/lib.rt:140:27
 count-requires : tie.Need-count-requires
 count-requires c κs = rw (c .enum-told .given .1) at (c .before .before .before .pre)
 
--- src/lib.rt:141:27
 enum-known-st : tie.Need-enum-known-st
 enum-known-st c = search needs
 
--- src/lib.rt:141:33
 open-member-requires : tie.Need-open-member-requires
 open-member-requires c κs = rw (c .before .st .given .1) at (c .before .before .before .before .pre)
 
--- src/lib.rt:142:26
 enum-known-st-2 : tie.Need-enum-known-st-2
 enum-known-st-2 c = search needs
 
--- src/lib.rt:142:38
 grow-requires : tie.Need-grow-requires
 grow-requires c κs = rw (c .before .st2 .given .1) at (c .before .before .before .before .pre)
 
--- src/lib.rt:135:1
 returns : tie.Need-returns
 returns c = simp (c .before .enum-told .given .1) (c .count .ensures)
 
--- src/lib.rt:135:1
 returns-2 : tie.Need-returns-2
 returns-2 c = simp (c .before .before .st .given .1) (c .open-member .ensures)
 
--- src/lib.rt:135:1
 returns-3 : tie.Need-returns-3
 returns-3 c = simp (c .before .before .st2 .given .1) (c .grow .ensures)
 

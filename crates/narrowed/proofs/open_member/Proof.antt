@@ -1,39 +1,31 @@
+-- `narrowed::open_member` meets its contract.
+-- Assumes nothing.
 use borrow.Author.Tests.{lt-ltb, lt-leb, le-ltb, le-leb, eq-eqb, ne-eqb}
 use Rattle.narrowed.specs.Said.{open-move}
 use borrow.Author.Needs.{needs}
 use Rattle.narrowed.proofs.open_member.Statement.{statement}
 use Rattle.narrowed.proofs.open_member.Tie as tie
-use Rattle.narrowed.proofs.open_member.Reads as reads
-use Rattle.narrowed.proofs.open_member.Lts as lts
-use Rattle.fields.proofs.eight_at.Reads as eight-at-reads
 
--- src/lib.rt:99:13
 shared-slice-read-n : tie.Need-shared-slice-read-n
 shared-slice-read-n c = search needs
 
--- src/lib.rt:101:9
 returns : tie.Need-returns
 unfolding open-move
 returns c = simp (lt-leb _ _ (c .if1 .taken))
 
--- src/lib.rt:104:9
 returns-2 : tie.Need-returns-2
 unfolding open-move
 returns-2 c = simp (lt-leb _ _ (c .if2 .taken), le-leb _ _ (c .before .if1 .left))
 
--- src/lib.rt:107:31
 sub-t8 : tie.Need-sub-t8
 sub-t8 c = search needs
 
--- src/lib.rt:108:19
 eight-at-requires : tie.Need-eight-at-requires
 eight-at-requires c κs = search needs
 
--- src/lib.rt:108:43
 eight-at-requires-2 : tie.Need-eight-at-requires-2
 eight-at-requires-2 c κs = search needs
 
--- src/lib.rt:95:1
 returns-3 : tie.Need-returns-3
 unfolding open-move
 returns-3 c = simp (← c .eight-at2 .ensures, ← c .before .eight-at .ensures, le-leb _ _ (c .before .before .if2 .left), le-leb _ _ (c .before .before .before .if1 .left))

@@ -1,12 +1,11 @@
+-- `narrowed::refused` meets its contract.
+-- Assumes nothing.
 use mathlib.Core.Path.{refl}
 use Rattle.narrowed.specs.Said.{padded}
 use borrow.Author.Needs.{needs}
 use Rattle.narrowed.proofs.refused.Statement.{statement}
 use Rattle.narrowed.proofs.refused.Tie as tie
-use Rattle.narrowed.proofs.refused.Reads as reads
-use Rattle.narrowed.proofs.refused.Lts as lts
 
--- src/lib.rt:181:1
 returns : tie.Need-returns
 unfolding padded
 returns c = (refl, record { count = refl; sizes = refl; from = refl; to = refl; numbers = refl; sets = refl })

@@ -1,7 +1,7 @@
 -- The loop over a narrowed question's fields, which fills the arrays of its members: what holds at its head, and a law for each way on.
 -- Assumes nothing.
 use Prim.Native.Nat.{ℕ, _+_, _<_, _≤_}
-use mathlib.Core.Path.{_≡_, refl, ap, ap₂, _∙_, sym, subst}
+use mathlib.Core.Path.{_≡_, ap, ap₂, _∙_, sym, subst}
 use mathlib.Core.Bool.{true, false}
 use mathlib.Core.List.{List, [], _∷_, _++_}
 use lib.ListN.{length, take, drop, set, replicate, length-append}
@@ -12,12 +12,12 @@ use Rattle.fields.specs.Reading.{ends, wrong, body, field-at, read}
 use Rattle.fields.specs.Symbols.{Numbered, numbered}
 use Rattle.narrowed.specs.Form.{Flat, narrowed-form, order-codes}
 use Rattle.narrowed.specs.declared.Standing.{Standing}
-use Rattle.narrowed.specs.declared.Standing.the-variants.{Head, Between, Within}
+use Rattle.narrowed.specs.declared.Standing.the-variants.{Head, Between}
 use Rattle.narrowed.specs.Said.{go, more, last, due-of, judged, Ready, counted, members-in, outcome-said, Packed, Reads, segment-codes}
 use Rattle.narrowed.specs.declared.Outcome.{Outcome}
 use Rattle.narrowed.specs.declared.Members.{Members}
 use Rattle.narrowed.specs.Said as said
-use Rattle.narrowed.proofs.Tracks.{Tracks, tracks-start, total, open-list, Shut, Opened, tracks-ends, tracks-wrong, tracks-ready, tracks-stop, tracks-go, tracks-open, tracks-more, last-few, last-members, last-total, last-opened, tracks-order, tracks-done}
+use Rattle.narrowed.proofs.Tracks.{Tracks, tracks-start, total, open-list, Shut, tracks-ends, tracks-wrong, tracks-ready, tracks-stop, tracks-go, tracks-open, tracks-more, last-few, last-members, last-total, last-opened, tracks-order, tracks-done}
 use Rattle.narrowed.proofs.Filled.{Filled, filled-start, refill, filled-open, room, filled-more, filled-done, numbers-long, before-codes, open-codes, filled-packed}
 
 pub record Reading (s : List ℕ) (st : Standing) (at done prev first used : ℕ) (sizes from to numbers sets : List ℕ) : Type 0 where

@@ -1,28 +1,23 @@
 -- A narrowed question's reading, a field at a time: where the definition stands, and what a field that was judged leads to.
 -- Assumes nothing.
-use Prim.Native.Nat.{ℕ, suc, _+_, _-_, _<_, _≤_}
-use mathlib.Core.Path.{_≡_, refl, ap, ap₂, _∙_, sym, subst}
-use mathlib.Core.Bool.{Bool, true, false, false≢true, cond, _&&_}
-use mathlib.Core.List.{List, [], _∷_, _++_, map}
-use lib.ListN.{length, getD, take, drop, length-append}
+use Prim.Native.Nat.{ℕ, _-_}
+use mathlib.Core.Path.{_≡_, refl}
+use mathlib.Core.Bool.{Bool, true, false, cond, _&&_}
+use mathlib.Core.List.{List, []}
+use lib.ListN.{getD}
 use lib.Dec.{leb, eqb}
 use native.Mathlib.Omega.{arith}
-use borrow.Author.Tests.{eqb-true, eqb-false, leb-true, eq-eqb, ne-eqb}
-use Rattle.theory.specs.PathExpr.{before?}
+use borrow.Author.Tests.{eqb-true, eqb-false}
 use Rattle.fields.specs.declared.File.the-variants as file
 use Rattle.fields.specs.declared.Stack.{Stack}
 use Rattle.fields.specs.Answer.{Answer, got, refused, onward}
-use Rattle.fields.specs.Table.{rows, tag-length}
-use Rattle.fields.specs.Reading.{ends, wrong, body, field-at, read, word, eight}
-use Rattle.fields.specs.Symbols.{Numbered, numbered, symbol-in, push, arity, due-symbols}
-use Rattle.fields.proofs.Bools.{onward-got, cond-then, cond-else, not-got, and-left, and-right}
-use Rattle.fields.proofs.Fields.{Found, found, body-length, one-due, Ended, ended, InPath, in-path}
-use Rattle.fields.proofs.Symbols.{push-got}
-use Rattle.fields.proofs.Going.{Going, going-start, going-ends, going-wrong, going-refused, going-more}
-use Rattle.narrowed.specs.Form.{Flat, flat, Open, open-as, State, head, between, within, due, judge as judge-of, head-of, open-of, grown, value, narrowed-form, order-codes}
+use Rattle.fields.specs.Reading.{word, eight}
+use Rattle.fields.specs.Symbols.{Numbered, numbered, symbol-in, push, arity}
+use Rattle.fields.proofs.Bools.{onward-got, cond-then, not-got}
+use Rattle.narrowed.specs.Form.{Flat, open-as, between, within, judge as judge-of, head-of, open-of, grown}
 use Rattle.narrowed.specs.declared.Standing.{Standing}
-use Rattle.narrowed.specs.declared.Standing.the-variants.{Head, Between, Within}
-use Rattle.narrowed.specs.Said.{Move, go, more, last, due-of, count-of, open-move, moved, symbol-move, judged, Ready}
+use Rattle.narrowed.specs.declared.Standing.the-variants.{Between, Within}
+use Rattle.narrowed.specs.Said.{Move, go, more, last, count-of, open-move, moved, symbol-move}
 use Rattle.narrowed.specs.Said as said
 
 -- a symbol's move, taken apart

@@ -2,21 +2,21 @@
 -- Assumes nothing.
 use Prim.Native.Nat.{ℕ, _+_, _-_, _<_, _≤_}
 use mathlib.Core.Path.{_≡_, refl, ap, ap₂, _∙_, sym, subst}
-use mathlib.Core.Bool.{Bool, true, false, false≢true, cond, _&&_}
+use mathlib.Core.Bool.{Bool, true, false, false≢true, cond}
 use mathlib.Core.List.{List, [], _∷_, _++_}
 use lib.ListN.{length, getD, take, drop, length-append}
-use lib.Dec.{leb, eqb}
+use lib.Dec.{leb}
 use native.Mathlib.Omega.{arith}
 use borrow.Author.Tests.{eqb-true, eqb-false, leb-true, eq-eqb, ne-eqb}
 use Rattle.theory.specs.PathExpr.{before?}
 use Rattle.fields.specs.declared.File.the-variants as file
 use Rattle.fields.specs.declared.Stack.{Stack}
-use Rattle.fields.specs.Answer.{Answer, got, refused, onward}
+use Rattle.fields.specs.Answer.{got, refused}
 use Rattle.fields.specs.Table.{rows, tag-length}
 use Rattle.fields.specs.Reading.{ends, wrong, body, field-at, read, word, eight}
 use Rattle.fields.specs.Symbols.{Numbered, numbered, arity}
 use Rattle.fields.proofs.Bools.{and-left, and-right}
-use Rattle.fields.proofs.Fields.{Found, found, body-length, one-due, Ended, ended, InPath, in-path}
+use Rattle.fields.proofs.Fields.{found, body-length, one-due, ended, in-path}
 use Rattle.fields.proofs.Symbols.{push-got}
 use Rattle.fields.proofs.Going.{Going, going-start, going-ends, going-wrong, going-refused, going-more}
 use Rattle.narrowed.specs.Form.{Flat, flat, open-as, State, head, between, within, due, judge as judge-of, narrowed-form, order-codes}
@@ -24,7 +24,7 @@ use Rattle.narrowed.specs.declared.Standing.{Standing}
 use Rattle.narrowed.specs.declared.Standing.the-variants.{Head, Between, Within}
 use Rattle.narrowed.specs.Said.{go, more, last, due-of, judged, Ready}
 use Rattle.narrowed.specs.Said as said
-use Rattle.narrowed.proofs.Moves.{Moves, moves, judge-sym, judge-stop, more-is, last-is, go-not, open-not, count-go, count-stop, opened, open-go, open-stop}
+use Rattle.narrowed.proofs.Moves.{moves, judge-sym, judge-stop, more-is, last-is, go-not, open-not, count-go, count-stop, open-go, open-stop}
 
 -- the definition's state, where the code stands: P the codes of the member before, ms the members so far, of an open one its sets and symbols so far
 abbrev state-of : Standing → List ℕ → List Flat → ℕ → ℕ → List Numbered → State

@@ -1,11 +1,11 @@
 -- The members of theory as a file has them, and back.
 -- Assumes nothing.
 use mathlib.Core.List.{List, map}
-use mathlib.Core.Option.{Option, none, some}
+use mathlib.Core.Option.{Option}
 use Prim.Native.Nat.{ℕ}
 use Rattle.theory.specs.PathExpr.{any, through, PathExpr, Symbol, s-step, s-join, s-op, s-closure, postfix, code}
 use Rattle.theory.specs.Postfix.{path-of}
-use Rattle.theory.specs.Merging.{Member, member}
+use Rattle.theory.specs.Merging.{Member}
 use Rattle.fields.specs.Symbols.{Numbered, numbered, symbol-numbered}
 use Rattle.narrowed.specs.Form.{Flat, flat}
 use Rattle.narrowed.specs.Writing.{encode}

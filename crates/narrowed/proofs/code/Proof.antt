@@ -1,8 +1,7 @@
 -- `narrowed::code` meets its contract.
 -- Assumes nothing.
-use borrow.Author.Tests.{lt-ltb, lt-leb, le-ltb, le-leb, eq-eqb, ne-eqb}
+use borrow.Author.Tests.{eq-eqb, ne-eqb}
 use Rattle.fields.specs.Symbols.{order-code}
-use borrow.Author.Needs.{needs}
 use Rattle.narrowed.proofs.code.Statement.{statement}
 use Rattle.narrowed.proofs.code.Tie as tie
 

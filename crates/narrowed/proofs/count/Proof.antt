@@ -1,6 +1,6 @@
 -- `narrowed::count` meets its contract.
 -- Assumes nothing.
-use borrow.Author.Tests.{lt-ltb, lt-leb, le-ltb, le-leb, eq-eqb, ne-eqb}
+use borrow.Author.Tests.{lt-leb, le-leb}
 use Rattle.narrowed.specs.Said.{count-of}
 use borrow.Author.Needs.{needs}
 use Rattle.narrowed.proofs.count.Statement.{statement}

@@ -1,6 +1,5 @@
 -- `narrowed::due` meets its contract.
 -- Assumes nothing.
-use borrow.Author.Tests.{lt-ltb, lt-leb, le-ltb, le-leb, eq-eqb, ne-eqb}
 use borrow.Author.Needs.{needs}
 use Rattle.narrowed.proofs.due.Statement.{statement}
 use Rattle.narrowed.proofs.due.Tie as tie

@@ -6,7 +6,7 @@ use Rattle.theory.specs.PathExpr.{before?}
 use Rattle.narrowed.specs.Said.{segment-codes}
 use Rattle.narrowed.proofs.Comparing.{second-ends, less, greater, equal, first-ends}
 use borrow.Author.Needs.{needs}
-use Prim.Native.Nat.{ℕ, _+_, _-_, _*_, _≤_, _<_}
+use Prim.Native.Nat.{_-_, _≤_}
 use native.Mathlib.Omega.{arith}
 use Rattle.narrowed.proofs.earlier.Statement.{statement}
 use Rattle.narrowed.proofs.earlier.Tie as tie

@@ -1,6 +1,6 @@
 -- `narrowed::grow` meets its contract.
 -- Assumes nothing.
-use borrow.Author.Tests.{lt-ltb, lt-leb, le-ltb, le-leb, eq-eqb, ne-eqb}
+use borrow.Author.Tests.{eq-eqb, ne-eqb}
 use Rattle.narrowed.specs.Said.{symbol-move}
 use borrow.Author.Needs.{needs}
 use Rattle.narrowed.proofs.grow.Statement.{statement}

@@ -1,6 +1,6 @@
 -- `narrowed::open_member` meets its contract.
 -- Assumes nothing.
-use borrow.Author.Tests.{lt-ltb, lt-leb, le-ltb, le-leb, eq-eqb, ne-eqb}
+use borrow.Author.Tests.{lt-leb, le-leb}
 use Rattle.narrowed.specs.Said.{open-move}
 use borrow.Author.Needs.{needs}
 use Rattle.narrowed.proofs.open_member.Statement.{statement}

@@ -7,10 +7,10 @@ use Rattle.fields.specs.Reading.{ends, wrong, body, field-at}
 use Rattle.fields.specs.Said.{field-said, number-of, place-of}
 use Rattle.fields.proofs.Fields.{found}
 use Rattle.fields.proofs.Raws.{body-found}
-use Rattle.narrowed.specs.Said.{counted, members-in, Reads, Packed, outcome-said, due-of, judged, turn-said}
+use Rattle.narrowed.specs.Said.{outcome-said, due-of, judged, turn-said}
 use Rattle.narrowed.proofs.Loop.{Reading, reads-refused, reading-start, reading-ends, reading-wrong, reading-ready, reading-stop, reading-go, reading-open, reading-more, last-room, last-long, last-done, last-ordered, reading-order, reading-last}
 use borrow.Author.Needs.{needs}
-use Prim.Native.Nat.{ℕ, _+_, _-_, _*_, _≤_, _<_}
+use Prim.Native.Nat.{_+_, _-_, _≤_}
 use native.Mathlib.Omega.{arith}
 use Rattle.narrowed.proofs.read.Statement.{statement}
 use Rattle.narrowed.proofs.read.Tie as tie

@@ -2,7 +2,6 @@
 -- Assumes nothing.
 use mathlib.Core.Path.{refl}
 use Rattle.narrowed.specs.Said.{padded}
-use borrow.Author.Needs.{needs}
 use Rattle.narrowed.proofs.refused.Statement.{statement}
 use Rattle.narrowed.proofs.refused.Tie as tie
 

@@ -1,0 +1,141 @@
+-- The loop over a sheet's fields, which fills the table: what holds at its head, and a law for each way out.
+-- Assumes nothing.
+use mathlib.Core.Path.{_≡_, refl, ap, sym, subst, _∙_}
+use mathlib.Core.Bool.{false≢true}
+use mathlib.Core.List.{List, [], _∷_, _++_}
+use Prim.Native.Nat.{ℕ, _+_, _≤_, _<_}
+use native.Mathlib.Omega.{arith}
+use lib.Dec.{T, ltb→lt}
+use lib.ListN.{length, take, drop, replicate}
+use borrow.Author.Tests.{eqb-false}
+use Rattle.theory.specs.Register.{Edge}
+use Rattle.theory.specs.Sheet.{Sheet, sheet?}
+use Rattle.theory.proofs.Tests.{tests}
+use Rattle.theory.proofs.Sheet.{kinds-fit, names-fit}
+use Rattle.fields.specs.declared.Refusal.{Refusal}
+use Rattle.fields.specs.Answer.{Answer, got, refused, onward}
+use Rattle.fields.specs.Reading.{ends, wrong, body, field-at, read}
+use Rattle.fields.specs.Table.{tag-length, rows}
+use Rattle.fields.specs.Said.{refusal-said}
+use Rattle.fields.proofs.Bools.{onward-got}
+use Rattle.fields.proofs.Fields.{found, body-length, one-due, ended}
+use Rattle.fields.proofs.Going.{Going, going-start, going-ends, going-wrong, going-refused, going-more}
+use Rattle.sheet.specs.declared.Outcome.{Outcome}
+use Rattle.sheet.specs.declared.Outcome.the-variants as outcome
+use Rattle.sheet.specs.declared.Triples.{Triples}
+use Rattle.sheet.specs.declared.Standing.{Standing}
+use Rattle.sheet.specs.declared.Standing.the-variants.{Head, Within}
+use Rattle.sheet.specs.Form.{State, head, within, due-head, due-triple, due, head-of, edge-of, next, judge, sheet-form}
+use Rattle.sheet.specs.Table.{permit, table-of, table-in}
+use Rattle.sheet.specs.Said.{outcome-said, sizes, sizes-at, Reads, due-of, go, more, judged, Ready}
+use Rattle.sheet.proofs.Ranges.{so-far, head-got, next-got, sheet-more}
+use Rattle.sheet.proofs.Tables.{table-more}
+
+-- where the code stands, with the triples so far
+abbrev state-of : Standing → List Edge → State
+state-of Head es = head
+state-of (Within q) es = within q es
+
+due-is : (st : Standing) (es : List Edge) → due (state-of st es) ≡ due-of st
+due-is Head es = refl
+due-is (Within q) es = refl
+
+abbrev Holds : Standing → List Edge → Type 0
+Holds Head es = es ≡ []
+Holds (Within q) es = T (sheet? (so-far q es)) × (q .count ≤ 512)
+
+pub record Progress (s : List ℕ) (st : Standing) (at : ℕ) (table : List ℕ) : Type 0 where
+  pub es : List Edge
+  pub going : Going sheet-form s (read sheet-form s) (state-of st es) at
+  pub holds : Holds st es
+  pub filled : table ≡ table-of es
+
+pub progress-start : (s : List ℕ) → Progress s Head 0 (replicate 4096 0)
+unfolding table-of
+progress-start s = record { es = []; going = going-start sheet-form s; holds = refl; filled = refl }
+
+-- ---- what is returned
+pub reads-refused : (a : Answer Sheet) (r : Refusal) (o : Outcome) (t : List ℕ) → a ≡ refusal-said r → (o ≡ outcome.Refused r) × (t ≡ replicate 4096 0) → Reads a o t
+reads-refused a r o t e h = record { outcome = ap outcome-said (h .0) ∙ ap sizes (sym e); table = h .1 ∙ ap table-in (sym e) }
+
+-- two answers that go on from the same one are refused together
+refused-too : {A B C : Type 0} (f : A → B) (g : A → C) (a : Answer A) (i j : ℕ) → onward (λ x. got (f x)) a ≡ refused i j → onward (λ x. got (g x)) a ≡ refused i j
+refused-too f g (got x) i j h = let z : _≡_ {A = ℕ} 0 1 = cc in absurd (omega arith)
+refused-too f g (refused k l) i j h = cc
+
+module _ (s : List ℕ) (at : ℕ) (table : List ℕ) where
+  pub progress-ends : (st : Standing) → Progress s st at table → field-at (due-of st) s at ≡ ends → (o : Outcome) → outcome-said o ≡ sizes-at st → Reads (read sheet-form s) o table
+  progress-ends Head p e o h = absurd (false≢true (ended due-head s at e .may))
+  progress-ends (Within q) p e o h =
+      let a = going-ends sheet-form s _ _ at (p .going) e in
+      record { outcome = h ∙ ap sizes (sym a); table = p .filled ∙ ap table-in (sym a) }
+
+  pub progress-wrong : (st : Standing) → Progress s st at table → (i j : ℕ) → field-at (due-of st) s at ≡ wrong i j → read sheet-form s ≡ refused i j
+  progress-wrong st p i j e = going-wrong sheet-form s _ _ at (p .going) i j (rw due-is e)
+
+  module _ (t n : ℕ) where
+    pub progress-ready : (st : Standing) → Progress s st at table → field-at (due-of st) s at ≡ body t n → Ready st (length (take n (drop (at + 3) s)))
+    unfolding tag-length rows
+    progress-ready Head p e = let f = found due-head s at t n e in body-length f ∙ one-due due-head t n refl (f .fit) .1
+    progress-ready (Within q) p e =
+        let f = found (due-triple q) s at t n e in
+        let h : q .count ≡ 512 → ⊥ = eqb-false (q .count) 512 (f .more) in
+        (body-length f ∙ one-due (due-triple q) t n refl (f .fit) .1, omega (arith, p .holds .1))
+
+    stops : (st : Standing) (es : List Edge) (i j : ℕ) (b : List ℕ) → judged st at b ≡ refused i j → judge (state-of st es) at (at + 3 + n) t b ≡ refused i j
+    stops Head es i j b h = refused-too go (λ q. within q []) (head-of at b) i j h
+    stops (Within q) es i j b h = refused-too (more (edge-of b)) (λ q′. within q′ (es ++ (edge-of b ∷ []))) (next q at b) i j h
+
+    pub progress-stop : (st : Standing) → Progress s st at table → field-at (due-of st) s at ≡ body t n → (i j : ℕ) → judged st at (take n (drop (at + 3) s)) ≡ refused i j
+        → read sheet-form s ≡ refused i j
+    progress-stop st p e i j h = going-refused sheet-form s _ _ at (p .going) t n (rw due-is e) i j (stops st (p .es) i j _ h)
+
+    -- a head
+    pub progress-go : (st : Standing) → Progress s st at table → field-at (due-of st) s at ≡ body t n → (q : Triples) → judged st at (take n (drop (at + 3) s)) ≡ got (go q)
+        → Progress s (Within q) (at + 3 + n) table
+    progress-go Head p e q h =
+        let b = take n (drop (at + 3) s) in
+        let (q′, g, w) = onward-got (λ q. got (go q)) (head-of at b) (go q) h in
+        let w′ : q′ ≡ q = cc w in
+        let r = head-got at b q (g ∙ ap got w′) in
+        record {
+          es = [];
+          going = going-more sheet-form s _ _ at (p .going) t n e (within q []) (ap (onward (λ q. got (within q []))) (g ∙ ap got w′));
+          holds = (r .0, omega (arith, r .1));
+          filled = p .filled ∙ ap table-of (p .holds);
+        }
+    progress-go (Within p′) p e q h =
+        let (q′, g, w) = onward-got (λ q′. got (more (edge-of (take n (drop (at + 3) s))) q′)) (next p′ at (take n (drop (at + 3) s))) (go q) h in
+        let z : _≡_ {A = ℕ} 0 1 = cc w in absurd (omega arith)
+
+    -- a triple
+    pub progress-more : (st : Standing) → Progress s st at table → field-at (due-of st) s at ≡ body t n → (x : Edge) (q : Triples)
+        → judged st at (take n (drop (at + 3) s)) ≡ got (more x q)
+        → ((x .from < 64) × (x .label < 64) × (x .to < 64)) × Progress s (Within q) (at + 3 + n) (permit table x)
+    progress-more Head p e x q h =
+        let (q′, g, w) = onward-got (λ q. got (go q)) (head-of at (take n (drop (at + 3) s))) (more x q) h in
+        let z : _≡_ {A = ℕ} 0 1 = cc w in absurd (omega arith)
+    progress-more (Within p′) p e x q h =
+        let b = take n (drop (at + 3) s) in
+        let (q′, g, w) = onward-got (λ q′. got (more (edge-of b) q′)) (next p′ at b) (more x q) h in
+        let wq : q′ ≡ q = cc w in
+        let wx : edge-of b ≡ x = cc w in
+        let m = next-got p′ at b q (g ∙ ap got wq) in
+        let ok = p .holds .0 in
+        let few = progress-ready (Within p′) p e .1 in
+        let k = kinds-fit (so-far p′ (p .es)) ok in
+        let l = names-fit (so-far p′ (p .es)) ok in
+        let r = m .range in
+        let hf : edge-of b .from < p′ .kinds = search (tests, ltb→lt) in
+        let hl : edge-of b .label < p′ .links = search (tests, ltb→lt) in
+        let ht : edge-of b .to < p′ .kinds = search (tests, ltb→lt) in
+        subst (λ (y : Edge). ((y .from < 64) × (y .label < 64) × (y .to < 64)) × Progress s (Within q) (at + 3 + n) (permit table y)) wx (
+          (omega arith, omega arith, omega arith),
+          record {
+            es = p .es ++ (edge-of b ∷ []);
+            going = going-more sheet-form s _ _ at (p .going) t n e (within q (p .es ++ (edge-of b ∷ [])))
+                (ap (onward (λ q′. got (within q′ (p .es ++ (edge-of b ∷ []))))) (g ∙ ap got wq));
+            holds = (sheet-more p′ (p .es) b q ok m, omega (arith, few, m .count));
+            filled = ap (λ u. permit u (edge-of b)) (p .filled) ∙ sym (table-more (p .es) (edge-of b));
+          },
+        )

@@ -1,0 +1,94 @@
+-- The numbers of a sheet that was accepted are in range.
+-- Assumes nothing.
+use mathlib.Core.Path.{_≡_, refl, ap, sym, subst}
+use mathlib.Core.Bool.{Bool, false≢true, _&&_}
+use mathlib.Core.List.{List, [], _∷_, _++_}
+use Prim.Native.Nat.{ℕ, suc, _+_}
+use lib.Dec.{T, leb, ltb}
+use lib.ListN.{length, getD, take, drop}
+use Rattle.theory.specs.Lists.{every?}
+use Rattle.theory.specs.Register.{Edge}
+use Rattle.theory.specs.Sheet.{Sheet, in-range?, sheet?}
+use Rattle.theory.proofs.Tests.{tests, and-left, and-right, and-both, of-true}
+use Rattle.fields.specs.Answer.{got}
+use Rattle.fields.specs.Reading.{ends, body, field-at, read}
+use Rattle.fields.proofs.Bools.{cond-then, not-got, onward-got}
+use Rattle.fields.proofs.Fields.{ended}
+use Rattle.fields.proofs.Accepted.{accepted-ind}
+use Rattle.sheet.specs.declared.Triples.{Triples}
+use Rattle.sheet.specs.Form.{State, head, within, due-head, due, fresh, head-of, key, edge-of, next, judge, value, sheet-form}
+
+every-more : (f : Edge → Bool) (es : List Edge) (e : Edge) → T (every? f es) → T (f e) → T (every? f (es ++ (e ∷ [])))
+every-more f [] e t u = and-both (f e) _ u tt
+every-more f (x ∷ es) e t u = and-both (f x) _ (and-left (f x) (every? f es) t) (every-more f es e (and-right (f x) (every? f es) t) u)
+
+-- the sheet so far
+abbrev pub so-far : Triples → List Edge → Sheet
+so-far q es = value (within q es)
+
+-- ---- after the head
+pub head-got : (at : ℕ) (b : List ℕ) (q : Triples) → head-of at b ≡ got q → T (sheet? (so-far q [])) × (q .count ≡ 0)
+unfolding head-of sheet?
+head-got at b q e =
+    let k = cond-then (leb 1 (getD b 0 0) && leb (getD b 0 0) 64) (not-got 3 at q) e in
+    let l = cond-then (leb 1 (getD b 1 0) && leb (getD b 1 0) 64) (not-got 3 at q) (k .1) in
+    let h : fresh (getD b 0 0) (getD b 1 0) ≡ q = cc (l .1) in
+    let tk : T (leb 1 (getD b 0 0) && leb (getD b 0 0) 64) = of-true _ (k .0) in
+    let tl : T (leb 1 (getD b 1 0) && leb (getD b 1 0) 64) = of-true _ (l .0) in
+    let s : T (sheet? (so-far (fresh (getD b 0 0) (getD b 1 0)) [])) = search (tests, tt) in
+    subst (λ (p : Triples). T (sheet? (so-far p [])) × (p .count ≡ 0)) h (s, refl)
+
+-- ---- after a triple
+pub record Next (q : Triples) (b : List ℕ) (q′ : Triples) : Type 0 where
+  pub range : T (in-range? (so-far q []) (edge-of b))
+  pub kinds : q′ .kinds ≡ q .kinds
+  pub links : q′ .links ≡ q .links
+  pub count : q′ .count ≡ q .count + 1
+
+pub next-got : (q : Triples) (at : ℕ) (b : List ℕ) (q′ : Triples) → next q at b ≡ got q′ → Next q b q′
+unfolding next
+next-got q at b q′ e =
+    let a = cond-then (ltb (getD b 0 0) (q .kinds) && ltb (getD b 1 0) (q .links) && ltb (getD b 2 0) (q .kinds)) (not-got 3 at q′) e in
+    let c = cond-then (leb (q .floor) (key b)) (not-got 4 at q′) (a .1) in
+    let h : record { kinds = q .kinds; links = q .links; count = q .count + 1; floor = key b + 1 } ≡ q′ = cc (c .1) in
+    record {
+      range = of-true _ (a .0);
+      kinds = sym (ap (λ (p : Triples). p .kinds) h);
+      links = sym (ap (λ (p : Triples). p .links) h);
+      count = sym (ap (λ (p : Triples). p .count) h);
+    }
+
+pub sheet-more : (q : Triples) (es : List Edge) (b : List ℕ) (q′ : Triples) → T (sheet? (so-far q es)) → Next q b q′ → T (sheet? (so-far q′ (es ++ (edge-of b ∷ []))))
+unfolding sheet?
+sheet-more q es b q′ t n =
+    let r : T (every? (in-range? (so-far q es)) es) = search tests in
+    let m = every-more (in-range? (so-far q es)) es (edge-of b) r (n .range) in
+    let g : T (sheet? (so-far q (es ++ (edge-of b ∷ [])))) = search tests in
+    rw (n .kinds, n .links) g
+
+-- ---- to the end
+abbrev Ahead : State → ℕ → Sheet → Type 0
+Ahead head at S = T (sheet? S)
+Ahead (within q es) at S = T (sheet? (so-far q es)) → T (sheet? S)
+
+module _ (s : List ℕ) where
+  at-end : (st : State) (at : ℕ) → field-at (due st) s at ≡ ends → Ahead st at (value st)
+  at-end head at e = absurd (false≢true (ended due-head s at e .may))
+  at-end (within q es) at e = λ t. t
+
+  at-body : (st : State) (at t n : ℕ) (st′ : State) (S : Sheet) → field-at (due st) s at ≡ body t n
+      → judge st at (at + 3 + n) t (take n (drop (at + 3) s)) ≡ got st′ → Ahead st′ (at + 3 + n) S → Ahead st at S
+  at-body head at t n st′ S e j ih =
+      let b = take n (drop (at + 3) s) in
+      let (q, h, w) = onward-got (λ q. got (within q [])) (head-of at b) st′ j in
+      let w′ : st′ ≡ within q [] = cc w in
+      subst (λ (x : State). Ahead x (at + 3 + n) S) w′ ih (head-got at b q h .0)
+  at-body (within q es) at t n st′ S e j ih = λ u.
+      let b = take n (drop (at + 3) s) in
+      let (q′, h, w) = onward-got (λ q′. got (within q′ (es ++ (edge-of b ∷ [])))) (next q at b) st′ j in
+      let w′ : st′ ≡ within q′ (es ++ (edge-of b ∷ [])) = cc w in
+      subst (λ (x : State). Ahead x (at + 3 + n) S) w′ ih (sheet-more q es b q′ u (next-got q at b q′ h))
+
+pub accepted-sheet : (s : List ℕ) (S : Sheet) → read sheet-form s ≡ got S → T (sheet? S)
+unfolding read
+accepted-sheet s S e = accepted-ind sheet-form s Ahead (at-end s) (at-body s) (suc (length s)) head 0 S e

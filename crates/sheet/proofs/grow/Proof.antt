@@ -1,0 +1,73 @@
+-- `sheet::grow` meets its contract.
+-- Assumes nothing.
+use borrow.Author.Tests.{lt-ltb, lt-leb, le-ltb, le-leb}
+use borrow.Author.Needs.{needs}
+use Rattle.sheet.specs.Form.{next}
+use Rattle.sheet.proofs.grow.Statement.{statement}
+use Rattle.sheet.proofs.grow.Tie as tie
+
+shared-slice-read-if1 : tie.Need-shared-slice-read-if1
+shared-slice-read-if1 c = search needs
+
+returns : tie.Need-returns
+unfolding next
+returns c = simp (le-ltb _ _ (c .if1 .taken))
+
+shared-slice-read-if2 : tie.Need-shared-slice-read-if2
+shared-slice-read-if2 c = search needs
+
+returns-2 : tie.Need-returns-2
+unfolding next
+returns-2 c = simp (le-ltb _ _ (c .if2 .taken), lt-ltb _ _ (c .before .before .before .if1 .left))
+
+shared-slice-read-if3 : tie.Need-shared-slice-read-if3
+shared-slice-read-if3 c = search needs
+
+returns-3 : tie.Need-returns-3
+unfolding next
+returns-3 c = simp (le-ltb _ _ (c .if3 .taken), lt-ltb _ _ (c .before .before .before .if2 .left), lt-ltb _ _ (c .before .before .before .before .before .before .if1 .left))
+
+key-of-requires : tie.Need-key-of-requires
+key-of-requires c κs = search needs
+
+returns-4 : tie.Need-returns-4
+unfolding next
+returns-4 c = simp (lt-leb _ _ (c .if4 .taken), ← c .before .before .key-of .ensures .0, lt-ltb _ _ (c .before .before .before .if3 .left), lt-ltb _ _ (c .before .before .before .before .before .before .if2 .left), lt-ltb _ _ (c .before .before .before .before .before .before .before .before .before .if1 .left))
+
+shared-slice-read-t8 : tie.Need-shared-slice-read-t8
+shared-slice-read-t8 c = search needs
+
+shared-slice-read-t19 : tie.Need-shared-slice-read-t19
+shared-slice-read-t19 c = search needs
+
+shared-slice-read-t22 : tie.Need-shared-slice-read-t22
+shared-slice-read-t22 c = search needs
+
+add-t24 : tie.Need-add-t24
+add-t24 c = search needs
+
+add-t25 : tie.Need-add-t25
+add-t25 c = search needs
+
+returns-5 : tie.Need-returns-5
+unfolding next
+returns-5 c = simp (le-leb _ _ (c .before .before .before .before .if4 .left), ← c .before .before .before .before .before .before .key-of .ensures .0, lt-ltb _ _ (c .before .before .before .before .before .before .before .if3 .left), lt-ltb _ _ (c .before .before .before .before .before .before .before .before .before .before .if2 .left), lt-ltb _ _ (c .before .before .before .before .before .before .before .before .before .before .before .before .before .if1 .left))
+
+pub grow-spec : {M : Type 1} → statement M
+grow-spec =
+    tie.close
+    (tie.spec
+    shared-slice-read-if1
+    returns
+    shared-slice-read-if2
+    returns-2
+    shared-slice-read-if3
+    returns-3
+    key-of-requires
+    returns-4
+    shared-slice-read-t8
+    shared-slice-read-t19
+    shared-slice-read-t22
+    add-t24
+    add-t25
+    returns-5)

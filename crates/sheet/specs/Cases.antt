@@ -1,0 +1,40 @@
+-- Cases of reading a sheet: a file, and what it yields.
+-- 01-scope.md, "Sheet and register of the cases", and refusals 1 to 5.
+-- Assumes nothing.
+use mathlib.Core.List.{List, [], _∷_, _++_}
+use Prim.Native.Nat.{ℕ}
+use Rattle.theory.specs.Sheet.{Sheet}
+use Rattle.theory.specs.Cases.{sheet}
+use Rattle.fields.specs.Answer.{Answer, got, refused}
+
+pub record Case : Type 0 where
+  pub file : List ℕ
+  pub expected : Answer Sheet
+
+abbrev case : List ℕ → Answer Sheet → Case
+case s a = record { file = s; expected = a }
+
+abbrev head : ℕ → ℕ → List ℕ
+head k e = 0x11 ∷ 0 ∷ 2 ∷ k ∷ e ∷ []
+
+abbrev triple : ℕ → ℕ → ℕ → List ℕ
+triple a l b = 0x12 ∷ 0 ∷ 3 ∷ a ∷ l ∷ b ∷ []
+
+unfoldable pub cases : List Case
+cases =
+    case (head 6 5 ++ triple 0 0 1 ++ triple 0 3 3 ++ triple 0 4 4 ++ triple 1 1 2 ++ triple 1 3 3 ++ triple 2 2 2 ++ triple 4 4 5) (got sheet)
+    -- the edges of the ranges
+    ∷ case (head 64 64) (got (record { kinds = 64; link-names = 64; permitted = [] }))
+    ∷ case (head 65 5) (refused 3 0)
+    ∷ case (head 6 0) (refused 3 0)
+    ∷ case (head 6 5 ++ triple 0 5 1) (refused 3 5)
+    ∷ case (head 6 5 ++ triple 0 0 6) (refused 3 5)
+    -- a triple as the one before; 3 comes before 4
+    ∷ case (head 6 5 ++ triple 0 0 1 ++ triple 0 0 1) (refused 4 11)
+    ∷ case (head 6 5 ++ triple 1 0 1 ++ triple 0 0 6) (refused 3 11)
+    -- ends and tags
+    ∷ case [] (refused 5 0)
+    ∷ case (head 6 5 ++ (0x12 ∷ [])) (refused 1 5)
+    ∷ case (head 6 5 ++ head 6 5) (refused 2 5)
+    ∷ case (head 6 5 ++ (0x12 ∷ 0 ∷ 3 ∷ 0 ∷ 0 ∷ [])) (refused 1 5)
+    ∷ []

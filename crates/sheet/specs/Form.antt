@@ -1,0 +1,69 @@
+-- The sheet file: 11 and then 12s, up to 512 of them, strictly ascending.
+-- 01-scope.md, "Fields of a file": 11, 12; "What the work covers": the limits; refusals 3 and 4.
+-- Assumes nothing.
+use mathlib.Core.Bool.{true, false, cond, _&&_}
+use mathlib.Core.List.{List, [], _∷_, _++_}
+use Prim.Native.Nat.{ℕ, _+_, _*_}
+use lib.Dec.{leb, ltb, eqb}
+use lib.ListN.{getD}
+use Rattle.theory.specs.Register.{Edge, edge}
+use Rattle.theory.specs.Sheet.{Sheet}
+use Rattle.fields.specs.declared.File.the-variants as file
+use Rattle.fields.specs.declared.Due.{Due}
+use Rattle.fields.specs.Answer.{Answer, got, refused, onward}
+use Rattle.fields.specs.Reading.{Form}
+use Rattle.sheet.specs.declared.Triples.{Triples}
+
+-- the head is due; or triples are, with those so far. `Triples` has the numbers of kinds, of links, of triples so far, and
+-- `floor`, the least key that is above the triple before
+pub data State : Type 0 where
+  head : State
+  within : Triples → List Edge → State
+
+abbrev pub due-head : Due
+due-head = record { file = file.Sheet; lo = 0x11; hi = 0x11; ends = false; over = false }
+
+abbrev pub due-triple : Triples → Due
+due-triple q = record { file = file.Sheet; lo = 0x12; hi = 0x12; ends = true; over = eqb (q .count) 512 }
+
+abbrev pub due : State → Due
+due head = due-head
+due (within q es) = due-triple q
+
+-- K kinds and E links, and no triple yet
+abbrev pub fresh : ℕ → ℕ → Triples
+fresh k e = record { kinds = k; links = e; count = 0; floor = 0 }
+
+-- 11: the numbers of kinds and of links, 1 to 64; refusal 3
+unfoldable pub head-of : ℕ → List ℕ → Answer Triples
+head-of at b =
+    cond (leb 1 (getD b 0 0) && leb (getD b 0 0) 64)
+    (cond (leb 1 (getD b 1 0) && leb (getD b 1 0) 64) (got (fresh (getD b 0 0) (getD b 1 0))) (refused 3 at))
+    (refused 3 at)
+
+-- three bytes as one number, by which triples ascend
+abbrev pub key : List ℕ → ℕ
+key b = getD b 0 0 * 65536 + getD b 1 0 * 256 + getD b 2 0
+
+-- from kind, link, to kind
+abbrev pub edge-of : List ℕ → Edge
+edge-of b = edge (getD b 0 0) (getD b 1 0) (getD b 2 0)
+
+-- 12: a triple; refusals 3 and 4
+unfoldable pub next : Triples → ℕ → List ℕ → Answer Triples
+next q at b =
+    cond (ltb (getD b 0 0) (q .kinds) && ltb (getD b 1 0) (q .links) && ltb (getD b 2 0) (q .kinds))
+    (cond (leb (q .floor) (key b)) (got (record { kinds = q .kinds; links = q .links; count = q .count + 1; floor = key b + 1 })) (refused 4 at))
+    (refused 3 at)
+
+abbrev pub judge : State → ℕ → ℕ → ℕ → List ℕ → Answer State
+judge head at after t b = onward (λ q. got (within q [])) (head-of at b)
+judge (within q es) at after t b = onward (λ q′. got (within q′ (es ++ (edge-of b ∷ [])))) (next q at b)
+
+-- a file never ends at `head`
+abbrev pub value : State → Sheet
+value head = record { kinds = 0; link-names = 0; permitted = [] }
+value (within q es) = record { kinds = q .kinds; link-names = q .links; permitted = es }
+
+abbrev pub sheet-form : Form
+sheet-form = record { State = State; Value = Sheet; start = head; due = due; judge = judge; value = value }

@@ -1,0 +1,6 @@
+-- the file, the table that is handed on
+pub mod Form
+pub mod Table
+-- what the code says of them, and cases
+pub mod Said
+pub mod Cases

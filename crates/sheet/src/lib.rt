@@ -1,0 +1,220 @@
+// Reads a sheet's file: its numbers of kinds and links, and the table of permitted kinds, by value.
+use fields::Due;
+use fields::File;
+use fields::Kind;
+use fields::Link;
+use fields::Refusal;
+use fields::Seen;
+ghost use mathlib.Core.Path.{_≡_};
+ghost use Prim.Native.Nat.{_<_};
+ghost use lib.ListN.{length, replicate};
+ghost use Rattle.fields.specs.Reading.{read as read-file};
+ghost use Rattle.sheet.specs.Form.{sheet-form, key};
+ghost use Rattle.sheet.specs.Table.{cell};
+ghost use Rattle.sheet.specs.Said.{Reads, due-of, judged, Ready, turn-said, outcome-said, sizes-at};
+
+// The numbers of kinds and of links, or why the file is refused.
+pub enum Outcome {
+    Accepted(u8, u8),
+    Refused(Refusal),
+}
+
+// The outcome, and the permitted kinds: bit `to` of word link * 64 + from (all 0 where the file is refused).
+pub struct Reading {
+    pub outcome: Outcome,
+    pub table: [u64; 4096],
+}
+
+// The numbers of kinds, of links, of triples so far, and the least key that is above the triple before.
+pub struct Triples {
+    pub kinds: u8,
+    pub links: u8,
+    pub count: u16,
+    pub floor: u32,
+}
+
+pub struct Triple {
+    pub from: Kind,
+    pub link: Link,
+    pub to: Kind,
+}
+
+// Where the reading stands: at the head, or within the triples.
+pub enum Standing {
+    Head,
+    Within(Triples),
+}
+
+pub enum Turn {
+    Stop(Refusal),
+    Go(Triples),
+    More(Triple, Triples),
+}
+
+fn due(st: Standing) -> Due
+    ensures { λ r. ⌜ r ≡ due-of st ⌝ }
+{
+    match st {
+        Standing::Head => Due {
+            file: File::Sheet,
+            lo: 0x11,
+            hi: 0x11,
+            ends: false,
+            over: false,
+        },
+        Standing::Within(q) => Due {
+            file: File::Sheet,
+            lo: 0x12,
+            hi: 0x12,
+            ends: true,
+            over: q.count == 512,
+        },
+    }
+}
+
+// 11: the numbers of kinds and of links; refusal 3.
+fn head(at: usize, b: &[u8]) -> Turn
+    requires { ⌜ length (now b) ≡ 2 ⌝ }
+    ensures { λ r. ⌜ turn-said r ≡ judged Standing.Head at (now (b .entry)) ⌝ }
+{
+    let k = b[0];
+    let e = b[1];
+    if k < 1 {
+        return Turn::Stop(Refusal::OutOfRange(at));
+    }
+    if 64 < k {
+        return Turn::Stop(Refusal::OutOfRange(at));
+    }
+    if e < 1 {
+        return Turn::Stop(Refusal::OutOfRange(at));
+    }
+    if 64 < e {
+        return Turn::Stop(Refusal::OutOfRange(at));
+    }
+    Turn::Go(Triples {
+        kinds: k,
+        links: e,
+        count: 0,
+        floor: 0,
+    })
+}
+
+fn wide(b: u8) -> u32
+    ensures { λ r. ⌜ (r ≡ b) × (r < 256) ⌝ }
+{
+    b as u32
+}
+
+// Three bytes as one number.
+fn key_of(b: &[u8]) -> u32
+    requires { ⌜ length (now b) ≡ 3 ⌝ }
+    ensures { λ r. ⌜ (r ≡ key (now (b .entry))) × (r < 16777216) ⌝ }
+{
+    wide(b[0]) * 65536 + wide(b[1]) * 256 + wide(b[2])
+}
+
+// 12: a triple; refusals 3 and 4.
+fn grow(q: Triples, at: usize, b: &[u8]) -> Turn
+    requires { ⌜ Ready (Standing.Within q) (length (now b)) ⌝ }
+    ensures { λ r. ⌜ turn-said r ≡ judged (Standing.Within q) at (now (b .entry)) ⌝ }
+{
+    if q.kinds <= b[0] {
+        return Turn::Stop(Refusal::OutOfRange(at));
+    }
+    if q.links <= b[1] {
+        return Turn::Stop(Refusal::OutOfRange(at));
+    }
+    if q.kinds <= b[2] {
+        return Turn::Stop(Refusal::OutOfRange(at));
+    }
+    let key = key_of(b);
+    if key < q.floor {
+        return Turn::Stop(Refusal::NotAscending(at));
+    }
+    let x = Triple {
+        from: Kind(b[0]),
+        link: Link(b[1]),
+        to: Kind(b[2]),
+    };
+    let t = Triples {
+        kinds: q.kinds,
+        links: q.links,
+        count: q.count + 1,
+        floor: key + 1,
+    };
+    Turn::More(x, t)
+}
+
+fn judge(st: Standing, at: usize, b: &[u8]) -> Turn
+    requires { ⌜ Ready st (length (now b)) ⌝ }
+    ensures { λ r. ⌜ turn-said r ≡ judged st at (now (b .entry)) ⌝ }
+{
+    match st {
+        Standing::Head => head(at, b),
+        Standing::Within(q) => grow(q, at, b),
+    }
+}
+
+// Where the reading has come to its end.
+fn accepted(st: Standing) -> Outcome
+    ensures { λ r. ⌜ outcome-said r ≡ sizes-at st ⌝ }
+{
+    match st {
+        Standing::Head => Outcome::Accepted(0, 0),
+        Standing::Within(q) => Outcome::Accepted(q.kinds, q.links),
+    }
+}
+
+fn refused(r: Refusal) -> Reading
+    ensures { λ x. ⌜ (x .outcome ≡ Outcome.Refused r) × (x .table ≡ replicate 4096 0) ⌝ }
+{
+    let outcome = Outcome::Refused(r);
+    let table = [0u64; 4096];
+    Reading { outcome, table }
+}
+
+// The word of a link and a from kind.
+pub fn word_of(from: Kind, link: Link) -> usize
+    requires { ⌜ (from .0 < 64) × (link .0 < 64) ⌝ }
+    ensures { λ r. ⌜ (r ≡ cell (from .0) (link .0)) × (r < 4096) ⌝ }
+{
+    link.0 as usize * 64 + from.0 as usize
+}
+
+// Reads a sheet's file.
+pub fn read(s: &[u8]) -> Reading
+    ensures { λ r. ⌜ Reads (read-file sheet-form (now (s .entry))) (r .outcome) (r .table) ⌝ }
+{
+    let mut table = [0u64; 4096];
+    let mut st = Standing::Head;
+    let mut at = 0;
+    loop {
+        match fields::field(s, at, due(st)) {
+            Seen::Ends => {
+                let outcome = accepted(st);
+                return Reading { outcome, table };
+            }
+            Seen::Wrong(r) => {
+                return refused(r);
+            }
+            Seen::Body(_, len) => {
+                let next = at + 3 + len as usize;
+                match judge(st, at, fields::body_at(s, at)) {
+                    Turn::Stop(r) => {
+                        return refused(r);
+                    }
+                    Turn::Go(q) => {
+                        st = Standing::Within(q);
+                        at = next;
+                    }
+                    Turn::More(x, q) => {
+                        let i = word_of(x.from, x.link);
+                        table[i] = bits::with_bit(table[i], x.to.0 as usize);
+                        st = Standing::Within(q);
+                        at = next;
+                    }
+                }
+            }
+        }
+    }
+}

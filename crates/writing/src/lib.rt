@@ -1,0 +1,1 @@
+// The writer of narrowed questions.

@@ -1,0 +1,8 @@
+-- the loop of the reader
+pub mod Fields
+pub mod Sound
+pub mod Loop
+-- what an accepted file holds, and where
+pub mod AcceptedRegister
+pub mod Places
+pub mod Cases

@@ -1,0 +1,209 @@
+-- Where the kinds and links of an accepted file lie: kind i has its field at byte 7 + 4 i, and the links come after the last kind.
+-- Assumes nothing.
+use mathlib.Core.Path.{_≡_, refl, sym, ap, ap₂, subst, _∙_}
+use mathlib.Core.Bool.{false≢true}
+use mathlib.Core.List.{List, [], _∷_, _++_, append-assoc, append-nil}
+use Prim.Native.Nat.{ℕ, zero, suc, _+_, _*_, _-_, _<_, _≤_}
+use native.Mathlib.Omega.{arith}
+use borrow.Author.Tests.{eqb-true, eq-eqb, ne-eqb}
+use lib.Dec.{eqb}
+use lib.ListN.{length, getD, take, drop}
+use Rattle.theory.specs.Register.{Edge, Register, records, kind}
+use Rattle.fields.specs.Answer.{Answer, got, refused}
+use Rattle.fields.specs.Reading.{ends, body, field-at, word, read}
+use Rattle.fields.proofs.Bools.{and-left, and-right}
+use Rattle.fields.proofs.Fields.{found, ended, body-get}
+use Rattle.fields.proofs.Accepted.{accepted-ind}
+use Rattle.register.specs.declared.Progress.{Progress}
+use Rattle.register.specs.declared.Links as declared·Links
+use Rattle.register.specs.declared.NextLink.the-variants as next-link
+use Rattle.register.specs.Form.{State, start, within, due, due-head, due-entry, judge, value, register-form, value-of, register-in, edge-of, after-head}
+use Rattle.register.specs.Ahead.{Accepted, edge-at, Lie, Ahead, SomeAhead, Next}
+use Rattle.register.proofs.Fields.{head-length, entry-length}
+use Rattle.register.proofs.Sound.{by-head, by-entry, head-got, kind-got, link-got}
+
+no-length : {A : Type 0} (xs : List A) → length xs ≡ 0 → xs ≡ []
+no-length [] e = refl
+no-length (x ∷ xs) e = absurd (omega arith)
+
+-- ---- a file from a place on
+-- the kinds ks lie one after the other
+abbrev KindsLie : List ℕ → ℕ → List ℕ → Type 0
+KindsLie s at [] = Unit {0}
+KindsLie s at (k ∷ ks) = (at + 4 ≤ length s) × (getD s (at + 3) 0 ≡ k) × KindsLie s (at + 4) ks
+
+-- the register v is the kinds ks and links es, and after them those that lie from a place on
+record Rest (s : List ℕ) (q : Progress) (ks : List ℕ) (es : List Edge) (at : ℕ) (v : Register) : Type 0 where
+  more-kinds : List ℕ
+  more-links : List Edge
+  kinds : v .kinds ≡ ks ++ more-kinds
+  links : v .links ≡ es ++ more-links
+  kindless : length more-kinds ≡ q .kindless
+  left : length more-links ≡ q .left
+  kinds-lie : KindsLie s at more-kinds
+  links-lie : Lie s (at + 4 * length more-kinds) more-links
+
+-- the register v is the file from its beginning
+record Placed (s : List ℕ) (v : Register) : Type 0 where
+  head : 7 ≤ length s
+  kinds : records v ≡ word s 3
+  links : length (v .links) ≡ word s 5
+  kinds-lie : KindsLie s 7 (v .kinds)
+  links-lie : Lie s (7 + 4 * records v) (v .links)
+
+abbrev Ends : List ℕ → State → ℕ → Register → Type 0
+Ends s start at v = at ≡ 0 → Placed s v
+Ends s (within q ks es) at v = Rest s q ks es at v
+
+module _ (s : List ℕ) where
+  at-end : (st : State) (at : ℕ) → field-at (due st) s at ≡ ends → Ends s st at (value st)
+  at-end start at e = absurd (false≢true (ended due-head s at e .may))
+  at-end (within q ks es) at e =
+      let h = ended (due-entry q) s at e .may in
+      record {
+        more-kinds = [];
+        more-links = [];
+        kinds = sym (append-nil ks);
+        links = sym (append-nil es);
+        kindless = sym (eqb-true (q .kindless) 0 (and-left _ (eqb (q .left) 0) h));
+        left = sym (eqb-true (q .left) 0 (and-right (eqb (q .kindless) 0) _ h));
+        kinds-lie = tt;
+        links-lie = tt;
+      }
+
+  -- a word of a body is a word of the file
+  body-word : (at n i j : ℕ) → i + 1 < n → at + 3 + i ≡ j → word (take n (drop (at + 3) s)) i ≡ word s j
+  body-word at n i j h e =
+      ap₂ (λ (x y : ℕ). x * 256 + y) (body-get s (at + 3) n i j (omega arith) e) (body-get s (at + 3) n (i + 1) (j + 1) h (omega arith))
+
+  after-31 : (at n : ℕ) (v : Register) → n ≡ 4 → at ≡ 0 → at + 3 + n ≤ length s → Rest s (after-head (take n (drop (at + 3) s))) [] [] (at + 3 + n) v → Placed s v
+  after-31 at n v hn z room r =
+      let p : at + 3 + n ≡ 7 = omega arith in
+      let m : length (r .more-kinds) ≡ records v = sym (ap length (r .kinds)) in
+      record {
+        head = omega arith;
+        kinds = sym m ∙ r .kindless ∙ body-word at n 0 3 (omega arith) (omega arith);
+        links = ap length (r .links) ∙ r .left ∙ body-word at n 2 5 (omega arith) (omega arith);
+        kinds-lie = subst (KindsLie s 7) (sym (r .kinds)) (subst (λ (a : ℕ). KindsLie s a (r .more-kinds)) p (r .kinds-lie));
+        links-lie = subst (λ (l : List Edge). Lie s (7 + 4 * records v) l) (sym (r .links))
+            (subst (λ (a : ℕ). Lie s a (r .more-links)) (let h : at + 3 + n + 4 * length (r .more-kinds) ≡ 7 + 4 * records v = omega arith in h) (r .links-lie));
+      }
+
+  after-32 : (q q′ : Progress) (ks : List ℕ) (es : List Edge) (at n : ℕ) (v : Register) → n ≡ 1 → at + 3 + n ≤ length s → q .kindless ≡ suc (q′ .kindless) → q .left ≡ q′ .left
+      → Rest s q′ (ks ++ (getD (take n (drop (at + 3) s)) 0 0 ∷ [])) es (at + 3 + n) v → Rest s q ks es at v
+  after-32 q q′ ks es at n v hn room hk hl r =
+      let k = getD (take n (drop (at + 3) s)) 0 0 in
+      let p : at + 3 + n ≡ at + 4 = omega arith in
+      record {
+        more-kinds = k ∷ r .more-kinds;
+        more-links = r .more-links;
+        kinds = r .kinds ∙ append-assoc ks _ _;
+        links = r .links;
+        kindless = omega (arith, r .kindless);
+        left = r .left ∙ sym hl;
+        kinds-lie = (omega arith, sym (body-get s (at + 3) n 0 (at + 3) (omega arith) (omega arith)), subst (λ (a : ℕ). KindsLie s a (r .more-kinds)) p (r .kinds-lie));
+        links-lie = subst (λ (a : ℕ). Lie s a (r .more-links)) (let h : at + 3 + n + 4 * length (r .more-kinds) ≡ at + 4 * suc (length (r .more-kinds)) = omega arith in h) (r .links-lie);
+      }
+
+  body-edge : (at n : ℕ) → n ≡ 5 → edge-at s at ≡ edge-of (take n (drop (at + 3) s))
+  body-edge at n hn =
+      let a = body-word at n 0 (at + 3) (omega arith) (omega arith) in
+      let b = body-get s (at + 3) n 2 (at + 5) (omega arith) (omega arith) in
+      let c = body-word at n 3 (at + 6) (omega arith) (omega arith) in
+      sym (λ i. record { from = a i; label = b i; to = c i })
+
+  after-33 : (q q′ : Progress) (ks : List ℕ) (es : List Edge) (at n : ℕ) (v : Register) → n ≡ 5 → at + 3 + n ≤ length s → q .kindless ≡ 0 → q′ .kindless ≡ 0 → q .left ≡ suc (q′ .left)
+      → Rest s q′ ks (es ++ (edge-of (take n (drop (at + 3) s)) ∷ [])) (at + 3 + n) v → Rest s q ks es at v
+  after-33 q q′ ks es at n v hn room hk hk′ hl r =
+      let e = edge-of (take n (drop (at + 3) s)) in
+      let z : length (r .more-kinds) ≡ 0 = r .kindless ∙ hk′ in
+      record {
+        more-kinds = [];
+        more-links = e ∷ r .more-links;
+        kinds = r .kinds ∙ ap (λ (l : List ℕ). ks ++ l) (no-length (r .more-kinds) z);
+        links = r .links ∙ append-assoc es _ _;
+        kindless = sym hk;
+        left = omega (arith, r .left);
+        kinds-lie = tt;
+        links-lie =
+            let h : at + 3 + n + 4 * length (r .more-kinds) ≡ at + 4 * 0 + 8 = omega arith in
+            let o : at + 4 * 0 ≡ at = omega arith in
+            (omega arith, ap (edge-at s) o ∙ body-edge at n hn, subst (λ (a : ℕ). Lie s a (r .more-links)) h (r .links-lie));
+      }
+
+  at-body : (st : State) (at t n : ℕ) (st′ : State) (v : Register) → field-at (due st) s at ≡ body t n
+      → judge st at (at + 3 + n) t (take n (drop (at + 3) s)) ≡ got st′ → Ends s st′ (at + 3 + n) v → Ends s st at v
+  at-body start at t n st′ v e j ih = λ z.
+      by-head (λ x. Ends s x (at + 3 + n) v → Placed s v) at (at + 3 + n) t (take n (drop (at + 3) s)) st′ j
+      (λ q g r.
+      let h = head-got at (take n (drop (at + 3) s)) q g .2 in
+      after-31 at n v (head-length s at t n e) z (found due-head s at t n e .room) (subst (λ (p : Progress). Rest s p [] [] (at + 3 + n) v) (sym h) r))
+      ih
+  at-body (within q ks es) at t n st′ v e j ih =
+      let f = found (due-entry q) s at t n e in
+      let b = take n (drop (at + 3) s) in
+      by-entry (λ x. Ends s x (at + 3 + n) v → Rest s q ks es at v) q ks es at (at + 3 + n) t b st′ (f .more) j
+      (λ q′ k l g r.
+      let h = link-got q at b q′ g .1 in
+      let hn : n ≡ 5 = entry-length q s at t n e ∙ simp (eq-eqb _ _ k) in
+      after-33 q q′ ks es at n v hn (f .room) k (omega (arith, ap (λ (p : Progress). p .kindless) h)) (omega (arith, ap (λ (p : Progress). p .left) h)) r)
+      (λ q′ k g r.
+      let h = kind-got q at b q′ g .1 in
+      let hn : n ≡ 1 = entry-length q s at t n e ∙ simp (ne-eqb (q .kindless) 0 (omega arith)) in
+      after-32 q q′ ks es at n v hn (f .room) (omega (arith, ap (λ (p : Progress). p .kindless) h)) (ap (λ (p : Progress). p .left) h) r)
+      ih
+
+  placed : (v : Register) → read register-form s ≡ got v → Placed s v
+  unfolding read
+  placed v e = accepted-ind register-form s (Ends s) at-end at-body (suc (length s)) start 0 v e refl
+
+-- ---- kind i
+kinds-at : (s : List ℕ) (at : ℕ) (ks : List ℕ) (i : ℕ) → KindsLie s at ks → i < length ks → (at + 4 * i + 3 < length s) × (getD s (at + 4 * i + 3) 0 ≡ getD ks i 0)
+kinds-at s at [] i l h = absurd (omega arith)
+kinds-at s at (k ∷ ks) zero l h =
+    let z : at + 4 * 0 + 3 ≡ at + 3 = omega arith in
+    (omega (arith, l .0), ap (λ (a : ℕ). getD s a 0) z ∙ l .1)
+kinds-at s at (k ∷ ks) (suc i) l h =
+    let z : at + 4 * suc i + 3 ≡ at + 4 + 4 * i + 3 = omega arith in
+    let r = kinds-at s (at + 4) ks i (l .2) (omega arith) in
+    (omega (arith, r .0), ap (λ (a : ℕ). getD s a 0) z ∙ r .1)
+
+pub kind-lies : (s : List ℕ) (i : ℕ) → i < records (register-in s) → (10 + 4 * i < length s) × (getD s (10 + 4 * i) 0 ≡ kind (register-in s) i)
+unfolding register-in
+kind-lies s i h = by-answer (read register-form s) refl h
+  where
+    by-answer : (a : Answer Register) → read register-form s ≡ a → i < records (value-of a) → (10 + 4 * i < length s) × (getD s (10 + 4 * i) 0 ≡ kind (value-of a) i)
+    by-answer (refused n p) e h = absurd (omega arith)
+    by-answer (got v) e h =
+        let r = kinds-at s 7 (v .kinds) i (placed s v e .kinds-lie) h in
+        let z : 10 + 4 * i ≡ 7 + 4 * i + 3 = omega arith in
+        (omega (arith, r .0), ap (λ (a : ℕ). getD s a 0) z ∙ r .1)
+
+-- ---- the links
+pub head-room : (s : List ℕ) → Accepted s → 7 ≤ length s
+head-room s e = placed s (register-in s) e .head
+
+pub links-start : (s : List ℕ) (c : declared·Links.Links) → Accepted s → c .at ≡ 7 + 4 * word s 3 → c .left ≡ word s 5 → Ahead s c (register-in s .links)
+links-start s c e a l =
+    let p = placed s (register-in s) e in
+    let z : 7 + 4 * records (register-in s) ≡ c .at = omega (arith, p .kinds) in
+    record { left = l ∙ sym (p .links); lie = subst (λ (x : ℕ). Lie s x (register-in s .links)) z (p .links-lie) }
+
+module _ (s : List ℕ) (c : declared·Links.Links) where
+  pub next-done : c .left ≡ 0 → Next s c next-link.Done
+  next-done z es a = no-length es (sym (a .left) ∙ z)
+
+  pub next-room : SomeAhead s c → (c .left ≡ 0 → ⊥) → c .at + 8 ≤ length s
+  next-room a h = by-links (a .links) (a .ahead)
+    where
+      by-links : (es : List Edge) → Ahead s c es → c .at + 8 ≤ length s
+      by-links [] a = absurd (h (a .left))
+      by-links (e ∷ es) a = a .lie .0
+
+  pub next-more : (from label to : ℕ) (d : declared·Links.Links) → (c .left ≡ 0 → ⊥)
+      → from ≡ word s (c .at + 3) → label ≡ getD s (c .at + 5) 0 → to ≡ word s (c .at + 6) → d .at ≡ c .at + 8 → d .left ≡ c .left - 1
+      → Next s c (next-link.Link from (record { 0 = label }) to d)
+  next-more from label to d h hf hl ht ha hd [] a = absurd (h (a .left))
+  next-more from label to d h hf hl ht ha hd (e ∷ es) a =
+      let z : e ≡ record { from = from; label = label; to = to } = sym (a .lie .1) ∙ sym (λ i. record { from = hf i; label = hl i; to = ht i }) in
+      (es, ap (λ (x : Edge). x ∷ es) z, record { left = omega (arith, a .left); lie = subst (λ (x : ℕ). Lie s x es) (sym ha) (a .lie .2) })

@@ -1,0 +1,59 @@
+use borrow.Author.Tests.{lt-ltb, lt-leb, le-ltb, le-leb}
+use borrow.Author.Needs.{needs}
+use Rattle.register.specs.Form.{link-of}
+use Rattle.register.proofs.judge_link.Statement.{statement}
+use Rattle.register.proofs.judge_link.Tie as tie
+
+two-requires : tie.Need-two-requires
+two-requires c κs = search needs
+
+returns : tie.Need-returns
+unfolding link-of
+returns c = simp (le-ltb _ _ (c .if1 .taken), ← c .before .two .ensures)
+
+shared-slice-read-if2 : tie.Need-shared-slice-read-if2
+shared-slice-read-if2 c = search needs
+
+returns-2 : tie.Need-returns-2
+unfolding link-of
+returns-2 c = simp (le-ltb _ _ (c .if2 .taken), lt-ltb _ _ (c .before .before .if1 .left), ← c .before .before .before .two .ensures)
+
+two-requires-2 : tie.Need-two-requires-2
+two-requires-2 c κs = search needs
+
+returns-3 : tie.Need-returns-3
+unfolding link-of
+returns-3 c = simp (le-ltb _ _ (c .if3 .taken), ← c .before .two2 .ensures, lt-ltb _ _ (c .before .before .if2 .left), lt-ltb _ _ (c .before .before .before .before .if1 .left), ← c .before .before .before .before .before .two .ensures)
+
+key-of-requires : tie.Need-key-of-requires
+key-of-requires c κs = search needs
+
+returns-4 : tie.Need-returns-4
+unfolding link-of
+returns-4 c = simp (lt-leb _ _ (c .if4 .taken), ← c .before .before .key-of .ensures .0, lt-ltb _ _ (c .before .before .before .if3 .left), ← c .before .before .before .before .two2 .ensures, lt-ltb _ _ (c .before .before .before .before .before .if2 .left), lt-ltb _ _ (c .before .before .before .before .before .before .before .if1 .left), ← c .before .before .before .before .before .before .before .before .two .ensures)
+
+sub-t6 : tie.Need-sub-t6
+sub-t6 c = search needs
+
+add-t14 : tie.Need-add-t14
+add-t14 c = search needs
+
+returns-5 : tie.Need-returns-5
+unfolding link-of
+returns-5 c = simp (le-leb _ _ (c .before .if4 .left), ← c .before .before .before .key-of .ensures .0, lt-ltb _ _ (c .before .before .before .before .if3 .left), ← c .before .before .before .before .before .two2 .ensures, lt-ltb _ _ (c .before .before .before .before .before .before .if2 .left), lt-ltb _ _ (c .before .before .before .before .before .before .before .before .if1 .left), ← c .before .before .before .before .before .before .before .before .before .two .ensures)
+
+pub judge-link-spec : {M : Type 1} → statement M
+judge-link-spec =
+    tie.close
+    (tie.spec
+    two-requires
+    returns
+    shared-slice-read-if2
+    returns-2
+    two-requires-2
+    returns-3
+    key-of-requires
+    returns-4
+    sub-t6
+    add-t14
+    returns-5)

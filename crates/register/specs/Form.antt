@@ -1,0 +1,97 @@
+-- The register file: 31, its 32s, its 33s, the links strictly ascending.
+-- 01-scope.md, "Fields of a file" (31, 32, 33) and "Refused on the input's account" (3, 4, 5).
+-- Assumes nothing.
+use mathlib.Core.Bool.{Bool, false, cond, _&&_}
+use mathlib.Core.List.{List, [], _∷_, _++_}
+use Prim.Native.Nat.{ℕ, _+_, _*_, _-_}
+use lib.Dec.{leb, ltb, eqb}
+use lib.ListN.{getD}
+use Rattle.theory.specs.Register.{Edge, edge, Register}
+use Rattle.fields.specs.declared.File.the-variants as file
+use Rattle.fields.specs.declared.Due.{Due}
+use Rattle.fields.specs.Answer.{Answer, got, refused, onward}
+use Rattle.fields.specs.Reading.{Form, word, read}
+use Rattle.register.specs.declared.Progress.{Progress}
+
+-- 31 is due; or a 32 or 33, with the kinds and links so far. `Progress` has the numbers of records and links, of records whose kind is due, of
+-- links left, and `floor`, the least key that is above the link before
+pub data State : Type 0 where
+  start : State
+  within : Progress → List ℕ → List Edge → State
+
+abbrev pub due-head : Due
+due-head = record { file = file.Register; lo = 0x31; hi = 0x31; ends = false; over = false }
+
+-- the kinds first
+abbrev pub due-tag : Progress → ℕ
+due-tag q = cond (eqb (q .kindless) 0) 0x33 0x32
+
+abbrev pub complete? : Progress → Bool
+complete? q = eqb (q .kindless) 0 && eqb (q .left) 0
+
+abbrev pub due-entry : Progress → Due
+due-entry q = record { file = file.Register; lo = due-tag q; hi = due-tag q; ends = complete? q; over = complete? q }
+
+-- 31: the numbers of records and links; refusal 3
+abbrev pub after-head : List ℕ → Progress
+after-head b = record { records = word b 0; links = word b 2; kindless = word b 0; left = word b 2; floor = 0 }
+
+unfoldable pub head-of : ℕ → List ℕ → Answer Progress
+head-of at b = cond (leb (word b 0) 1024 && leb (word b 2) 4096) (got (after-head b)) (refused 3 at)
+
+-- 32: the kind of the next record; refusal 3
+abbrev pub kind? : ℕ → Bool
+kind? k = ltb k 64
+
+abbrev pub after-kind : Progress → Progress
+after-kind q = record { records = q .records; links = q .links; kindless = q .kindless - 1; left = q .left; floor = q .floor }
+
+unfoldable pub kind-of : Progress → ℕ → List ℕ → Answer Progress
+kind-of q at b = cond (kind? (getD b 0 0)) (got (after-kind q)) (refused 3 at)
+
+-- 33: a link between two of n records; refusals 3 and 4
+abbrev pub link? : ℕ → Edge → Bool
+link? n e = ltb (e .from) n && ltb (e .label) 64 && ltb (e .to) n
+
+abbrev pub edge-of : List ℕ → Edge
+edge-of b = edge (word b 0) (getD b 2 0) (word b 3)
+
+-- from, link and to as one number, by which links ascend
+unfoldable pub key : List ℕ → ℕ
+key b = (word b 0 * 256 + getD b 2 0) * 65536 + word b 3
+
+abbrev pub after-link : Progress → List ℕ → Progress
+after-link q b = record { records = q .records; links = q .links; kindless = q .kindless; left = q .left - 1; floor = key b + 1 }
+
+unfoldable pub link-of : Progress → ℕ → List ℕ → Answer Progress
+link-of q at b =
+    cond (link? (q .records) (edge-of b)) (cond (leb (q .floor) (key b)) (got (after-link q b)) (refused 4 at)) (refused 3 at)
+
+abbrev pub due : State → Due
+due start = due-head
+due (within q ks es) = due-entry q
+
+abbrev pub judge : State → ℕ → ℕ → ℕ → List ℕ → Answer State
+judge start at next t b = onward (λ q. got (within q [] [])) (head-of at b)
+judge (within q ks es) at next t b =
+    cond (eqb (q .kindless) 0)
+    (onward (λ q′. got (within q′ ks (es ++ (edge-of b ∷ [])))) (link-of q at b))
+    (onward (λ q′. got (within q′ (ks ++ (getD b 0 0 ∷ [])) es)) (kind-of q at b))
+
+abbrev pub no-register : Register
+no-register = record { kinds = []; links = [] }
+
+abbrev pub value : State → Register
+value start = no-register
+value (within q ks es) = record { kinds = ks; links = es }
+
+abbrev pub register-form : Form
+register-form = record { State = State; Value = Register; start = start; due = due; judge = judge; value = value }
+
+-- the register in a file; one with no records where the file is refused
+abbrev pub value-of : Answer Register → Register
+value-of (got r) = r
+value-of (refused n p) = no-register
+
+unfoldable pub register-in : List ℕ → Register
+register-in s = value-of (read register-form s)

@@ -1,0 +1,267 @@
+// Reads a register's file, and hands on its kinds and links from where they lie.
+use fields::Due;
+use fields::File;
+use fields::Kind;
+use fields::Link;
+use fields::Refusal;
+use fields::Seen;
+ghost use mathlib.Core.Path.{_≡_};
+ghost use Prim.Native.Nat.{_<_};
+ghost use lib.ListN.{length};
+ghost use Rattle.fields.specs.Reading.{read};
+ghost use Rattle.theory.specs.Register.{records, kind};
+ghost use Rattle.register.specs.Form.{head-of, kind-of, link-of, key, register-form, register-in};
+ghost use Rattle.register.specs.Said.{due-of, entry-of, judged, Ready, turn-said, outcome-said, sizes-of, sized};
+ghost use Rattle.register.specs.Ahead.{Accepted, Ahead, SomeAhead, Next};
+
+// How far the reading has come: the numbers of records and links, of records whose kind is due, of links left, and the least key allowed next.
+pub struct Progress {
+    pub records: u16,
+    pub links: u16,
+    pub kindless: u16,
+    pub left: u16,
+    pub floor: u64,
+}
+
+pub enum Position {
+    Start,
+    Within(Progress),
+}
+
+pub enum Turn {
+    Go(Progress),
+    Stop(Refusal),
+}
+
+// The numbers of records and links; or the refusal.
+pub enum Outcome {
+    Accepted(usize, usize),
+    Refused(Refusal),
+}
+
+fn judge_head(at: usize, b: &[u8]) -> Turn
+    requires { ⌜ length (now b) ≡ 4 ⌝ }
+    ensures { λ r. ⌜ turn-said r ≡ head-of at (now (b .entry)) ⌝ }
+{
+    let records = fields::two(b, 0);
+    let links = fields::two(b, 2);
+    if 1024 < records {
+        return Turn::Stop(Refusal::OutOfRange(at));
+    }
+    if 4096 < links {
+        return Turn::Stop(Refusal::OutOfRange(at));
+    }
+    Turn::Go(Progress {
+        records,
+        links,
+        kindless: records,
+        left: links,
+        floor: 0,
+    })
+}
+
+fn judge_kind(q: Progress, at: usize, b: &[u8]) -> Turn
+    requires { ⌜ (length (now b) ≡ 1) × (0 < q .kindless) ⌝ }
+    ensures { λ r. ⌜ turn-said r ≡ kind-of q at (now (b .entry)) ⌝ }
+{
+    if 64 <= b[0] {
+        return Turn::Stop(Refusal::OutOfRange(at));
+    }
+    Turn::Go(Progress {
+        records: q.records,
+        links: q.links,
+        kindless: q.kindless - 1,
+        left: q.left,
+        floor: q.floor,
+    })
+}
+
+fn long(n: u16) -> u64
+    ensures { λ r. ⌜ (r ≡ n) × (r < 65536) ⌝ }
+{
+    n as u64
+}
+
+fn wide(b: u8) -> u64
+    ensures { λ r. ⌜ (r ≡ b) × (r < 256) ⌝ }
+{
+    b as u64
+}
+
+// From, link and to as one number, by which links ascend.
+fn key_of(b: &[u8]) -> u64
+    requires { ⌜ length (now b) ≡ 5 ⌝ }
+    ensures { λ r. ⌜ (r ≡ key (now (b .entry))) × (r < 1099511627776) ⌝ }
+{
+    (long(fields::two(b, 0)) * 256 + wide(b[2])) * 65536 + long(fields::two(b, 3))
+}
+
+fn judge_link(q: Progress, at: usize, b: &[u8]) -> Turn
+    requires { ⌜ (length (now b) ≡ 5) × (0 < q .left) ⌝ }
+    ensures { λ r. ⌜ turn-said r ≡ link-of q at (now (b .entry)) ⌝ }
+{
+    let records = q.records;
+    if records <= fields::two(b, 0) {
+        return Turn::Stop(Refusal::OutOfRange(at));
+    }
+    if 64 <= b[2] {
+        return Turn::Stop(Refusal::OutOfRange(at));
+    }
+    if records <= fields::two(b, 3) {
+        return Turn::Stop(Refusal::OutOfRange(at));
+    }
+    let key = key_of(b);
+    if key < q.floor {
+        return Turn::Stop(Refusal::NotAscending(at));
+    }
+    Turn::Go(Progress {
+        records,
+        links: q.links,
+        kindless: q.kindless,
+        left: q.left - 1,
+        floor: key + 1,
+    })
+}
+
+fn judge_entry(q: Progress, at: usize, b: &[u8]) -> Turn
+    requires { ⌜ Ready (Position.Within q) (length (now b)) ⌝ }
+    ensures { λ r. ⌜ turn-said r ≡ entry-of q at (now (b .entry)) ⌝ }
+{
+    if q.kindless == 0 {
+        return judge_link(q, at, b);
+    }
+    judge_kind(q, at, b)
+}
+
+fn judge(st: Position, at: usize, b: &[u8]) -> Turn
+    requires { ⌜ Ready st (length (now b)) ⌝ }
+    ensures { λ r. ⌜ turn-said r ≡ judged st at (now (b .entry)) ⌝ }
+{
+    match st {
+        Position::Start => judge_head(at, b),
+        Position::Within(q) => judge_entry(q, at, b),
+    }
+}
+
+fn due_at(st: Position) -> Due
+    ensures { λ r. ⌜ r ≡ due-of st ⌝ }
+{
+    match st {
+        Position::Start => Due {
+            file: File::Register,
+            lo: 0x31,
+            hi: 0x31,
+            ends: false,
+            over: false,
+        },
+        Position::Within(q) => {
+            if q.kindless == 0 {
+                let over = q.left == 0;
+                return Due {
+                    file: File::Register,
+                    lo: 0x33,
+                    hi: 0x33,
+                    ends: over,
+                    over,
+                };
+            }
+            Due {
+                file: File::Register,
+                lo: 0x32,
+                hi: 0x32,
+                ends: false,
+                over: false,
+            }
+        }
+    }
+}
+
+// The outcome where the file ends.
+fn sizes(st: Position) -> Outcome
+    ensures { λ r. ⌜ outcome-said r ≡ sizes-of st ⌝ }
+{
+    match st {
+        Position::Start => Outcome::Accepted(0, 0),
+        Position::Within(q) => Outcome::Accepted(q.records as usize, q.links as usize),
+    }
+}
+
+pub fn read(s: &[u8]) -> Outcome
+    ensures { λ r. ⌜ outcome-said r ≡ sized (read register-form (now (s .entry))) ⌝ }
+{
+    let mut st = Position::Start;
+    let mut at = 0;
+    loop {
+        match fields::field(s, at, due_at(st)) {
+            Seen::Ends => {
+                return sizes(st);
+            }
+            Seen::Wrong(r) => {
+                return Outcome::Refused(r);
+            }
+            Seen::Body(_, len) => match judge(st, at, fields::body_at(s, at)) {
+                Turn::Stop(r) => {
+                    return Outcome::Refused(r);
+                }
+                Turn::Go(q) => {
+                    st = Position::Within(q);
+                    at = at + 3 + len as usize;
+                }
+            },
+        }
+    }
+}
+
+// The kind of record i of the register in a file.
+pub fn kind_at(s: &[u8], i: usize) -> Kind
+    requires { ⌜ i < records (register-in (now s)) ⌝ }
+    ensures { λ r. ⌜ r .0 ≡ kind (register-in (now (s .entry))) i ⌝ }
+{
+    Kind(s[10 + 4 * i])
+}
+
+// The links still to come of an accepted file: the place of the next one, and their number.
+pub struct Links {
+    pub at: usize,
+    pub left: usize,
+}
+
+// No link is left; or the next one (from record, link, to record) and those after it.
+pub enum NextLink {
+    Done,
+    Link(usize, Link, usize, Links),
+}
+
+pub fn links_of(s: &[u8]) -> Links
+    requires { ⌜ Accepted (now s) ⌝ }
+    ensures { λ r. ⌜ Ahead (now (s .entry)) r (register-in (now (s .entry)) .links) ⌝ }
+{
+    let records = fields::two(s, 3) as usize;
+    let left = fields::two(s, 5) as usize;
+    Links {
+        at: 7 + 4 * records,
+        left,
+    }
+}
+
+pub fn next_link(s: &[u8], c: Links) -> NextLink
+    requires { ⌜ SomeAhead (now s) c ⌝ }
+    ensures { λ r. ⌜ Next (now (s .entry)) c r ⌝ }
+{
+    if c.left == 0 {
+        return NextLink::Done;
+    }
+    let at = c.at;
+    let from = fields::two(s, at + 3) as usize;
+    let label = Link(s[at + 5]);
+    let to = fields::two(s, at + 6) as usize;
+    NextLink::Link(
+        from,
+        label,
+        to,
+        Links {
+            at: at + 8,
+            left: c.left - 1,
+        },
+    )
+}

@@ -55,5 +55,5 @@ symbol-said (read.Refused r) = refusal-said r
 symbol-said (read.Is x) = got (numbered (x .number) (x .set))
 
 abbrev pub push-said : declared·Pushed.Pushed → Answer Stack
-push-said (pushed.Lacking r) = refusal-said r
+push-said (pushed.Refused r) = refusal-said r
 push-said (pushed.Stands q) = got q

@@ -314,7 +314,7 @@ pub struct Stack {
 }
 
 pub enum Pushed {
-    Lacking(Refusal),
+    Refused(Refusal),
     Stands(Stack),
 }
 
@@ -324,12 +324,12 @@ pub fn push_symbol(q: Stack, at: usize, next: usize, k: u8) -> Pushed
     ensures { λ r. ⌜ push-said r ≡ push q at next k ⌝ }
 {
     if q.depth < k {
-        return Pushed::Lacking(Refusal::Operands(at));
+        return Pushed::Refused(Refusal::Operands(at));
     }
     let depth = q.depth - k + 1;
     if q.left == 1 {
         if depth != 1 {
-            return Pushed::Lacking(Refusal::Operands(next));
+            return Pushed::Refused(Refusal::Operands(next));
         }
     }
     Pushed::Stands(Stack {

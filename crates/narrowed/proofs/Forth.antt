@@ -24,27 +24,27 @@ use Rattle.narrowed.proofs.Lies.{field-lies, ends-lie}
 use Rattle.narrowed.proofs.Symbols.{symbol-fits, symbol-short, symbol-reads, push-anywhere}
 use Rattle.narrowed.proofs.Ahead.{member-of, one-more}
 
-head-fits : fitting (due head) 0x41 2 ≡ true
+pub head-fits : fitting (due head) 0x41 2 ≡ true
 unfolding fitting among rows
 head-fits = refl
 
-open-fits : (left : ℕ) (prev : List ℕ) (ms : List Flat) → fitting (due (between left prev ms)) 0x42 17 ≡ true
+pub open-fits : (left : ℕ) (prev : List ℕ) (ms : List Flat) → fitting (due (between left prev ms)) 0x42 17 ≡ true
 unfolding fitting among rows
 open-fits left prev ms = refl
 
 -- the member that its 42 opens
-abbrev opened : ℕ → Flat → Open
+abbrev pub opened : ℕ → Flat → Open
 opened at m = open-as at (m .from) (m .to) (record { left = length (m .symbols); depth = 0 }) []
 
 -- the body of its 42
-abbrev head-body : Flat → List ℕ
+abbrev pub head-body : Flat → List ℕ
 head-body m = length (m .symbols) ∷ (eight-bytes (m .from) ++ eight-bytes (m .to))
 
-from-back : (m : Flat) → eight (head-body m) 1 ≡ m .from
+pub from-back : (m : Flat) → eight (head-body m) 1 ≡ m .from
 unfolding eight
 from-back m = eight-back (m .from)
 
-to-back : (m : Flat) → eight (head-body m) 9 ≡ m .to
+pub to-back : (m : Flat) → eight (head-body m) 9 ≡ m .to
 unfolding eight
 to-back m = eight-back (m .to)
 

@@ -83,13 +83,13 @@ symbol-short x = go (ltb (x .number) 128) (eqb (x .number) 255)
     go false true = omega arith
     go false false = omega arith
 
-step-back : (at c : ℕ) → c < 128 → step-of at (c / 64 ∷ c % 64 ∷ []) ≡ got (numbered c 0)
+pub step-back : (at c : ℕ) → c < 128 → step-of at (c / 64 ∷ c % 64 ∷ []) ≡ got (numbered c 0)
 unfolding step-of
 step-back at c h =
     let p : c / 64 * 64 + c % 64 ≡ c = omega arith in
     rw (lt-ltb (c / 64) 2 (omega arith), lt-ltb (c % 64) 64 (omega arith), p)
 
-operator-back : (at c : ℕ) → 128 ≤ c → c ≤ 133 → operator-of at (c ∷ []) ≡ got (numbered c 0)
+pub operator-back : (at c : ℕ) → 128 ≤ c → c ≤ 133 → operator-of at (c ∷ []) ≡ got (numbered c 0)
 unfolding operator-of
 operator-back at c l h = rw (le-leb 128 c l, le-leb c 133 h)
 

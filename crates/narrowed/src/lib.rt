@@ -119,7 +119,7 @@ fn grow(l: u8, p: usize, q: Stack, at: usize, next: usize, tag: u8, b: &[u8]) ->
             let c = x.number;
             let m = x.set;
             match fields::push_symbol(q, at, next, fields::operands(c)) {
-                Pushed::Lacking(r) => Turn::Stop(r),
+                Pushed::Refused(r) => Turn::Stop(r),
                 Pushed::Stands(t) => {
                     if t.left == 0 {
                         return Turn::Last(c, m, l, p);
@@ -154,7 +154,7 @@ fn code(number: u8) -> u8
 }
 
 // Of symbols one after the other: those from a to b come before those from b to e.
-fn earlier(numbers: &[u8], a: usize, b: usize, e: usize) -> bool
+pub fn earlier(numbers: &[u8], a: usize, b: usize, e: usize) -> bool
     requires { ⌜ (a ≤ b) × ((b ≤ e) × (e ≤ length (now numbers))) ⌝ }
     ensures { λ r. ⌜ r ≡ before? (segment-codes (now (numbers .entry)) a b) (segment-codes (now (numbers .entry)) b e) ⌝ }
 {

@@ -77,7 +77,7 @@ fn grow(q: Stack, at: usize, next: usize, tag: u8, b: &[u8]) -> Turn
         Read::Is(x) => {
             let c = x.number;
             match fields::push_symbol(q, at, next, fields::operands(c)) {
-                Pushed::Lacking(r) => Turn::Stop(r),
+                Pushed::Refused(r) => Turn::Stop(r),
                 Pushed::Stands(t) => Turn::More(c, t),
             }
         }

@@ -12,13 +12,15 @@ use borrow.Author.Tests.{leb-true, lt-leb, le-leb}
 use Rattle.theory.specs.PathExpr.{before?}
 use Rattle.fields.specs.declared.Stack.{Stack}
 use Rattle.fields.specs.Answer.{Answer, got, refused, onward}
-use Rattle.fields.specs.Symbols.{Numbered, arity, push, order-code}
+use Rattle.fields.specs.Symbols.{Numbered, arity, order-code}
 use Rattle.fields.proofs.Bools.{cond-then, not-got, onward-got, and-right}
 use Rattle.fields.proofs.Symbols.{push-got}
 use Rattle.narrowed.specs.declared.Members.{Members}
-use Rattle.narrowed.specs.Form.{Flat, order-codes}
+use Rattle.narrowed.specs.Form.{order-codes}
 use Rattle.narrowed.specs.Given.{symbols-given, members-given, given}
 use Rattle.narrowed.specs.Said.{segment-codes}
+use Rattle.bytes.proofs.Parts.{symbols-many, members-many}
+use Rattle.bytes.specs.Wrote.{Few}
 use Rattle.writing.specs.Verdict.{symbol-size, symbol?, offered, path-verdict, member-verdict, numbers, members-verdict, verdict}
 
 -- the first of some elements from k on
@@ -29,7 +31,7 @@ take-more l k (suc n) p h =
     let j : n ≡ suc n - 1 = omega arith in
     ap (take (suc n)) (drop-cons l k 0 (omega arith)) ∙ ap₂ (λ (a b : ℕ). getD l k 0 ∷ take b (drop a l)) i j
 
-offered-got : (q : Stack) (at c : ℕ) (q′ : Stack) → offered q at c ≡ got q′ → (q′ .left ≡ q .left - 1) × (q′ .depth ≤ q .depth + 1)
+pub offered-got : (q : Stack) (at c : ℕ) (q′ : Stack) → offered q at c ≡ got q′ → (q′ .left ≡ q .left - 1) × (q′ .depth ≤ q .depth + 1)
 unfolding offered
 offered-got q at c q′ e =
     let h = push-got q at (at + symbol-size c) (arity c) q′ (cond-then (symbol? c) (not-got 3 at q′) e .1) in
@@ -69,10 +71,6 @@ module _ {l : List ℕ} {k n at : ℕ} {q : Stack} {i place : ℕ} (r : AtSymbol
         }
 
 -- ---- a member's symbols, as the arrays have them
-pub given-length : (ns ms : List ℕ) (n k : ℕ) → length (symbols-given ns ms n k) ≡ n
-given-length ns ms zero k = refl
-given-length ns ms (suc n) k = ap suc (given-length ns ms n (suc k))
-
 given-numbers : (ns ms : List ℕ) (n k : ℕ) → k + n ≤ length ns → numbers (symbols-given ns ms n k) ≡ take n (drop k ns)
 given-numbers ns ms zero k h = refl
 given-numbers ns ms (suc n) k h = ap (λ (l : List ℕ). getD ns k 0 ∷ l) (given-numbers ns ms n (suc k) (omega arith)) ∙ ap (take (suc n)) (sym (drop-cons ns k 0 (omega arith)))
@@ -128,21 +126,17 @@ pub record AtMember (q : Members) (i at prev first : ℕ) : Type 0 where
   pub used : first ≤ 48 * i
   pub bound : at ≤ 5 + 548 * i
 
-members-length : (q : Members) (n i k : ℕ) → length (members-given q n i k) ≡ n
-members-length q zero i k = refl
-members-length q (suc n) i k = ap suc (members-length q n (suc i) (k + getD (q .sizes) i 0))
-
 pub many-refused : (q : Members) → 128 < q .count → refused 3 0 ≡ verdict (given q)
 unfolding given verdict
-many-refused q h = simp (members-length q (q .count) 0 0, lt-leb (q .count) 128 h)
+many-refused q h = simp (members-many q (q .count) 0 0, lt-leb (q .count) 128 h)
 
 pub member-start : (q : Members) → q .count ≤ 128 → AtMember q 0 5 0 0
 unfolding given verdict
 member-start q h = record {
   rest =
-    let z : q .count - 0 ≡ q .count = omega arith in
-    let w : members-verdict [] 5 (given q) ≡ verdict (given q) = simp (members-length q (q .count) 0 0, le-leb (q .count) 128 h) in
-    ap (λ (m : ℕ). members-verdict [] 5 (members-given q m 0 0)) z ∙ w;
+      let z : q .count - 0 ≡ q .count = omega arith in
+      let w : members-verdict [] 5 (given q) ≡ verdict (given q) = simp (members-many q (q .count) 0 0, le-leb (q .count) 128 h) in
+      ap (λ (m : ℕ). members-verdict [] 5 (members-given q m 0 0)) z ∙ w;
   few = h;
   index = omega arith;
   ordered = omega arith;
@@ -175,7 +169,7 @@ module _ {q : Members} {i at prev first : ℕ} (r : AtMember q i at prev first) 
 
     same : member-verdict at (length xs) (numbers xs) ≡ member-verdict at size found
     same =
-        ap (λ (n : ℕ). member-verdict at n (numbers xs)) (given-length (q .numbers) (q .sets) size first)
+        ap (λ (n : ℕ). member-verdict at n (numbers xs)) (symbols-many (q .numbers) (q .sets) size first)
         ∙ member-same at size (numbers xs) found (λ z. given-numbers (q .numbers) (q .sets) size first (omega (arith, r .used, r .few)))
 
     step-member : onward onwards (member-verdict at size found) ≡ verdict (given q)
@@ -215,3 +209,26 @@ module _ {q : Members} {i at prev first : ℕ} (r : AtMember q i at prev first) 
             used = omega (arith, r .used, member-size);
             bound = omega (arith, r .bound, member-size, member-few at size found next e .1, length-take-le size (drop first (q .numbers)) (omega (arith, length-drop first (q .numbers), r .used, r .few, member-size)));
           }
+
+-- ---- what is not refused has few members, each of few symbols
+members-few : (q : Members) (n i k : ℕ) (prev : List ℕ) (at next : ℕ) → members-verdict prev at (members-given q n i k) ≡ got next → (j : ℕ) → j < n → getD (q .sizes) (i + j) 0 ≤ 48
+members-few q zero i k prev at next e j h = absurd (omega arith)
+members-few q (suc n) i k prev at next e j h =
+    let ys = symbols-given (q .numbers) (q .sets) (getD (q .sizes) i 0) k in
+    let (a, f, e′) = onward-got (λ b. cond (before? prev (order-codes ys)) (members-verdict (order-codes ys) b (members-given q n (suc i) (k + getD (q .sizes) i 0))) (refused 4 at))
+    (member-verdict at (length ys) (numbers ys)) next e in
+    let here : getD (q .sizes) i 0 ≤ 48 = subst (λ (m : ℕ). m ≤ 48) (symbols-many (q .numbers) (q .sets) (getD (q .sizes) i 0) k) (member-few at (length ys) (numbers ys) a f .0) in
+    let on = cond-then (before? prev (order-codes ys)) (not-got 4 at next) e′ .1 in
+    by-index j h here (members-few q n (suc i) (k + getD (q .sizes) i 0) (order-codes ys) a next on)
+  where
+    by-index : (j : ℕ) → j < suc n → getD (q .sizes) i 0 ≤ 48 → ((j : ℕ) → j < n → getD (q .sizes) (suc i + j) 0 ≤ 48) → getD (q .sizes) (i + j) 0 ≤ 48
+    by-index zero h here rest = let z : i ≡ i + 0 = omega arith in subst (λ (m : ℕ). getD (q .sizes) m 0 ≤ 48) z here
+    by-index (suc j) h here rest = let z : suc i + j ≡ i + suc j = omega arith in subst (λ (m : ℕ). getD (q .sizes) m 0 ≤ 48) z (rest j (omega arith))
+
+pub verdict-few : (q : Members) (next : ℕ) → verdict (given q) ≡ got next → Few q
+unfolding given verdict
+verdict-few q next e =
+    let a = cond-then (leb (length (members-given q (q .count) 0 0)) 128) (not-got 3 0 next) e in
+    let c = leb-true (length (members-given q (q .count) 0 0)) 128 (a .0) in
+    let few = members-few q (q .count) 0 0 [] 5 next (a .1) in
+    (omega (arith, members-many q (q .count) 0 0), λ i h. let z : 0 + i ≡ i = omega arith in subst (λ (m : ℕ). getD (q .sizes) m 0 ≤ 48) z (few i h))

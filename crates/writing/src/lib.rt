@@ -8,6 +8,7 @@ ghost use Prim.Native.Nat.{_+_, _*_, _≤_, _<_};
 ghost use lib.ListN.{length, take, drop};
 ghost use Rattle.fields.specs.Said.{push-said};
 ghost use Rattle.narrowed.specs.Given.{given};
+ghost use Rattle.writing.specs.Outcome.{Writes};
 ghost use Rattle.writing.specs.Verdict.{symbol-size, symbol?, offered, path-verdict, member-verdict, verdict, place-said};
 
 // The place after what was judged, or why it is refused.
@@ -121,4 +122,25 @@ fn judge(q: Members) -> Place
         }
     }
     Place::At(at)
+}
+
+// The number of bytes written, or why none was.
+pub enum Written {
+    Accepted(usize),
+    Refused(Refusal),
+}
+
+// Writes the members that it is given, of any contents, as a narrowed question's file.
+pub fn write(q: Members, out: &mut [u8]) -> Written
+    ensures { λ r. ⌜ Writes q (now (out .entry)) r (now (out .exit)) ⌝ }
+{
+    match judge(q) {
+        Place::Refused(r) => Written::Refused(r),
+        Place::At(n) => {
+            if out.len() < n {
+                return Written::Refused(Refusal::AreaShort(n));
+            }
+            Written::Accepted(bytes::put_members(q, out))
+        }
+    }
 }

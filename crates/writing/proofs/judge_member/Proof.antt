@@ -1,31 +1,25 @@
-use borrow.Author.Tests.{lt-ltb, lt-leb, le-ltb, le-leb, eq-eqb, ne-eqb}
+-- `writing::judge_member` meets its contract.
+-- Assumes nothing.
+use borrow.Author.Tests.{lt-leb, le-leb}
 use Rattle.writing.specs.Verdict.{member-verdict}
 use borrow.Author.Needs.{needs}
 use Rattle.writing.proofs.judge_member.Statement.{statement}
 use Rattle.writing.proofs.judge_member.Tie as tie
-use Rattle.writing.proofs.judge_member.Reads as reads
-use Rattle.writing.proofs.judge_member.Lts as lts
-use Rattle.writing.proofs.judge_path.Reads as judge-path-reads
 
--- src/lib.rt:75:9
 returns : tie.Need-returns
 unfolding member-verdict
 returns c = simp (lt-leb _ _ (c .if1 .taken))
 
--- src/lib.rt:78:9
 returns-2 : tie.Need-returns-2
 unfolding member-verdict
 returns-2 c = simp (lt-leb _ _ (c .if2 .taken), le-leb _ _ (c .before .if1 .left))
 
--- src/lib.rt:80:31
 add-judge-path : tie.Need-add-judge-path
 add-judge-path c = search needs
 
--- src/lib.rt:80:5
 judge-path-requires : tie.Need-judge-path-requires
 judge-path-requires c κs = search needs
 
--- src/lib.rt:70:1
 returns-3 : tie.Need-returns-3
 unfolding member-verdict
 returns-3 c = simp (le-leb _ _ (c .before .if2 .left), le-leb _ _ (c .before .before .if1 .left)) (c .judge-path .ensures)

@@ -1,16 +1,14 @@
+-- `writing::judge_path` meets its contract.
+-- Assumes nothing.
 use mathlib.Core.Path.{_∙_, ap, sym}
 use Rattle.fields.specs.Said.{push-said}
 use lib.ListN.{length}
 use Rattle.writing.proofs.Judging.{AtSymbol, path-start, path-ends, path-refused, path-more}
 use borrow.Author.Needs.{needs}
-use Prim.Native.Nat.{ℕ, _+_, _-_, _*_, _≤_, _<_}
+use Prim.Native.Nat.{_+_, _≤_, _<_}
 use native.Mathlib.Omega.{arith}
 use Rattle.writing.proofs.judge_path.Statement.{statement}
 use Rattle.writing.proofs.judge_path.Tie as tie
-use Rattle.writing.proofs.judge_path.Reads as reads
-use Rattle.writing.proofs.judge_path.Lts as lts
-use Rattle.writing.proofs.offer.Reads as offer-reads
-use Rattle.writing.proofs.symbol_size.Reads as symbol-size-reads
 
 abbrev Inv-loop : tie.InvT-loop
 Inv-loop numbers k n at q₀ i₀ place₀ q i place = AtSymbol numbers k n at q i place × (k + n ≤ length numbers) × (at < 100000)
@@ -18,51 +16,39 @@ Inv-loop numbers k n at q₀ i₀ place₀ q i place = AtSymbol numbers k n at q
 abbrev μ-loop : tie.MeasureT-loop
 μ-loop numbers k n at q₀ i₀ place₀ q i place = q .left
 
--- src/lib.rt:53:5
 loop-holds : tie.Need-loop-holds Inv-loop μ-loop
 loop-holds c = (path-start _ _ _ _, c .before .pre .0, c .before .pre .1)
 
--- src/lib.rt:54:17
 shared-slice-read-c : tie.Need-shared-slice-read-c Inv-loop μ-loop
 shared-slice-read-c c = search needs
 
--- src/lib.rt:55:15
 offer-requires : tie.Need-offer-requires Inv-loop μ-loop
 offer-requires c κs = search needs
 
--- src/lib.rt:56:29
 enum-known-r : tie.Need-enum-known-r Inv-loop μ-loop
 enum-known-r c = search needs
 
--- src/lib.rt:57:17
 returns : tie.Need-returns Inv-loop μ-loop
 returns c = path-refused (c .before .before .before .before .before .before .before .loop .inv .0) (c .before .before .before .before .before .if1 .taken) (c .before .before .before .before .before .before .before .loop .inv .1) _ _ (sym (c .before .before .before .offer .ensures) ∙ ap push-said (c .before .r .given .1))
 
--- src/lib.rt:59:28
 enum-known-t : tie.Need-enum-known-t Inv-loop μ-loop
 enum-known-t c = search needs
 
--- src/lib.rt:60:33
 symbol-size-requires : tie.Need-symbol-size-requires Inv-loop μ-loop
 symbol-size-requires c κs = search needs
 
--- src/lib.rt:60:25
 add-place : tie.Need-add-place Inv-loop μ-loop
 add-place c = search needs
 
--- src/lib.rt:61:17
 add-i : tie.Need-add-i Inv-loop μ-loop
 add-i c = search needs
 
--- src/lib.rt:53:5
 loop-less : tie.Need-loop-less Inv-loop μ-loop
 loop-less c = let l = path-more (c .before .before .before .before .before .before .before .before .loop .inv .0) (c .before .before .before .before .before .before .if1 .taken) (c .before .before .before .before .before .before .before .before .loop .inv .1) _ _ (c .symbol-size .ensures .0) (c .symbol-size .ensures .1) (sym (c .before .before .before .before .offer .ensures) ∙ ap push-said (c .before .before .t .given .1)) .left in omega (arith, l, c .before .before .before .before .before .before .before .before .loop .inv .0 .left, c .before .before .before .before .before .before .if1 .taken)
 
--- src/lib.rt:53:5
 loop-again : tie.Need-loop-again Inv-loop μ-loop
 loop-again c = (path-more (c .before .before .before .before .before .before .before .before .loop .inv .0) (c .before .before .before .before .before .before .if1 .taken) (c .before .before .before .before .before .before .before .before .loop .inv .1) _ _ (c .symbol-size .ensures .0) (c .symbol-size .ensures .1) (sym (c .before .before .before .before .offer .ensures) ∙ ap push-said (c .before .before .t .given .1)), c .before .before .before .before .before .before .before .before .loop .inv .1, c .before .before .before .before .before .before .before .before .loop .inv .2)
 
--- src/lib.rt:46:1
 returns-2 : tie.Need-returns-2 Inv-loop μ-loop
 returns-2 c = path-ends (c .before .before .loop .inv .0) (omega (arith, c .if1 .left))
 

@@ -1,6 +1,7 @@
 -- What the writer makes of the members that it is given.
 -- 01-scope.md: "What the writer is given is judged as the file it would make: same number, same place, before 14."
 -- Assumes nothing.
+use mathlib.Core.Path.{_≡_}
 use mathlib.Core.Bool.{cond}
 use mathlib.Core.List.{List}
 use Prim.Native.Nat.{ℕ}
@@ -13,6 +14,9 @@ use Rattle.narrowed.specs.declared.Members.{Members}
 use Rattle.narrowed.specs.Form.{Flat, narrowed-form}
 use Rattle.narrowed.specs.Writing.{encode}
 use Rattle.narrowed.specs.Given.{given}
+use Rattle.fields.specs.Said.{refusal-said}
+use Rattle.writing.specs.declared.Written.{Written}
+use Rattle.writing.specs.declared.Written.the-variants as written-as
 
 -- ---- the outcome: the file's refusal; else 14 with the bytes needed; else the number of bytes
 abbrev pub written : Answer (List Flat) → List ℕ → ℕ → Answer ℕ
@@ -30,3 +34,12 @@ file-of q = encode (given q)
 
 unfoldable pub judgement : Members → Answer (List Flat)
 judgement q = read narrowed-form (file-of q)
+
+-- ---- what the code says
+abbrev pub written-said : Written → Answer ℕ
+written-said (written-as.Accepted n) = got n
+written-said (written-as.Refused r) = refusal-said r
+
+pub record Writes (q : Members) (before : List ℕ) (r : Written) (after : List ℕ) : Type 0 where
+  pub outcome : written-said r ≡ written (judgement q) (file-of q) (length before)
+  pub area : after ≡ area-after (judgement q) (file-of q) before

@@ -1,0 +1,21 @@
+-- `bytes::put_through` meets its contract.
+-- Assumes nothing.
+use Rattle.bytes.proofs.Along.{wrote-more}
+use borrow.Author.Needs.{needs}
+use Rattle.bytes.proofs.put_through.Statement.{statement}
+use Rattle.bytes.proofs.put_through.Tie as tie
+
+put-head-requires : tie.Need-put-head-requires
+put-head-requires c κs = search needs
+
+put-eight-requires : tie.Need-put-eight-requires
+put-eight-requires c κs = search needs
+
+same-length : tie.Need-same-length
+same-length c = search needs
+
+returns : tie.Need-returns
+returns c = wrote-more (c .before .before .before .before .before .before .put-head .ensures) (c .before .before .put-eight .ensures)
+
+pub put-through-spec : {M : Type 1} → statement M
+put-through-spec = tie.close (tie.spec put-head-requires put-eight-requires same-length returns)

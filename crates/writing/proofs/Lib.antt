@@ -1,3 +1,4 @@
 pub mod Judging
 pub mod Verdict
 pub mod Outcomes
+pub mod RoundTrips

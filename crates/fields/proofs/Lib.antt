@@ -8,3 +8,5 @@ pub mod Going
 pub mod Accepted
 -- symbols
 pub mod Symbols
+pub mod Numbers
+pub mod Counting

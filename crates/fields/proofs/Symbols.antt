@@ -1,49 +1,51 @@
 -- The symbols of a path: what is known of one that was read, and of the stack after it.
 -- Assumes nothing.
-use mathlib.Core.Path.{_≡_, sym, ap}
-use mathlib.Core.Logic.{_⊎_, inl, inr}
+use mathlib.Core.Path.{_≡_, refl, sym, ap}
 use mathlib.Core.Bool.{Bool, true, false, cond, not, _&&_}
 use mathlib.Core.List.{List}
-use Prim.Native.Nat.{ℕ, _+_, _-_, _*_, _<_}
+use Prim.Native.Nat.{ℕ, _+_, _-_, _*_, _<_, _≤_}
 use native.Mathlib.Omega.{arith}
 use lib.Dec.{ltb, leb, eqb}
 use lib.ListN.{getD}
-use borrow.Author.Tests.{ltb-true, leb-true}
+use borrow.Author.Tests.{ltb-true, leb-true, eqb-false}
 use Rattle.fields.specs.declared.Stack.{Stack}
 use Rattle.fields.specs.Answer.{got}
 use Rattle.fields.specs.Reading.{eight}
 use Rattle.fields.specs.Symbols.{Numbered, numbered, step-of, operator-of, symbol-in, push}
 use Rattle.fields.proofs.Bools.{cond-else, cond-then, and-left, and-right, not-got}
 
--- a step or an operator, without a set; or a join through a set
-abbrev pub Right : Numbered → Type 0
-Right x = ((x .number < 134) × (x .set ≡ 0)) ⊎ (x .number ≡ 255)
+-- a step or an operator, without a set
+abbrev pub Plain : Numbered → Type 0
+Plain x = (x .number < 134) × (x .set ≡ 0)
 
-step-right : (at : ℕ) (b : List ℕ) (x : Numbered) → step-of at b ≡ got x → Right x
+step-plain : (at : ℕ) (b : List ℕ) (x : Numbered) → step-of at b ≡ got x → Plain x
 unfolding step-of
-step-right at b x e =
+step-plain at b x e =
     let a = cond-then (ltb (getD b 0 0) 2 && ltb (getD b 1 0) 64) (not-got 3 at x) e in
     let z : numbered (getD b 0 0 * 64 + getD b 1 0) 0 ≡ x = cc (a .1) in
     let d = ltb-true (getD b 0 0) 2 (and-left _ (ltb (getD b 1 0) 64) (a .0)) in
     let l = ltb-true (getD b 1 0) 64 (and-right (ltb (getD b 0 0) 2) _ (a .0)) in
-    inl (omega (arith, ap (λ (y : Numbered). y .number) z), sym (ap (λ (y : Numbered). y .set) z))
+    (omega (arith, ap (λ (y : Numbered). y .number) z), sym (ap (λ (y : Numbered). y .set) z))
 
-operator-right : (at : ℕ) (b : List ℕ) (x : Numbered) → operator-of at b ≡ got x → Right x
+operator-plain : (at : ℕ) (b : List ℕ) (x : Numbered) → operator-of at b ≡ got x → Plain x
 unfolding operator-of
-operator-right at b x e =
+operator-plain at b x e =
     let a = cond-then (leb 128 (getD b 0 0) && leb (getD b 0 0) 133) (not-got 3 at x) e in
     let z : numbered (getD b 0 0) 0 ≡ x = cc (a .1) in
     let h = leb-true (getD b 0 0) 133 (and-right (leb 128 (getD b 0 0)) _ (a .0)) in
-    inl (omega (arith, ap (λ (y : Numbered). y .number) z), sym (ap (λ (y : Numbered). y .set) z))
+    (omega (arith, ap (λ (y : Numbered). y .number) z), sym (ap (λ (y : Numbered). y .set) z))
 
-pub symbol-right : (at t : ℕ) (b : List ℕ) (x : Numbered) → symbol-in at t b ≡ got x → Right x
+pub symbol-plain : (at t : ℕ) (b : List ℕ) (x : Numbered) → 0x43 ≤ t → t ≤ 0x44 → symbol-in at t b ≡ got x → Plain x
 unfolding symbol-in
-symbol-right at t b x e = by-tag (eqb t 0x43) (eqb t 0x44) e
+symbol-plain at t b x low high e = by-tag (eqb t 0x43) (eqb t 0x44) refl refl e
   where
-    by-tag : (p q : Bool) → cond p (step-of at b) (cond q (operator-of at b) (got (numbered 255 (eight b 0)))) ≡ got x → Right x
-    by-tag true q e = step-right at b x e
-    by-tag false true e = operator-right at b x e
-    by-tag false false e = let z : numbered 255 (eight b 0) ≡ x = cc in inr (sym (ap (λ (y : Numbered). y .number) z))
+    by-tag : (p q : Bool) → eqb t 0x43 ≡ p → eqb t 0x44 ≡ q → cond p (step-of at b) (cond q (operator-of at b) (got (numbered 255 (eight b 0)))) ≡ got x → Plain x
+    by-tag true q ep eq e = step-plain at b x e
+    by-tag false true ep eq e = operator-plain at b x e
+    by-tag false false ep eq e =
+        let y : t ≡ 0x43 → ⊥ = eqb-false t 0x43 ep in
+        let z : t ≡ 0x44 → ⊥ = eqb-false t 0x44 eq in
+        absurd (omega (arith, low, high))
 
 pub push-got : (q : Stack) (at next k : ℕ) (q′ : Stack) → push q at next k ≡ got q′ → (q′ .left ≡ q .left - 1) × (q′ .depth ≡ q .depth - k + 1)
 unfolding push
@@ -52,3 +54,11 @@ push-got q at next k q′ e =
     let b = cond-else (eqb (q .left) 1 && not (eqb (q .depth - k + 1) 1)) (not-got 6 next q′) (a .1) in
     let h : record { left = q .left - 1; depth = q .depth - k + 1 } ≡ q′ = cc (b .1) in
     (sym (ap (λ (p : Stack). p .left) h), sym (ap (λ (p : Stack). p .depth) h))
+
+-- where a symbol finds its operands, the places do not matter
+pub push-anywhere : (q : Stack) (at next at′ next′ k : ℕ) (q′ : Stack) → push q at next k ≡ got q′ → push q at′ next′ k ≡ got q′
+unfolding push
+push-anywhere q at next at′ next′ k q′ e =
+    let a = cond-else (ltb (q .depth) k) (not-got 6 at q′) e in
+    let b = cond-else (eqb (q .left) 1 && not (eqb (q .depth - k + 1) 1)) (not-got 6 next q′) (a .1) in
+    simp (a .0, b .0) (b .1)

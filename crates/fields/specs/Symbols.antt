@@ -1,12 +1,15 @@
 -- The symbols of a path: what a symbol's field holds, and the counting of operands.
 -- 01-scope.md, "Fields of a file": 43, 44, 45; refusals 3 and 6.
 -- Assumes nothing.
+use mathlib.Core.Path.{_≡_}
+use mathlib.Core.Logic.{_⊎_}
 use mathlib.Core.Bool.{cond, not, _&&_}
-use mathlib.Core.List.{List}
-use Prim.Native.Nat.{ℕ, _+_, _-_, _*_, zero, suc}
+use mathlib.Core.List.{List, [], _∷_}
+use Prim.Native.Nat.{ℕ, _+_, _-_, _*_, _<_, zero, suc}
 use lib.Dec.{leb, ltb, eqb}
 use lib.ListN.{getD}
-use Rattle.theory.specs.PathExpr.{forward, reverse, any, through, union, conjunction, branch-right, branch-left, Symbol, s-step, s-join, s-op, s-closure}
+use Rattle.theory.specs.PathExpr.{forward, reverse, any, through, union, conjunction, branch-right, branch-left, Symbol, s-step, s-join, s-op, s-closure, code}
+use Rattle.theory.specs.KindSet.{is-set}
 use Rattle.fields.specs.declared.File.{File}
 use Rattle.fields.specs.declared.Due.{Due}
 use Rattle.fields.specs.declared.Stack.{Stack}
@@ -71,3 +74,21 @@ push q at next k =
 -- what is due within a path: its symbols, and nothing after them
 abbrev pub due-symbols : File → Stack → Due
 due-symbols f q = record { file = f; lo = 0x43; hi = 0x45; ends = eqb (q .left) 0; over = eqb (q .left) 0 }
+
+-- the number of a symbol, and its set
+abbrev pub number-symbol : Symbol → Numbered
+number-symbol (s-step d l) = numbered (code (s-step d l)) 0
+number-symbol (s-join any) = numbered 128 0
+number-symbol (s-join (through m)) = numbered 255 m
+number-symbol (s-op o) = numbered (code (s-op o)) 0
+number-symbol s-closure = numbered 133 0
+
+-- ---- symbols that make a path
+-- a step or an operator, without a set; or a join through a set
+abbrev pub Fine : Numbered → Type 0
+Fine x = ((x .number < 134) × (x .set ≡ 0)) ⊎ ((x .number ≡ 255) × is-set (x .set))
+
+-- each symbol is fine and finds its operands, and they come to an end as the path does (the places do not matter here)
+abbrev pub Runs : Stack → List Numbered → Type 0
+Runs q [] = q .left ≡ 0
+Runs q (x ∷ xs) = Fine x × ((q′ : Stack) × (push q 0 0 (arity (x .number)) ≡ got q′) × Runs q′ xs)

@@ -15,7 +15,8 @@ use Rattle.fields.specs.Symbols.{Numbered}
 use Rattle.fields.proofs.Bools.{cond-then, not-got, and-left, and-right}
 use Rattle.narrowed.specs.Form.{Flat, flat, Open, open-as, State, head, between, within, order-codes, open-of}
 use Rattle.narrowed.specs.Writing.{two-bytes, eight-bytes, field-bytes, symbols-bytes, head-bytes, members-bytes, encode}
-use Rattle.narrowed.specs.Formed.{Runs, InOrder, WellFormed}
+use Rattle.fields.specs.Symbols.{Runs}
+use Rattle.narrowed.specs.Formed.{InOrder, WellFormed}
 use Rattle.narrowed.proofs.Bytes.{Bytes, listed, two-word, eight-of}
 
 abbrev pub member-of : Open → List Numbered → Flat

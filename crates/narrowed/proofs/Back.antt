@@ -17,14 +17,15 @@ use Rattle.fields.specs.Reading.{ends, body, field-at, word, eight, read}
 use Rattle.fields.specs.Symbols.{Numbered, symbol-in, arity, push, due-symbols}
 use Rattle.fields.proofs.Bools.{onward-got, cond-then, not-got}
 use Rattle.fields.proofs.Fields.{found, body-length, one-due, ended, in-path}
-use Rattle.fields.proofs.Symbols.{push-got}
+use Rattle.fields.proofs.Symbols.{push-anywhere, push-got}
 use Rattle.fields.proofs.Accepted.{accepted-ind}
 use Rattle.narrowed.specs.Form.{Flat, Open, open-as, State, head, between, within, order-codes, due, head-of, open-of, grown, judge, value, narrowed-form}
 use Rattle.narrowed.specs.Writing.{field-bytes, symbol-bytes, symbols-bytes, members-bytes, encode}
-use Rattle.narrowed.specs.Formed.{Fine, Runs, Formed, InOrder, WellFormed}
+use Rattle.fields.specs.Symbols.{Fine, Runs}
+use Rattle.narrowed.specs.Formed.{Formed, InOrder, WellFormed}
 use Rattle.narrowed.proofs.Bytes.{Bytes, bytes-take, bytes-drop, eight-set}
 use Rattle.narrowed.proofs.Lies.{field-split}
-use Rattle.narrowed.proofs.Symbols.{symbol-split, push-anywhere}
+use Rattle.narrowed.proofs.Symbols.{symbol-split}
 use Rattle.narrowed.proofs.Ahead.{member-of, one-more, Inside, Back, Ahead, head-case, open-known, member-case}
 
 module _ (s : List ℕ) (h : Bytes s) where

@@ -12,8 +12,6 @@ pub mod Ahead
 pub mod Back
 pub mod Forth
 -- the members of theory
-pub mod Numbers
-pub mod Counting
 pub mod Formed
 pub mod Paths
 pub mod Cases

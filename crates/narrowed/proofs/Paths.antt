@@ -11,10 +11,12 @@ use Rattle.theory.proofs.Postfix.{postfix-path-of, path-of-postfix}
 use Rattle.fields.specs.declared.Stack.{Stack}
 use Rattle.fields.specs.Symbols.{Numbered}
 use Rattle.narrowed.specs.Form.{Flat, flat}
-use Rattle.narrowed.specs.Formed.{Runs, Formed}
-use Rattle.narrowed.specs.Members.{number-symbol, flat-of, flat-path}
-use Rattle.narrowed.proofs.Numbers.{symbol-of, symbol-comes, held-postfix, numbered-symbols}
-use Rattle.narrowed.proofs.Counting.{runs-read}
+use Rattle.fields.specs.Symbols.{Runs}
+use Rattle.narrowed.specs.Formed.{Formed}
+use Rattle.fields.specs.Symbols.{number-symbol}
+use Rattle.narrowed.specs.Members.{flat-of, flat-path}
+use Rattle.fields.proofs.Numbers.{symbol-of, symbol-comes, held-postfix, numbered-symbols}
+use Rattle.fields.proofs.Counting.{runs-read}
 
 symbols-come : (xs : List Numbered) (q : Stack) → Runs q xs → map number-symbol (map symbol-of xs) ≡ xs
 symbols-come [] q r = refl

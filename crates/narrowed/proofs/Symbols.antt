@@ -1,9 +1,9 @@
 -- A symbol's field, both ways: its bytes as they were read, and what is read from its bytes.
 -- Assumes nothing.
-use Prim.Native.Nat.{ℕ, _+_, _*_, _/_, _%_, _-_, _<_, _≤_}
+use Prim.Native.Nat.{ℕ, _+_, _*_, _/_, _%_, _<_, _≤_}
 use mathlib.Core.Path.{_≡_, refl, ap, _∙_, sym, subst}
 use mathlib.Core.Logic.{inl, inr}
-use mathlib.Core.Bool.{Bool, true, false, cond, not, _&&_}
+use mathlib.Core.Bool.{Bool, true, false, cond, _&&_}
 use mathlib.Core.List.{List, [], _∷_}
 use lib.ListN.{length, getD}
 use lib.Dec.{leb, ltb, eqb}
@@ -11,10 +11,10 @@ use native.Mathlib.Omega.{arith}
 use borrow.Author.Tests.{eqb-true, eqb-false, ltb-true, leb-true, lt-ltb, le-ltb, le-leb, ne-eqb, ltb-false}
 use Rattle.fields.specs.Answer.{got}
 use Rattle.fields.specs.Reading.{eight, fitting}
-use Rattle.fields.specs.Symbols.{Numbered, numbered, step-of, operator-of, symbol-in, symbol-length, push, due-symbols}
-use Rattle.fields.proofs.Bools.{cond-then, cond-else, not-got, and-left, and-right}
+use Rattle.fields.specs.Symbols.{Numbered, numbered, step-of, operator-of, symbol-in, symbol-length, due-symbols}
+use Rattle.fields.proofs.Bools.{cond-then, not-got, and-left, and-right}
 use Rattle.narrowed.specs.Writing.{eight-bytes, field-bytes, symbol-tag, symbol-body, symbol-bytes}
-use Rattle.narrowed.specs.Formed.{Fine}
+use Rattle.fields.specs.Symbols.{Fine}
 use Rattle.fields.specs.declared.File.the-variants as file
 use Rattle.fields.specs.declared.Stack.{Stack}
 use Rattle.fields.specs.Table.{among, rows}
@@ -107,11 +107,3 @@ symbol-reads at x (inl (h, z)) = go (ltb (x .number) 128) refl
 symbol-reads at x (inr (e, h)) =
     let y : numbered 255 (x .set) ≡ x = ap (λ (c : ℕ). numbered c (x .set)) (sym e) in
     subst (λ (u : Numbered). symbol-in at (symbol-tag u) (symbol-body u) ≡ got u) y (ap (λ (m : ℕ). got (numbered 255 m)) (eight-back (x .set)))
-
--- where a symbol finds its operands, the places do not matter
-pub push-anywhere : (q : Stack) (at next at′ next′ k : ℕ) (q′ : Stack) → push q at next k ≡ got q′ → push q at′ next′ k ≡ got q′
-unfolding push
-push-anywhere q at next at′ next′ k q′ e =
-    let a = cond-else (ltb (q .depth) k) (not-got 6 at q′) e in
-    let b = cond-else (eqb (q .left) 1 && not (eqb (q .depth - k + 1) 1)) (not-got 6 next q′) (a .1) in
-    simp (a .0, b .0) (b .1)

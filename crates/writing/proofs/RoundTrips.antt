@@ -17,7 +17,8 @@ use Rattle.fields.specs.Symbols.{Numbered, numbered}
 use Rattle.fields.proofs.Bools.{not-got}
 use Rattle.narrowed.specs.declared.Members.{Members}
 use Rattle.narrowed.specs.Form.{Flat, flat, narrowed-form}
-use Rattle.narrowed.specs.Formed.{Fine, Runs, InOrder, WellFormed}
+use Rattle.fields.specs.Symbols.{Fine, Runs}
+use Rattle.narrowed.specs.Formed.{InOrder, WellFormed}
 use Rattle.narrowed.specs.Writing.{encode}
 use Rattle.narrowed.specs.Given.{symbol-given, symbols-given, members-given, given}
 use Rattle.narrowed.specs.Said.{Packed, padded, sizes-of, from-of, to-of, numbers-of, sets-of}

@@ -12,14 +12,14 @@ use native.Mathlib.Omega.{arith}
 use borrow.Author.Tests.{le-ltb, eq-eqb, ne-eqb, ltb-false, eqb-true}
 use Rattle.theory.specs.PathExpr.{PathExpr, step, join, op, closure, Symbol, s-step, s-join, s-op, s-closure}
 use Rattle.theory.specs.Postfix.{push as push-path, go-on, read as read-paths}
 use Rattle.fields.specs.declared.Stack.{Stack}
 use Rattle.fields.specs.Answer.{got}
 use Rattle.fields.specs.Symbols.{Numbered, arity, push}
 use Rattle.fields.proofs.Bools.{cond-else, not-got}
 use Rattle.fields.proofs.Symbols.{push-got}
-use Rattle.narrowed.specs.Formed.{Runs}
-use Rattle.narrowed.specs.Members.{number-symbol}
-use Rattle.narrowed.proofs.Numbers.{operands, AllHeld, number-of, symbol-of, symbol-comes}
+use Rattle.fields.specs.Symbols.{Runs}
+use Rattle.fields.specs.Symbols.{number-symbol}
+use Rattle.fields.proofs.Numbers.{operands, AllHeld, number-of, symbol-of, symbol-comes}
 
 pub none-some : {A : Type 0} {B : Type 0} {x : A} → Path (Option A) none (some x) → B
 none-some e = let z : _≡_ {A = ℕ} 0 1 = cc in absurd (omega arith)

@@ -13,10 +13,9 @@ use Rattle.theory.specs.KindSet.{is-set}
 use Rattle.theory.specs.PathExpr.{forward, reverse, any, through, union, conjunction, branch-right, branch-left, PathExpr, step, join, op, closure, Symbol, s-step, s-join, s-op, s-closure, postfix, size, code, links?}
 use Rattle.theory.specs.Narrowing.{via-fits, sets-fit}
 use Rattle.theory.proofs.Tests.{tests}
 use Rattle.fields.specs.Symbols.{Numbered, numbered, order-code, arity, symbol-numbered}
-use Rattle.narrowed.specs.Form.{order-codes}
-use Rattle.narrowed.specs.Formed.{Fine}
-use Rattle.narrowed.specs.Members.{number-symbol}
+use Rattle.fields.specs.Symbols.{Fine}
+use Rattle.fields.specs.Symbols.{number-symbol}
 
 -- a file can hold the symbol
 abbrev pub Held : Symbol → Type 0
@@ -115,12 +114,7 @@ held-postfix (op o p q) t f =
     held-append (postfix p) (postfix q ++ (s-op o ∷ [])) (held-postfix p (search tests) (f .0)) (held-append (postfix q) (s-op o ∷ []) (held-postfix q (search tests) (f .1)) (tt, tt))
 held-postfix (closure p) t f = held-append (postfix p) (s-closure ∷ []) (held-postfix p t f) (tt, tt)
 
--- theory's codes are those by which members are compared in a file
-pub numbered-codes : (ss : List Symbol) → AllHeld ss → order-codes (map number-symbol ss) ≡ map code ss
-numbered-codes [] h = refl
-numbered-codes (s ∷ ss) h = ap₂ (λ (c : ℕ) (cs : List ℕ). c ∷ cs) (number-of s (h .0) .same-code) (numbered-codes ss (h .1))
-
--- and its symbols come back from their numbers
+-- they come back from their numbers
 pub numbered-symbols : (ss : List Symbol) → AllHeld ss → map symbol-of (map number-symbol ss) ≡ ss
 numbered-symbols [] h = refl
 numbered-symbols (s ∷ ss) h = ap₂ (λ (x : Symbol) (xs : List Symbol). x ∷ xs) (number-of s (h .0) .back) (numbered-symbols ss (h .1))

@@ -1,0 +1,182 @@
+-- A question that was accepted: its symbols are 1 to 32, in range, and make one plain path.
+-- Assumes nothing.
+use Prim.Native.Nat.{ℕ, suc, _+_, _<_, _≤_}
+use mathlib.Core.Path.{_≡_, refl, ap, ap₂, _∙_, sym, subst}
+use mathlib.Core.Logic.{inl}
+use mathlib.Core.Bool.{true, false≢true, _&&_}
+use mathlib.Core.List.{List, [], _∷_, _++_, map, append-assoc, append-nil}
+use mathlib.Core.Option.{some}
+use lib.Dec.{T, leb, lt→ltb}
+use lib.ListN.{length, getD, take, drop, length-map}
+use native.Mathlib.Omega.{arith}
+use borrow.Author.Tests.{eqb-true, leb-true, ne-eqb}
+use Rattle.theory.specs.PathExpr.{any, through, PathExpr, step, join, op, closure, Symbol, s-step, s-join, s-op, s-closure, postfix, size, code, codes, plain?, links?}
+use Rattle.theory.specs.Postfix.{single-path, path-of}
+use Rattle.theory.proofs.Tests.{and-both}
+use Rattle.theory.proofs.Postfix.{postfix-path-of}
+use Rattle.fields.specs.declared.File.the-variants as file
+use Rattle.fields.specs.declared.Stack.{Stack}
+use Rattle.fields.specs.Answer.{got}
+use Rattle.fields.specs.Table.{rows, among, tag-length}
+use Rattle.fields.specs.Reading.{ends, body, field-at, fitting, read}
+use Rattle.fields.specs.Symbols.{Numbered, numbered, symbol-in, symbol-numbered, number-symbol, order-code, arity, push, due-symbols, Runs}
+use Rattle.fields.proofs.Bools.{onward-got, cond-then, not-got, and-left, and-right}
+use Rattle.fields.proofs.Rows.{own-length}
+use Rattle.fields.proofs.Fields.{found, ended, in-path}
+use Rattle.fields.proofs.Accepted.{accepted-ind}
+use Rattle.fields.proofs.Symbols.{symbol-plain, push-got, push-anywhere}
+use Rattle.fields.proofs.Numbers.{Held, symbol-of, symbol-comes, number-of, length-postfix}
+use Rattle.fields.proofs.Counting.{runs-read}
+use Rattle.question.specs.Form.{State, head, within, question-form, due, judge, head-of, fresh, one-more, question-symbols}
+
+-- field 45 is not a question's
+no-through : (q : Stack) (t n : ℕ) → fitting (due-symbols file.Question q) t n ≡ true → t ≡ 0x45 → ⊥
+unfolding fitting among rows tag-length
+no-through q t n e h =
+    let a = and-right (leb 0x43 t && leb t 0x45) (among rows file.Question t n) e in
+    let l : n ≡ 8 = own-length file.Question t n a ∙ ap tag-length h in
+    false≢true (subst (λ (m : ℕ). among rows file.Question 0x45 m ≡ true) l (subst (λ (u : ℕ). among rows file.Question u n ≡ true) h a))
+
+abbrev symbols : List ℕ → List Numbered
+symbols cs = map (λ c. numbered c 0) cs
+
+-- each is a symbol without a set
+abbrev Small : List ℕ → Type 0
+Small [] = Unit {0}
+Small (c ∷ cs) = (c < 134) × Small cs
+
+-- what is to come, from a state on
+abbrev Ahead : State → ℕ → List ℕ → Type 0
+Ahead head at v = (1 ≤ length v) × (length v ≤ 32) × Runs (record { left = length v; depth = 0 }) (symbols v) × Small v
+Ahead (within q cs) at v = (ys : List ℕ) × (v ≡ cs ++ ys) × (length ys ≡ q .left) × Runs q (symbols ys) × Small ys
+
+module _ (s : List ℕ) where
+  at-end : (st : State) (at : ℕ) → field-at (due st) s at ≡ ends → Ahead st at (question-form .value st)
+  at-end head at e = absurd (false≢true (ended (due head) s at e .may))
+  at-end (within q cs) at e = let z = eqb-true (q .left) 0 (ended (due (within q cs)) s at e .may) in ([], sym (append-nil cs), sym z, z, tt)
+
+  body-head : (at t n : ℕ) (st′ : State) (v : List ℕ) → judge head at (at + 3 + n) t (take n (drop (at + 3) s)) ≡ got st′ → Ahead st′ (at + 3 + n) v → Ahead head at v
+  unfolding head-of
+  body-head at t n st′ v j ih =
+      let b = take n (drop (at + 3) s) in
+      let (m, hm, w) = onward-got (λ m. got (fresh m)) (head-of at b) st′ j in
+      let k = cond-then (leb 1 (getD b 0 0) && leb (getD b 0 0) 32) (not-got 3 at m) hm in
+      let z : getD b 0 0 ≡ m = cc (k .1) in
+      let some = leb-true 1 (getD b 0 0) (and-left _ (leb (getD b 0 0) 32) (k .0)) in
+      let few = leb-true (getD b 0 0) 32 (and-right (leb 1 (getD b 0 0)) _ (k .0)) in
+      let w′ : fresh m ≡ st′ = cc w in
+      let (ys, e, l, r, a) : Ahead (fresh m) (at + 3 + n) v = subst (λ (st : State). Ahead st (at + 3 + n) v) (sym w′) ih in
+      let c : length v ≡ m = ap length e ∙ l in
+      (omega arith, omega arith, subst (λ (u : List ℕ). Runs (record { left = length u; depth = 0 }) (symbols u)) (sym e) (subst (λ (i : ℕ). Runs (record { left = i; depth = 0 }) (symbols ys)) (sym l) r), subst Small (sym e) a)
+
+  body-within : (q : Stack) (cs : List ℕ) (at t n : ℕ) (st′ : State) (v : List ℕ) → field-at (due (within q cs)) s at ≡ body t n
+      → judge (within q cs) at (at + 3 + n) t (take n (drop (at + 3) s)) ≡ got st′ → Ahead st′ (at + 3 + n) v → Ahead (within q cs) at v
+  body-within q cs at t n st′ v e j ih =
+      let b = take n (drop (at + 3) s) in
+      let f = in-path file.Question q s at t n e in
+      let h = no-through q t n (found (due (within q cs)) s at t n e .fit) in
+      let (x, hx, j′) = onward-got (one-more q cs at (at + 3 + n)) (symbol-in at t b) st′ j in
+      let (q′, hq, w) = onward-got (λ p. got (within p (cs ++ (x .number ∷ [])))) (push q at (at + 3 + n) (arity (x .number))) st′ j′ in
+      let w′ : within q′ (cs ++ (x .number ∷ [])) ≡ st′ = cc w in
+      let (ys, d, l, r, a) : Ahead (within q′ (cs ++ (x .number ∷ []))) (at + 3 + n) v = subst (λ (st : State). Ahead st (at + 3 + n) v) (sym w′) ih in
+      let plain = symbol-plain at t b x (f .low) (omega (arith, f .high)) hx in
+      let g = push-got q at (at + 3 + n) (arity (x .number)) q′ hq in (
+        x .number ∷ ys,
+        d ∙ append-assoc cs (x .number ∷ []) ys,
+        omega (arith, g .0, f .some),
+        (inl (plain .0, refl), (q′, push-anywhere q at (at + 3 + n) 0 0 (arity (x .number)) q′ hq, r)),
+        (plain .0, a),
+      )
+
+  at-body : (st : State) (at t n : ℕ) (st′ : State) (v : List ℕ) → field-at (due st) s at ≡ body t n → judge st at (at + 3 + n) t (take n (drop (at + 3) s)) ≡ got st′
+      → Ahead st′ (at + 3 + n) v → Ahead st at v
+  at-body head at t n st′ v e j ih = body-head at t n st′ v j ih
+  at-body (within q cs) at t n st′ v e j ih = body-within q cs at t n st′ v e j ih
+
+  ahead : (v : List ℕ) → read question-form s ≡ got v → Ahead head 0 v
+  unfolding read
+  ahead v e = accepted-ind question-form s Ahead at-end at-body (suc (length s)) head 0 v e
+
+-- ---- its path
+-- a symbol that a question may have
+abbrev Asked : Symbol → Type 0
+Asked (s-step d l) = l < 64
+Asked (s-join any) = Unit {0}
+Asked (s-join (through m)) = ⊥
+Asked (s-op o) = Unit {0}
+Asked s-closure = Unit {0}
+
+abbrev AllAsked : List Symbol → Type 0
+AllAsked [] = Unit {0}
+AllAsked (s ∷ ss) = Asked s × AllAsked ss
+
+split : (xs ys : List Symbol) → AllAsked (xs ++ ys) → AllAsked xs × AllAsked ys
+split [] ys h = (tt, h)
+split (x ∷ xs) ys h = let (a, b) = split xs ys (h .1) in ((h .0, a), b)
+
+plain-path : (p : PathExpr) → AllAsked (postfix p) → T (plain? p) × T (links? 64 p)
+plain-path (step d l) h = (tt, lt→ltb l 64 (h .0))
+plain-path (join any p q) h =
+    let (a, b) = split (postfix p) (postfix q ++ (s-join any ∷ [])) h in
+    let (c, d) = split (postfix q) (s-join any ∷ []) b in
+    let i = plain-path p a in
+    let j = plain-path q c in
+    (and-both (plain? p) (plain? q) (i .0) (j .0), and-both (links? 64 p) (links? 64 q) (i .1) (j .1))
+plain-path (join (through m) p q) h =
+    let (a, b) = split (postfix p) (postfix q ++ (s-join (through m) ∷ [])) h in
+    let (c, d) = split (postfix q) (s-join (through m) ∷ []) b in
+    absurd (d .0)
+plain-path (op o p q) h =
+    let (a, b) = split (postfix p) (postfix q ++ (s-op o ∷ [])) h in
+    let (c, d) = split (postfix q) (s-op o ∷ []) b in
+    let i = plain-path p a in
+    let j = plain-path q c in
+    (and-both (plain? p) (plain? q) (i .0) (j .0), and-both (links? 64 p) (links? 64 q) (i .1) (j .1))
+plain-path (closure p) h = let (a, b) = split (postfix p) (s-closure ∷ []) h in plain-path p a
+
+asked : (s : Symbol) → Held s → number-symbol s .number < 134 → Asked s
+asked (s-step d l) h n = h
+asked (s-join any) h n = tt
+asked (s-join (through m)) h n = absurd (omega (arith, n))
+asked (s-op o) h n = tt
+asked s-closure h n = tt
+
+small-asked : (cs : List ℕ) → Small cs → AllAsked (question-symbols cs)
+small-asked [] h = tt
+small-asked (c ∷ cs) h =
+    let (k, e) = symbol-comes (numbered c 0) (inl (h .0, refl)) in
+    (asked (symbol-numbered c 0) k (subst (λ (x : Numbered). x .number < 134) (sym e) (h .0)), small-asked cs (h .1))
+
+symbols-are : (cs : List ℕ) → map symbol-of (symbols cs) ≡ question-symbols cs
+symbols-are [] = refl
+symbols-are (c ∷ cs) = ap (λ (l : List Symbol). symbol-numbered c 0 ∷ l) (symbols-are cs)
+
+small-codes : (cs : List ℕ) → Small cs → map code (question-symbols cs) ≡ cs
+unfolding order-code
+small-codes [] h = refl
+small-codes (c ∷ cs) h =
+    let (k, e) = symbol-comes (numbered c 0) (inl (h .0, refl)) in
+    let z : order-code c ≡ c = rw (ne-eqb c 255 (omega (arith, h .0))) in
+    let w : code (symbol-numbered c 0) ≡ c = sym (number-of (symbol-numbered c 0) k .same-code) ∙ ap (λ (x : Numbered). order-code (x .number)) e ∙ z in
+    ap₂ (λ (x : ℕ) (l : List ℕ). x ∷ l) w (small-codes cs (h .1))
+
+-- a question of codes cs asks for path p
+pub record Asks (cs : List ℕ) (p : PathExpr) : Type 0 where
+  pub path : path-of (question-symbols cs) ≡ some p
+  pub same-codes : codes p ≡ cs
+  pub plain : T (plain? p)
+  pub links : T (links? 64 p)
+  pub few : size p ≤ 32
+  pub count : length cs ≡ size p
+
+pub accepted-question : (s cs : List ℕ) → read question-form s ≡ got cs → (p : PathExpr) × Asks cs p
+accepted-question s cs e =
+    let (some-symbols, few, runs, small) = ahead s cs e in
+    let n : length (symbols cs) ≡ length cs = length-map cs (λ c. numbered c 0) in
+    let (p, h) = runs-read (symbols cs) (record { left = length cs; depth = 0 }) [] runs (sym n) refl (omega (arith, n, some-symbols)) in
+    let a : path-of (question-symbols cs) ≡ some p = ap path-of (sym (symbols-are cs)) ∙ ap single-path h in
+    let b : postfix p ≡ question-symbols cs = postfix-path-of (question-symbols cs) p a in
+    let c = ap (map code) b ∙ small-codes cs small in
+    let i = plain-path p (subst AllAsked (sym b) (small-asked cs small)) in
+    let z : length cs ≡ size p = sym (length-map cs (λ x. symbol-numbered x 0)) ∙ ap length (sym b) ∙ length-postfix p in
+    (p, record { path = a; same-codes = c; plain = i .0; links = i .1; few = omega (arith, few, z); count = z })

@@ -1,0 +1,56 @@
+-- Files with what reading them yields, computed: the questions of cases 1 and 4 of 01-scope.md and the edges of a question.
+-- Assumes nothing.
+use mathlib.Core.Path.{_≡_, refl}
+use mathlib.Core.List.{List, [], _∷_, map}
+use Prim.Native.Nat.{ℕ}
+use Rattle.fields.specs.Answer.{Answer, got, refused}
+use Rattle.fields.specs.Table.{among, rows}
+use Rattle.fields.specs.Reading.{eight, read, walk, field-at, fitting}
+use Rattle.fields.specs.Symbols.{step-of, operator-of, symbol-in, arity, push}
+use Rattle.question.specs.Form.{question-form, head-of}
+
+pub record Case : Type 0 where
+  pub file : List ℕ
+  pub answer : Answer (List ℕ)
+
+abbrev case : List ℕ → Answer (List ℕ) → Case
+case s a = record { file = s; answer = a }
+
+-- the fields, before what comes after them
+abbrev f21 : ℕ → List ℕ → List ℕ
+f21 n r = 0x21 ∷ 0 ∷ 1 ∷ n ∷ r
+
+abbrev f43 : ℕ → ℕ → List ℕ → List ℕ
+f43 d l r = 0x43 ∷ 0 ∷ 2 ∷ d ∷ l ∷ r
+
+abbrev f44 : ℕ → List ℕ → List ℕ
+f44 o r = 0x44 ∷ 0 ∷ 1 ∷ o ∷ r
+
+abbrev pub cases : List Case
+cases =
+    -- carries/sealed, under+, and the last link against its direction
+    case (f21 3 (f43 0 0 (f43 0 3 (f44 128 [])))) (got (0 ∷ 3 ∷ 128 ∷ []))
+    ∷ case (f21 2 (f43 0 4 (f44 133 []))) (got (4 ∷ 133 ∷ []))
+    ∷ case (f21 1 (f43 1 63 [])) (got (127 ∷ []))
+    ∷ case [] (refused 5 0)
+    -- numbers out of range
+    ∷ case (f21 0 []) (refused 3 0)
+    ∷ case (f21 33 []) (refused 3 0)
+    ∷ case (f21 1 (f43 2 0 [])) (refused 3 4)
+    ∷ case (f21 1 (f43 0 64 [])) (refused 3 4)
+    ∷ case (f21 1 (f44 134 [])) (refused 3 4)
+    -- 45 is not a question's
+    ∷ case (f21 3 (f43 0 0 (f43 0 3 (0x45 ∷ 0 ∷ 8 ∷ 0 ∷ 0 ∷ 0 ∷ 0 ∷ 0 ∷ 0 ∷ 0 ∷ 2 ∷ [])))) (refused 2 14)
+    -- an operand lacking, and one left over
+    ∷ case (f21 2 (f43 0 0 (f44 128 []))) (refused 6 9)
+    ∷ case (f21 2 (f43 0 0 (f43 0 1 []))) (refused 6 14)
+    -- a byte too many, a field too few, a field cut in its head and in its body
+    ∷ case (f21 1 (f43 0 0 (0 ∷ []))) (refused 5 9)
+    ∷ case (f21 2 (f43 0 0 [])) (refused 5 9)
+    ∷ case (f21 1 (0x43 ∷ 0 ∷ [])) (refused 1 4)
+    ∷ case (f21 1 (0x43 ∷ 0 ∷ 2 ∷ 0 ∷ [])) (refused 1 4)
+    ∷ []
+
+pub all-read : map (λ (c : Case). read question-form (c .file)) cases ≡ map (λ (c : Case). c .answer) cases
+unfolding read walk field-at fitting among rows head-of eight step-of operator-of symbol-in arity push
+all-read = refl

@@ -46,10 +46,14 @@ pub record Case : Type 0 where
 abbrev pub case : PathExpr → List Member → Case
 case q ms = record { question = q; expected = ms }
 
+-- case 1, whose file is 46 bytes (`Cases.cases` in crates/narrowed)
+abbrev pub case-1 : Case
+case-1 = case (carries / sealed) (member 1 (join (through 2) carries sealed) 8 ∷ [])
+
 -- cases 1 to 10; a set is its number: {0} is 1, {1} is 2, {0, 1} is 3, {2} is 4, {3} is 8, {4} is 16, {0, 4} is 17, {5} is 32, {4, 5} is 48
 unfoldable pub cases : List Case
 cases =
-    case (carries / sealed) (member 1 (join (through 2) carries sealed) 8 ∷ [])
+    case-1
     ∷ case sealed (member 3 sealed 8 ∷ [])
     ∷ case sealed⁻ (member 8 sealed⁻ 3 ∷ [])
     ∷ case (closure under) (member 17 under 48 ∷ member 1 (join (through 16) under under) 32 ∷ [])

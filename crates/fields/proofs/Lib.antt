@@ -10,3 +10,5 @@ pub mod Accepted
 pub mod Symbols
 pub mod Numbers
 pub mod Counting
+-- arrays
+pub mod Padded

@@ -4,3 +4,4 @@ pub mod Reading
 pub mod Raw
 pub mod Symbols
 pub mod Said
+pub mod Padded

@@ -3,32 +3,17 @@
 use Prim.Native.Nat.{ℕ, _+_, _-_, _*_, _<_, _≤_}
 use mathlib.Core.Path.{_≡_, refl, ap, ap₂, _∙_, sym, subst}
 use mathlib.Core.List.{List, [], _∷_, _++_, map, append-assoc, append-nil, map-append}
-use lib.ListN.{length, take, drop, set, replicate, length-append, length-replicate, length-map, length-drop}
-use lib.Seq.{set-at, take-at, drop-at, drop-append-le}
+use lib.ListN.{length, take, drop, set, replicate, length-append, length-map, length-drop}
+use lib.Seq.{take-at, drop-at, drop-append-le}
 use native.Mathlib.Omega.{arith}
 use Rattle.theory.specs.Lists.{concat-map}
 use Rattle.fields.specs.Symbols.{Numbered, numbered, order-code}
-use Rattle.fields.proofs.Going.{suc-of}
-use Rattle.narrowed.specs.Form.{Flat, flat, order-codes}
-use Rattle.narrowed.specs.Said.{padded, sizes-of, from-of, to-of, numbers-of, sets-of, Packed, segment-codes}
+use Rattle.fields.specs.Padded.{padded}
+use Rattle.fields.proofs.Padded.{pad-set, pad-length}
+use Rattle.narrowed.specs.Form.{Flat, flat, order-codes, numbers as nums, set-numbers as masks}
+use Rattle.narrowed.specs.Said.{sizes-of, from-of, to-of, numbers-of, sets-of, Packed, segment-codes}
 
--- ---- an array filled from the front
-pub pad-set : (n : ℕ) (xs : List ℕ) (v : ℕ) → length xs < n → set (padded n xs) (length xs) v ≡ padded n (xs ++ (v ∷ []))
-unfolding padded
-pad-set n xs v h =
-    let (j, e) = suc-of (n - length xs) (omega arith) in
-    let l = length-append xs (v ∷ []) in
-    let i : j ≡ n - length (xs ++ (v ∷ [])) = omega arith in
-    ap (λ (k : ℕ). set (xs ++ replicate k 0) (length xs) v) e
-    ∙ set-at xs 0 (replicate j 0) v (length xs) refl
-    ∙ sym (append-assoc xs (v ∷ []) (replicate j 0))
-    ∙ ap (λ (k : ℕ). (xs ++ (v ∷ [])) ++ replicate k 0) i
-
-pub pad-length : (n : ℕ) (xs : List ℕ) → length xs ≤ n → length (padded n xs) ≡ n
-unfolding padded
-pad-length n xs h = length-append xs (replicate (n - length xs) 0) ∙ omega (arith, length-replicate {A = ℕ} (n - length xs) 0)
-
--- the same behind a part that stands already
+-- an array filled from the front, behind a part that stands already
 pad-next : (n : ℕ) (xs ys : List ℕ) (k v : ℕ) (a : List ℕ) → a ≡ padded n (xs ++ ys) → k ≡ length xs + length ys → length xs + length ys < n
     → set a k v ≡ padded n (xs ++ (ys ++ (v ∷ [])))
 pad-next n xs ys k v a e i h =
@@ -41,15 +26,9 @@ concat-snoc : (f : Flat → List ℕ) (ms : List Flat) (m : Flat) → concat-map
 concat-snoc f [] m = append-nil (f m)
 concat-snoc f (x ∷ ms) m = ap (λ l. f x ++ l) (concat-snoc f ms m) ∙ sym (append-assoc (f x) (concat-map f ms) (f m))
 
-abbrev nums : List Numbered → List ℕ
-nums xs = map (λ x. x .number) xs
-
-abbrev masks : List Numbered → List ℕ
-masks xs = map (λ x. x .set) xs
-
-codes-map : (xs : List Numbered) → order-codes xs ≡ map order-code (nums xs)
-codes-map [] = refl
-codes-map (x ∷ xs) = ap (λ l. order-code (x .number) ∷ l) (codes-map xs)
+pub codes-numbers : (xs : List Numbered) → order-codes xs ≡ map order-code (nums xs)
+codes-numbers [] = refl
+codes-numbers (x ∷ xs) = ap (λ l. order-code (x .number) ∷ l) (codes-numbers xs)
 
 sets-length : (ms : List Flat) → length (sets-of ms) ≡ length (numbers-of ms)
 sets-length [] = refl
@@ -157,7 +136,7 @@ module _ {ms : List Flat} {P : List ℕ} {done prev first used : ℕ} {sizes fro
         used-is = omega arith;
         small = omega (arith, r .used-is, r .small);
         prev-le = omega (arith, r .used-is);
-        codes-is = codes-map xs ∙ sym (ap (map order-code) (ap (drop first) N ∙ drop-at (numbers-of ms) (nums xs) first (sym (r .first-is))));
+        codes-is = codes-numbers xs ∙ sym (ap (map order-code) (ap (drop first) N ∙ drop-at (numbers-of ms) (nums xs) first (sym (r .first-is))));
         sizes-is = r .sizes-is ∙ ap (padded 128) (sym (append-nil _ ∙ map-append (λ m. length (m .symbols)) ms (m ∷ [])));
         from-is = r .from-is ∙ ap (padded 128) (sym (append-nil _ ∙ map-append (λ m. m .from) ms (m ∷ [])));
         to-is = r .to-is ∙ ap (padded 128) (sym (append-nil _ ∙ map-append (λ m. m .to) ms (m ∷ [])));
@@ -192,7 +171,7 @@ module _ {ms : List Flat} {P : List ℕ} {done prev first used : ℕ} {sizes fro
         ap (λ l. map order-code (take (used - first) (drop first l))) split
         ∙ ap (λ l. map order-code (take (used - first) l)) (drop-at (numbers-of ms) (nums xs ++ rest) first (sym (r .first-is)))
         ∙ ap (map order-code) (take-at (nums xs) rest (used - first) l)
-        ∙ sym (codes-map xs)
+        ∙ sym (codes-numbers xs)
 
   -- all are read
   pub filled-packed : Filled ms [] [] [] [] P done prev first used sizes from to numbers sets

@@ -23,6 +23,13 @@ pub record Flat : Type 0 where
 abbrev pub flat : ℕ → ℕ → List Numbered → Flat
 flat f t xs = record { from = f; to = t; symbols = xs }
 
+-- the numbers, the sets and the codes of symbols
+abbrev pub numbers : List Numbered → List ℕ
+numbers xs = map (λ x. x .number) xs
+
+abbrev pub set-numbers : List Numbered → List ℕ
+set-numbers xs = map (λ x. x .set) xs
+
 abbrev pub order-codes : List Numbered → List ℕ
 order-codes xs = map (λ x. order-code (x .number)) xs
 

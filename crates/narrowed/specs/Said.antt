@@ -2,10 +2,10 @@
 -- Assumes nothing.
 use mathlib.Core.Path.{_≡_}
 use mathlib.Core.Bool.{false, cond, _&&_}
-use mathlib.Core.List.{List, [], _++_, map}
+use mathlib.Core.List.{List, [], map}
 use Prim.Native.Nat.{ℕ, _-_, _<_}
 use lib.Dec.{leb, eqb}
-use lib.ListN.{length, getD, take, drop, replicate}
+use lib.ListN.{length, getD, take, drop}
 use Rattle.theory.specs.Lists.{concat-map}
 use Rattle.fields.specs.declared.File.the-variants as file
 use Rattle.fields.specs.declared.Due.{Due}
@@ -21,12 +21,10 @@ use Rattle.narrowed.specs.declared.Standing.{Standing}
 use Rattle.narrowed.specs.declared.Standing.the-variants.{Head, Between, Within}
 use Rattle.narrowed.specs.declared.Turn.{Turn}
 use Rattle.narrowed.specs.declared.Turn.the-variants as turn
-use Rattle.narrowed.specs.Form.{Flat}
+use Rattle.fields.specs.Padded.{padded}
+use Rattle.narrowed.specs.Form.{Flat, numbers, set-numbers}
 
 -- ---- the members, as arrays filled from the front
-unfoldable pub padded : ℕ → List ℕ → List ℕ
-padded n xs = xs ++ replicate (n - length xs) 0
-
 abbrev pub sizes-of : List Flat → List ℕ
 sizes-of ms = map (λ m. length (m .symbols)) ms
 
@@ -37,10 +35,10 @@ abbrev pub to-of : List Flat → List ℕ
 to-of ms = map (λ m. m .to) ms
 
 abbrev pub numbers-of : List Flat → List ℕ
-numbers-of ms = concat-map (λ m. map (λ x. x .number) (m .symbols)) ms
+numbers-of ms = concat-map (λ m. numbers (m .symbols)) ms
 
 abbrev pub sets-of : List Flat → List ℕ
-sets-of ms = concat-map (λ m. map (λ x. x .set) (m .symbols)) ms
+sets-of ms = concat-map (λ m. set-numbers (m .symbols)) ms
 
 -- every number of the struct
 pub record Packed (ms : List Flat) (q : Members) : Type 0 where

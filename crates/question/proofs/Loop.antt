@@ -1,11 +1,10 @@
 -- The loop over a question's fields, which fills an array of codes: what holds at its head, and a law for each way out.
 -- Assumes nothing.
-use Prim.Native.Nat.{ℕ, _+_, _-_, _<_, _≤_}
+use Prim.Native.Nat.{ℕ, _+_, _<_, _≤_}
 use mathlib.Core.Path.{_≡_, refl, ap, ap₂, _∙_, sym, subst}
 use mathlib.Core.Bool.{true, false≢true, _&&_}
-use mathlib.Core.List.{List, [], _∷_, _++_, append-assoc}
+use mathlib.Core.List.{List, [], _∷_, _++_}
 use lib.ListN.{length, getD, take, drop, set, replicate, length-append}
-use lib.Seq.{set-at}
 use lib.Dec.{leb}
 use native.Mathlib.Omega.{arith}
 use borrow.Author.Tests.{leb-true}
@@ -17,24 +16,14 @@ use Rattle.fields.specs.Reading.{ends, wrong, body, field-at, read}
 use Rattle.fields.specs.Symbols.{Numbered, symbol-in, push, arity}
 use Rattle.fields.proofs.Bools.{onward-got, cond-then, not-got, and-right}
 use Rattle.fields.proofs.Fields.{found, body-length, one-due, ended, in-path}
-use Rattle.fields.proofs.Going.{suc-of, Going, going-start, going-ends, going-wrong, going-refused, going-more}
+use Rattle.fields.proofs.Going.{Going, going-start, going-ends, going-wrong, going-refused, going-more}
+use Rattle.fields.specs.Padded.{padded}
 use Rattle.fields.proofs.Symbols.{push-got}
+use Rattle.fields.proofs.Padded.{pad-set}
 use Rattle.question.specs.declared.Standing.{Standing}
 use Rattle.question.specs.declared.Standing.the-variants.{Head, Within}
 use Rattle.question.specs.Form.{State, head, within, question-form, due, judge as judge-of, head-of, fresh, one-more, due-head}
-use Rattle.question.specs.Said.{counted, padded, codes-in, due-of, go, more, judged, Ready}
-
--- an array filled from the front
-pad-more : (cs : List ℕ) (c : ℕ) → length cs < 32 → set (padded cs) (length cs) c ≡ padded (cs ++ (c ∷ []))
-unfolding padded
-pad-more cs c h =
-    let (j, e) = suc-of (32 - length cs) (omega arith) in
-    let l = length-append cs (c ∷ []) in
-    let i : j ≡ 32 - length (cs ++ (c ∷ [])) = omega arith in
-    ap (λ (k : ℕ). set (cs ++ replicate k 0) (length cs) c) e
-    ∙ set-at cs 0 (replicate j 0) c (length cs) refl
-    ∙ sym (append-assoc cs (c ∷ []) (replicate j 0))
-    ∙ ap (λ (k : ℕ). (cs ++ (c ∷ [])) ++ replicate k 0) i
+use Rattle.question.specs.Said.{counted, codes-in, due-of, go, more, judged, Ready}
 
 abbrev state-of : Standing → List ℕ → State
 state-of Head xs = head
@@ -52,7 +41,7 @@ pub record Reading (s : List ℕ) (st : Standing) (at count : ℕ) (code : List 
   pub xs : List ℕ
   pub going : Going question-form s (read question-form s) (state-of st xs) at
   pub holds : Holds st count xs
-  pub filled : code ≡ padded xs
+  pub filled : code ≡ padded 32 xs
 
 pub reading-start : (s : List ℕ) → Reading s Head 0 0 (replicate 32 0)
 unfolding padded
@@ -71,7 +60,7 @@ module _ (s : List ℕ) (at count : ℕ) (code : List ℕ) where
   reading-ends st r e =
       let m = ended (due-of st) s at e .may in
       let a = going-ends question-form s _ _ at (r .going) (rw due-is e) in
-      (counts st (r .xs) m (r .holds) ∙ ap counted (sym a), r .filled ∙ ap padded (sym (same-value st (r .xs) m)) ∙ ap codes-in (sym a))
+      (counts st (r .xs) m (r .holds) ∙ ap counted (sym a), r .filled ∙ ap (padded 32) (sym (same-value st (r .xs) m)) ∙ ap codes-in (sym a))
 
   pub reading-wrong : (st : Standing) → Reading s st at count code → (i j : ℕ) → field-at (due-of st) s at ≡ wrong i j → read question-form s ≡ refused i j
   reading-wrong st r i j e = going-wrong question-form s _ _ at (r .going) i j (rw due-is e)
@@ -118,7 +107,7 @@ module _ (s : List ℕ) (at count : ℕ) (code : List ℕ) where
           xs = [];
           going = going-more question-form s _ _ at (r .going) t m e (fresh n) (ap (onward (λ i. got (fresh i))) hn);
           holds = (d .1, omega (arith, d .1, few, z), omega arith);
-          filled = r .filled ∙ ap padded (d .0);
+          filled = r .filled ∙ ap (padded 32) (d .0);
         })
     reading-go (Within q′) r e q h =
         let b = take m (drop (at + 3) s) in
@@ -147,6 +136,6 @@ module _ (s : List ℕ) (at count : ℕ) (code : List ℕ) where
             going = going-more question-form s _ _ at (r .going) t m e (within p (r .xs ++ (x .number ∷ [])))
                 (ap (onward (one-more q′ (r .xs) at (at + 3 + m))) hx ∙ ap (onward (λ q″. got (within q″ (r .xs ++ (x .number ∷ []))))) hp);
             holds = (omega (arith, d .0, length-append (r .xs) (x .number ∷ [])), omega (arith, d .1, f .some, pl), omega (arith, d .2, pd));
-            filled = ap₂ (λ (l : List ℕ) (v : ℕ). set l count v) (r .filled) (sym wc) ∙ ap (λ (i : ℕ). set (padded (r .xs)) i (x .number)) (d .0) ∙ pad-more (r .xs) (x .number) (omega (arith, few, d .0));
+            filled = ap₂ (λ (l : List ℕ) (v : ℕ). set l count v) (r .filled) (sym wc) ∙ ap (λ (i : ℕ). set (padded 32 (r .xs)) i (x .number)) (d .0) ∙ pad-set 32 (r .xs) (x .number) (omega (arith, few, d .0));
           }),
         )

@@ -1,13 +1,14 @@
 -- What the code says of the reading of a question.
 -- Assumes nothing.
 use mathlib.Core.Path.{_≡_}
-use mathlib.Core.List.{List, _++_}
-use Prim.Native.Nat.{ℕ, _-_, _<_}
+use mathlib.Core.List.{List}
+use Prim.Native.Nat.{ℕ, _<_}
 use lib.ListN.{length, replicate}
 use Rattle.fields.specs.declared.Due.{Due}
 use Rattle.fields.specs.declared.File.the-variants as file
 use Rattle.fields.specs.declared.Stack.{Stack}
 use Rattle.fields.specs.Answer.{Answer, got, refused, onward}
+use Rattle.fields.specs.Padded.{padded}
 use Rattle.fields.specs.Said.{refusal-said}
 use Rattle.fields.specs.Symbols.{symbol-in, symbol-length, arity, push, due-symbols}
 use Rattle.question.specs.declared.Outcome.{Outcome}
@@ -28,11 +29,8 @@ abbrev pub counted : Answer (List ℕ) → Answer ℕ
 counted a = onward (λ cs. got (length cs)) a
 
 -- the codes, and 0 from there on
-unfoldable pub padded : List ℕ → List ℕ
-padded cs = cs ++ replicate (32 - length cs) 0
-
 abbrev pub codes-in : Answer (List ℕ) → List ℕ
-codes-in (got cs) = padded cs
+codes-in (got cs) = padded 32 cs
 codes-in (refused n p) = replicate 32 0
 
 -- the outcome, and every element of the array

@@ -16,12 +16,13 @@ use Rattle.fields.specs.Symbols.{Numbered, arity, order-code}
 use Rattle.fields.proofs.Bools.{cond-then, not-got, onward-got, and-right}
 use Rattle.fields.proofs.Symbols.{push-got}
 use Rattle.narrowed.specs.declared.Members.{Members}
-use Rattle.narrowed.specs.Form.{order-codes}
+use Rattle.narrowed.specs.Form.{order-codes, numbers}
 use Rattle.narrowed.specs.Given.{symbols-given, members-given, given}
 use Rattle.narrowed.specs.Said.{segment-codes}
+use Rattle.narrowed.proofs.Filled.{codes-numbers}
 use Rattle.bytes.proofs.Parts.{symbols-many, members-many}
 use Rattle.bytes.specs.Wrote.{Few}
-use Rattle.writing.specs.Verdict.{symbol-size, symbol?, offered, path-verdict, member-verdict, numbers, members-verdict, verdict}
+use Rattle.writing.specs.Verdict.{symbol-size, symbol?, offered, path-verdict, member-verdict, members-verdict, verdict}
 
 -- the first of some elements from k on
 take-more : (l : List ℕ) (k n : ℕ) → 0 < n → k + n ≤ length l → take n (drop k l) ≡ getD l k 0 ∷ take (n - 1) (drop (k + 1) l)
@@ -74,10 +75,6 @@ module _ {l : List ℕ} {k n at : ℕ} {q : Stack} {i place : ℕ} (r : AtSymbol
 given-numbers : (ns ms : List ℕ) (n k : ℕ) → k + n ≤ length ns → numbers (symbols-given ns ms n k) ≡ take n (drop k ns)
 given-numbers ns ms zero k h = refl
 given-numbers ns ms (suc n) k h = ap (λ (l : List ℕ). getD ns k 0 ∷ l) (given-numbers ns ms n (suc k) (omega arith)) ∙ ap (take (suc n)) (sym (drop-cons ns k 0 (omega arith)))
-
-codes-numbers : (xs : List Numbered) → order-codes xs ≡ map order-code (numbers xs)
-codes-numbers [] = refl
-codes-numbers (x ∷ xs) = ap (λ (l : List ℕ). order-code (x .number) ∷ l) (codes-numbers xs)
 
 given-codes : (ns ms : List ℕ) (n k : ℕ) → k + n ≤ length ns → order-codes (symbols-given ns ms n k) ≡ segment-codes ns k (k + n)
 given-codes ns ms n k h =

@@ -4,7 +4,7 @@ use Prim.Native.Nat.{ℕ, suc, _+_, _≤_}
 use mathlib.Core.Path.{_≡_, refl, ap, ap₂, _∙_, sym}
 use mathlib.Core.Logic.{inl, inr}
 use mathlib.Core.Bool.{Bool, true, false, cond}
-use mathlib.Core.List.{List, [], _∷_, _++_, map, append-assoc}
+use mathlib.Core.List.{List, [], _∷_, _++_, append-assoc}
 use lib.ListN.{length, getD, take, drop, length-map}
 use lib.Seq.{sets, sets-eq, getD-drop, drop-drop, take-append-seam, drop-append-seam}
 use lib.Dec.{leb}
@@ -15,16 +15,17 @@ use Rattle.fields.specs.Answer.{Answer, got, refused}
 use Rattle.fields.specs.Reading.{read}
 use Rattle.fields.specs.Symbols.{Numbered, numbered}
 use Rattle.fields.proofs.Bools.{not-got}
+use Rattle.fields.specs.Padded.{padded}
 use Rattle.narrowed.specs.declared.Members.{Members}
-use Rattle.narrowed.specs.Form.{Flat, flat, narrowed-form}
+use Rattle.narrowed.specs.Form.{Flat, flat, numbers, set-numbers, narrowed-form}
 use Rattle.fields.specs.Symbols.{Fine, Runs}
 use Rattle.narrowed.specs.Formed.{InOrder, WellFormed}
 use Rattle.narrowed.specs.Writing.{encode}
 use Rattle.narrowed.specs.Given.{symbol-given, symbols-given, members-given, given}
-use Rattle.narrowed.specs.Said.{Packed, padded, sizes-of, from-of, to-of, numbers-of, sets-of}
+use Rattle.narrowed.specs.Said.{Packed, sizes-of, from-of, to-of, numbers-of, sets-of}
 use Rattle.narrowed.proofs.Bytes.{Bytes}
 use Rattle.narrowed.proofs.Back.{encode-read, accepted-formed}
-use Rattle.writing.specs.Verdict.{numbers, verdict}
+use Rattle.writing.specs.Verdict.{verdict}
 use Rattle.writing.specs.Outcome.{written, area-after, file-of, judgement}
 use Rattle.writing.proofs.Verdict.{Whole, verdict-is, given-normal}
 
@@ -38,9 +39,6 @@ heads l k x r e =
 symbol-back : (x : Numbered) → Fine x → symbol-given (x .number) (x .set) ≡ x
 symbol-back x (inl (h, z)) = simp (ne-eqb (x .number) 255 (omega arith)) (ap (numbered (x .number)) (sym z))
 symbol-back x (inr (e, h)) = simp (eq-eqb (x .number) 255 e)
-
-abbrev set-numbers : List Numbered → List ℕ
-set-numbers xs = map (λ x. x .set) xs
 
 symbols-back : (ns ms : List ℕ) (xs : List Numbered) (q : Stack) (k : ℕ) (r r′ : List ℕ) → Runs q xs → drop k ns ≡ numbers xs ++ r → drop k ms ≡ set-numbers xs ++ r′
     → symbols-given ns ms (length xs) k ≡ xs

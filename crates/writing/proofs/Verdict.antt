@@ -17,7 +17,7 @@ use Rattle.fields.specs.Symbols.{Numbered, numbered, operator-of, symbol-in, ar
 use Rattle.fields.proofs.Bools.{and-left}
 use Rattle.fields.proofs.Going.{Going, going-start, going-ends, going-more, going-refused}
 use Rattle.narrowed.specs.declared.Members.{Members}
-use Rattle.narrowed.specs.Form.{Flat, flat, State, Open, open-as, between, within, head, due, grown, judge, narrowed-form, order-codes}
+use Rattle.narrowed.specs.Form.{Flat, flat, numbers, State, Open, open-as, between, within, head, due, grown, judge, narrowed-form, order-codes}
 use Rattle.narrowed.specs.Writing.{two-bytes, eight-bytes, symbol-tag, symbol-body, symbol-bytes, symbols-bytes, head-bytes, member-bytes, members-bytes, encode}
 use Rattle.narrowed.specs.Given.{symbols-given, members-given, given}
 use Rattle.narrowed.proofs.Ahead.{one-more}
@@ -25,7 +25,7 @@ use Rattle.narrowed.proofs.Bytes.{word-back, eight-back}
 use Rattle.narrowed.proofs.Lies.{Lies, field-lies, ends-lie}
 use Rattle.narrowed.proofs.Symbols.{symbol-fits, symbol-short, step-back, operator-back}
 use Rattle.narrowed.proofs.Forth.{head-fits, open-fits, opened, head-body, from-back, to-back}
-use Rattle.writing.specs.Verdict.{symbol-size, symbol?, offered, path-verdict, member-verdict, numbers, members-verdict, verdict}
+use Rattle.writing.specs.Verdict.{symbol-size, symbol?, offered, path-verdict, member-verdict, members-verdict, verdict}
 use Rattle.writing.proofs.Judging.{offered-got}
 
 -- only a join through a set has one

@@ -2,7 +2,7 @@
 -- proofs/Verdict.antt has that it is the reader's judgement of the file.
 -- Assumes nothing.
 use mathlib.Core.Bool.{Bool, cond, _&&_, _||_}
-use mathlib.Core.List.{List, [], _∷_, map}
+use mathlib.Core.List.{List, [], _∷_}
 use Prim.Native.Nat.{ℕ, _+_}
 use lib.Dec.{leb, ltb, eqb}
 use lib.ListN.{length}
@@ -10,8 +10,8 @@ use Rattle.theory.specs.PathExpr.{before?}
 use Rattle.fields.specs.declared.Stack.{Stack}
 use Rattle.fields.specs.Answer.{Answer, got, refused, onward}
 use Rattle.fields.specs.Said.{refusal-said}
-use Rattle.fields.specs.Symbols.{Numbered, arity, push}
-use Rattle.narrowed.specs.Form.{Flat, order-codes}
+use Rattle.fields.specs.Symbols.{arity, push}
+use Rattle.narrowed.specs.Form.{Flat, order-codes, numbers}
 use Rattle.writing.specs.declared.Place.{Place}
 use Rattle.writing.specs.declared.Place.the-variants as place
 
@@ -33,9 +33,6 @@ path-verdict q at (c ∷ cs) = onward (λ q′. path-verdict q′ (at + symbol-s
 -- a member of n symbols, whose 42 is at a place: refusal 3, and its path's
 unfoldable pub member-verdict : ℕ → ℕ → List ℕ → Answer ℕ
 member-verdict at n cs = cond (leb 1 n && leb n 48) (path-verdict (record { left = n; depth = 0 }) (at + 20) cs) (refused 3 at)
-
-abbrev pub numbers : List Numbered → List ℕ
-numbers xs = map (λ x. x .number) xs
 
 -- members after one of codes prev: refusal 4
 abbrev pub members-verdict : List ℕ → ℕ → List Flat → Answer ℕ

@@ -1,7 +1,7 @@
 -- `narrowed::refused` meets its contract.
 -- Assumes nothing.
 use mathlib.Core.Path.{refl}
-use Rattle.narrowed.specs.Said.{padded}
+use Rattle.fields.specs.Padded.{padded}
 use Rattle.narrowed.proofs.refused.Statement.{statement}
 use Rattle.narrowed.proofs.refused.Tie as tie
 

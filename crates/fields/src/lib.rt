@@ -6,7 +6,7 @@ ghost use Rattle.fields.specs.Table.{allowed, matching, among, rows};
 ghost use Rattle.fields.specs.Reading.{fitting, field-at, word, eight};
 ghost use Rattle.fields.specs.Raw.{raw-at, body-in, judged};
 ghost use Rattle.fields.specs.Symbols.{symbol-length, step-of, operator-of, symbol-in, push, arity, due-symbols};
-ghost use Rattle.fields.specs.Said.{field-said, symbol-said, push-said};
+ghost use Rattle.fields.specs.Said.{number-of, place-of, field-said, symbol-said, push-said};
 
 // Why a file or a call is refused: the paper's numbers 1 to 6 and 11 to 16, each with its place.
 pub enum Refusal {
@@ -22,6 +22,45 @@ pub enum Refusal {
     AreaShort(usize),
     WorkShort(usize),
     Breach(usize),
+}
+
+// The paper's number of a refusal, and its place.
+pub fn number_of(r: Refusal) -> u8
+    ensures { λ n. ⌜ n ≡ number-of r ⌝ }
+{
+    match r {
+        Refusal::Truncated(_) => 1,
+        Refusal::Unexpected(_) => 2,
+        Refusal::OutOfRange(_) => 3,
+        Refusal::NotAscending(_) => 4,
+        Refusal::WrongEnd(_) => 5,
+        Refusal::Operands(_) => 6,
+        Refusal::UnnamedLink(_) => 11,
+        Refusal::TooMany(_) => 12,
+        Refusal::TooLong(_) => 13,
+        Refusal::AreaShort(_) => 14,
+        Refusal::WorkShort(_) => 15,
+        Refusal::Breach(_) => 16,
+    }
+}
+
+pub fn place_of(r: Refusal) -> usize
+    ensures { λ n. ⌜ n ≡ place-of r ⌝ }
+{
+    match r {
+        Refusal::Truncated(p) => p,
+        Refusal::Unexpected(p) => p,
+        Refusal::OutOfRange(p) => p,
+        Refusal::NotAscending(p) => p,
+        Refusal::WrongEnd(p) => p,
+        Refusal::Operands(p) => p,
+        Refusal::UnnamedLink(p) => p,
+        Refusal::TooMany(p) => p,
+        Refusal::TooLong(p) => p,
+        Refusal::AreaShort(p) => p,
+        Refusal::WorkShort(p) => p,
+        Refusal::Breach(p) => p,
+    }
 }
 
 // Kind numbers and link numbers are two numberings, and both begin at 0.

@@ -22,7 +22,7 @@ use Rattle.fields.proofs.Going.{Going, going-start, going-ends, going-wrong, go
 use Rattle.narrowed.specs.Form.{Flat, flat, open-as, State, head, between, within, due, judge as judge-of, narrowed-form, order-codes}
 use Rattle.narrowed.specs.declared.Standing.{Standing}
 use Rattle.narrowed.specs.declared.Standing.the-variants.{Head, Between, Within}
-use Rattle.narrowed.specs.Said.{go, more, last, due-of, judged, Ready}
+use Rattle.narrowed.specs.Said.{go, more, last, due-of, judged, Ready, Able}
 use Rattle.narrowed.specs.Said as said
 use Rattle.narrowed.proofs.Moves.{moves, judge-sym, judge-stop, more-is, last-is, go-not, open-not, count-go, count-stop, open-go, open-stop}
 
@@ -67,7 +67,22 @@ Shut st = (v : ℕ) → open-list st v ≡ []
 abbrev pub Opened : Standing → Type 0
 Opened st = (v : ℕ) → open-list st v ≡ v ∷ []
 
+-- a field that was found is ready to be judged
+pub field-ready : (s : List ℕ) (at u m : ℕ) (st : Standing) → Able st → field-at (due-of st) s at ≡ body u m → Ready st u (length (take m (drop (at + 3) s)))
+unfolding tag-length rows
+field-ready s at u m Head r e = let g = found (due-of Head) s at u m e in body-length g ∙ one-due (due-of Head) u m refl (g .fit) .1
+field-ready s at u m (Between l) r e =
+    let g = found (due-of (Between l)) s at u m e in
+    let h : l ≡ 0 → ⊥ = eqb-false l 0 (g .more) in
+    (body-length g ∙ one-due (due-of (Between l)) u m refl (g .fit) .1, omega arith)
+field-ready s at u m (Within l p q) r e = let g = in-path file.Narrowed q s at u m e in (g .long, (g .some, r))
+
 module _ (s : List ℕ) (at : ℕ) (P : List ℕ) (ms : List Flat) (f t : ℕ) (xs : List Numbered) where
+  pub tracks-able : (st : Standing) → Tracks s st at P ms f t xs → Able st
+  tracks-able Head r = tt
+  tracks-able (Between l) r = tt
+  tracks-able (Within l p q) r = omega (arith, r .holds .1, r .holds .2)
+
   pub tracks-ends : (st : Standing) → Tracks s st at P ms f t xs → field-at (due-of st) s at ≡ ends → (read narrowed-form s ≡ got ms) × (xs ≡ []) × Shut st
   tracks-ends Head r e = absurd (false≢true (ended (due-of Head) s at e .may))
   tracks-ends (Between l) r e = (going-ends narrowed-form s _ _ at (r .going) e, r .holds .1, λ v. refl)
@@ -84,17 +99,6 @@ module _ (s : List ℕ) (at : ℕ) (P : List ℕ) (ms : List Flat) (f t : ℕ) (
 
     abbrev N : ℕ
     N = at + 3 + m
-
-    pub tracks-ready : (st : Standing) → Tracks s st at P ms f t xs → field-at (due-of st) s at ≡ body u m → Ready st u (length (take m (drop (at + 3) s)))
-    unfolding tag-length rows
-    tracks-ready Head r e = let g = found (due-of Head) s at u m e in body-length g ∙ one-due (due-of Head) u m refl (g .fit) .1
-    tracks-ready (Between l) r e =
-        let g = found (due-of (Between l)) s at u m e in
-        let h : l ≡ 0 → ⊥ = eqb-false l 0 (g .more) in
-        (body-length g ∙ one-due (due-of (Between l)) u m refl (g .fit) .1, omega arith)
-    tracks-ready (Within l p q) r e =
-        let g = in-path file.Narrowed q s at u m e in
-        (g .long, (g .some, omega (arith, r .holds .1, r .holds .2)))
 
     stops : (st : Standing) (i j : ℕ) → judged st at N u B ≡ refused i j → judge-of (state-of st P ms f t xs) at N u B ≡ refused i j
     stops Head i j h = count-stop at B i j h
@@ -133,7 +137,7 @@ module _ (s : List ℕ) (at : ℕ) (P : List ℕ) (ms : List Flat) (f t : ℕ) (
         let w′ : Within (l - 1) at (record { left = getD B 0 0; depth = 0 }) ≡ st′ = cc in
         let q : Stack = record { left = getD B 0 0; depth = 0 } in
         let o = open-as at (eight B 1) (eight B 9) q [] in
-        let y = tracks-ready (Between l) r e in
+        let y = field-ready s at u m (Between l) tt e in
         let j : judge-of (between l P ms) at N u B ≡ got (within (l - 1) P ms o) = rw k in
         let lo = leb-true 1 (getD B 0 0) (and-left _ (leb (getD B 0 0) 48) k) in
         let hi = leb-true (getD B 0 0) 48 (and-right (leb 1 (getD B 0 0)) _ k) in

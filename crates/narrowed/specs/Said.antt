@@ -3,7 +3,7 @@
 use mathlib.Core.Path.{_≡_}
 use mathlib.Core.Bool.{false, cond, _&&_}
 use mathlib.Core.List.{List, [], map}
-use Prim.Native.Nat.{ℕ, _-_, _<_}
+use Prim.Native.Nat.{ℕ, _+_, _-_, _<_}
 use lib.Dec.{leb, eqb}
 use lib.ListN.{length, getD, take, drop}
 use Rattle.theory.specs.Lists.{concat-map}
@@ -11,12 +11,14 @@ use Rattle.fields.specs.declared.File.the-variants as file
 use Rattle.fields.specs.declared.Due.{Due}
 use Rattle.fields.specs.declared.Stack.{Stack}
 use Rattle.fields.specs.Answer.{Answer, got, refused, onward}
-use Rattle.fields.specs.Reading.{word, eight}
+use Rattle.fields.specs.Reading.{Field, field-at, word, eight}
+use Rattle.fields.specs.Reading as field
 use Rattle.fields.specs.Said.{refusal-said}
 use Rattle.fields.specs.Symbols.{Numbered, order-code, symbol-in, symbol-length, arity, push, due-symbols}
 use Rattle.narrowed.specs.declared.Members.{Members}
 use Rattle.narrowed.specs.declared.Outcome.{Outcome}
 use Rattle.narrowed.specs.declared.Outcome.the-variants as outcome
+use Rattle.narrowed.specs.declared.Marks.{Marks}
 use Rattle.narrowed.specs.declared.Standing.{Standing}
 use Rattle.narrowed.specs.declared.Standing.the-variants.{Head, Between, Within}
 use Rattle.narrowed.specs.declared.Turn.{Turn}
@@ -72,8 +74,9 @@ due-of Head = record { file = file.Narrowed; lo = 0x41; hi = 0x41; ends = false;
 due-of (Between l) = record { file = file.Narrowed; lo = 0x42; hi = 0x42; ends = eqb l 0; over = eqb l 0 }
 due-of (Within l p q) = due-symbols file.Narrowed q
 
--- what a body does: it goes on; it opens a member of so many symbols with these sets; a symbol, with its set; a member's last symbol
+-- what a field does: the file ends before it; it goes on; it opens a member of so many symbols with these sets; a symbol, with its set; a member's last symbol
 pub data Move : Type 0 where
+  ends : Move
   go : Standing → Move
   open-as : ℕ → ℕ → ℕ → Standing → Move
   more : ℕ → ℕ → Standing → Move
@@ -108,6 +111,7 @@ Ready (Between l) t n = (n ≡ 17) × (0 < l)
 Ready (Within l p q) t n = (n ≡ symbol-length t) × ((0 < q .left) × (q .depth < 255))
 
 abbrev pub turn-said : Turn → Answer Move
+turn-said turn.Ends = got ends
 turn-said (turn.Stop r) = refusal-said r
 turn-said (turn.Go st) = got (go st)
 turn-said (turn.Open n f t st) = got (open-as n f t st)
@@ -117,3 +121,24 @@ turn-said (turn.Last c m l p) = got (last c m l p)
 -- the codes of the symbols from a to b
 abbrev pub segment-codes : List ℕ → ℕ → ℕ → List ℕ
 segment-codes l a b = map order-code (take (b - a) (drop a l))
+
+-- what the code needs of a standing before it looks at a field
+abbrev pub Able : Standing → Type 0
+Able Head = Unit {0}
+Able (Between l) = Unit {0}
+Able (Within l p q) = q .depth < 255
+
+-- by the field found at a place
+abbrev pub turned-by : Standing → ℕ → List ℕ → Field → Answer Move
+turned-by st at s field.ends = got ends
+turned-by st at s (field.wrong n p) = refused n p
+turned-by st at s (field.body t n) = judged st at (at + 3 + n) t (take n (drop (at + 3) s))
+
+unfoldable pub turned : Standing → ℕ → List ℕ → Answer Move
+turned st at s = turned-by st at s (field-at (due-of st) s at)
+
+abbrev pub marked : Standing → ℕ → ℕ → ℕ → ℕ → ℕ → Marks
+marked st at done prev first used = record { st = st; at = at; done = done; prev = prev; first = first; used = used }
+
+abbrev pub arrays : ℕ → List ℕ → List ℕ → List ℕ → List ℕ → List ℕ → Members
+arrays count sizes from to numbers sets = record { count = count; sizes = sizes; from = from; to = to; numbers = numbers; sets = sets }

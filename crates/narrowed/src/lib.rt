@@ -8,13 +8,13 @@ use fields::Seen;
 use fields::Stack;
 ghost use mathlib.Core.Path.{_≡_};
 ghost use mathlib.Core.List.{[]};
-ghost use Prim.Native.Nat.{_≤_, _<_};
-ghost use lib.ListN.{length, replicate};
+ghost use Prim.Native.Nat.{_+_, _≤_, _<_};
+ghost use lib.ListN.{length, replicate, set};
 ghost use Rattle.theory.specs.PathExpr.{before?};
-ghost use Rattle.fields.specs.Reading.{read as read-file};
+ghost use Rattle.fields.specs.Reading.{read as read-file, word};
 ghost use Rattle.fields.specs.Symbols.{order-code, symbol-length};
 ghost use Rattle.narrowed.specs.Form.{narrowed-form};
-ghost use Rattle.narrowed.specs.Said.{Reads, segment-codes, due-of, count-of, open-move, symbol-move, judged, Ready, turn-said, Packed};
+ghost use Rattle.narrowed.specs.Said.{Reads, segment-codes, due-of, count-of, open-move, symbol-move, judged, Ready, turn-said, Packed, Able, turned, marked, arrays};
 
 // The number of members, or why the file is refused.
 pub enum Outcome {
@@ -45,12 +45,26 @@ pub enum Standing {
     Within(u8, usize, Stack),
 }
 
+// What a field does: the file ends before it; it is refused; it goes on; it opens a member, with its number of symbols and sets; it is a
+// symbol, with its set; it is a member's last symbol, with the members left and the place of its 42.
 pub enum Turn {
+    Ends,
     Stop(Refusal),
     Go(Standing),
     Open(u8, u64, u64, Standing),
     More(u8, u64, Standing),
     Last(u8, u64, u8, usize),
+}
+
+// How far the reading has come: where it stands, the place, the members done, where the symbols of the member before and of the open
+// one begin, and the symbols in all.
+pub struct Marks {
+    pub st: Standing,
+    pub at: usize,
+    pub done: usize,
+    pub prev: usize,
+    pub first: usize,
+    pub used: usize,
 }
 
 fn due(st: Standing) -> Due
@@ -178,6 +192,41 @@ pub fn earlier(numbers: &[u8], a: usize, b: usize, e: usize) -> bool
     j < e
 }
 
+fn start() -> Marks
+    ensures { λ r. ⌜ r ≡ marked Standing.Head 0 0 0 0 0 ⌝ }
+{
+    Marks {
+        st: Standing::Head,
+        at: 0,
+        done: 0,
+        prev: 0,
+        first: 0,
+        used: 0,
+    }
+}
+
+fn accepted(
+    count: usize,
+    sizes: [u8; 128],
+    from: [u64; 128],
+    to: [u64; 128],
+    numbers: [u8; 6144],
+    sets: [u64; 6144],
+) -> Narrowed
+    ensures { λ x. ⌜ (x .outcome ≡ Outcome.Accepted count) × (x .members ≡ arrays count sizes from to numbers sets) ⌝ }
+{
+    let outcome = Outcome::Accepted(count);
+    let members = Members {
+        count,
+        sizes,
+        from,
+        to,
+        numbers,
+        sets,
+    };
+    Narrowed { outcome, members }
+}
+
 fn refused(r: Refusal) -> Narrowed
     ensures { λ x. ⌜ (x .outcome ≡ Outcome.Refused r) × Packed [] (x .members) ⌝ }
 {
@@ -198,6 +247,93 @@ fn refused(r: Refusal) -> Narrowed
     Narrowed { outcome, members }
 }
 
+// The field at a place, judged.
+fn look(s: &[u8], st: Standing, at: usize) -> Turn
+    requires { ⌜ Able st × (at ≤ length (now s)) ⌝ }
+    ensures { λ r. ⌜ turn-said r ≡ turned st at (now (s .entry)) ⌝ }
+{
+    match fields::field(s, at, due(st)) {
+        Seen::Ends => Turn::Ends,
+        Seen::Wrong(r) => Turn::Stop(r),
+        Seen::Body(tag, len) => {
+            let next = at + 3 + len as usize;
+            judge(st, at, next, tag, fields::body_at(s, at))
+        }
+    }
+}
+
+// The place after the field at a place.
+fn next_at(s: &[u8], at: usize) -> usize
+    requires { ⌜ at + 3 + word (now s) (at + 1) ≤ length (now s) ⌝ }
+    ensures { λ r. ⌜ r ≡ at + 3 + word (now (s .entry)) (at + 1) ⌝ }
+{
+    at + 3 + fields::two(s, at + 1) as usize
+}
+
+// After the file's head or a member's.
+fn past(k: Marks, at: usize, st: Standing) -> Marks
+    ensures { λ r. ⌜ r ≡ marked st at (k .done) (k .prev) (k .first) (k .used) ⌝ }
+{
+    Marks {
+        st,
+        at,
+        done: k.done,
+        prev: k.prev,
+        first: k.first,
+        used: k.used,
+    }
+}
+
+// After a symbol.
+fn one_more(k: Marks, at: usize, st: Standing) -> Marks
+    requires { ⌜ k .used < 6144 ⌝ }
+    ensures { λ r. ⌜ r ≡ marked st at (k .done) (k .prev) (k .first) (k .used + 1) ⌝ }
+{
+    Marks {
+        st,
+        at,
+        done: k.done,
+        prev: k.prev,
+        first: k.first,
+        used: k.used + 1,
+    }
+}
+
+// After a member's last symbol.
+fn closed(k: Marks, at: usize, left: u8) -> Marks
+    requires { ⌜ (k .used < 6144) × (k .done < 128) ⌝ }
+    ensures { λ r. ⌜ r ≡ marked (Standing.Between left) at (k .done + 1) (k .first) (k .used + 1) (k .used + 1) ⌝ }
+{
+    Marks {
+        st: Standing::Between(left),
+        at,
+        done: k.done + 1,
+        prev: k.first,
+        first: k.used + 1,
+        used: k.used + 1,
+    }
+}
+
+// Puts a member's number of symbols and sets into the arrays.
+fn keep_head(sizes: &mut [u8], from: &mut [u64], to: &mut [u64], i: usize, n: u8, f: u64, t: u64)
+    requires { ⌜ (i < length (now sizes)) × ((i < length (now from)) × (i < length (now to))) ⌝ }
+    ensures { λ _. ⌜ (now (sizes .exit) ≡ set (now (sizes .entry)) i n)
+        × ((now (from .exit) ≡ set (now (from .entry)) i f) × (now (to .exit) ≡ set (now (to .entry)) i t)) ⌝ }
+{
+    sizes[i] = n;
+    from[i] = f;
+    to[i] = t;
+}
+
+// Puts a symbol into the arrays.
+fn keep(numbers: &mut [u8], sets: &mut [u64], i: usize, c: u8, m: u64)
+    requires { ⌜ (i < length (now numbers)) × (i < length (now sets)) ⌝ }
+    ensures { λ _. ⌜ (now (numbers .exit) ≡ set (now (numbers .entry)) i c) × (now (sets .exit) ≡ set (now (sets .entry)) i m) ⌝ }
+{
+    numbers[i] = c;
+    sets[i] = m;
+}
+
 // Reads a narrowed question's file.
 pub fn read(s: &[u8]) -> Narrowed
     ensures { λ r. ⌜ Reads (read-file narrowed-form (now (s .entry))) (r .outcome) (r .members) ⌝ }
@@ -207,67 +343,33 @@ pub fn read(s: &[u8]) -> Narrowed
     let mut to = [0u64; 128];
     let mut numbers = [0u8; 6144];
     let mut sets = [0u64; 6144];
-    let mut st = Standing::Head;
-    let mut at = 0;
-    let mut done = 0;
-    let mut prev = 0;
-    let mut first = 0;
-    let mut used = 0;
+    let mut k = start();
     loop {
-        match fields::field(s, at, due(st)) {
-            Seen::Ends => {
-                let outcome = Outcome::Accepted(done);
-                let members = Members {
-                    count: done,
-                    sizes,
-                    from,
-                    to,
-                    numbers,
-                    sets,
-                };
-                return Narrowed { outcome, members };
+        let st = k.st;
+        match look(s, st, k.at) {
+            Turn::Ends => {
+                return accepted(k.done, sizes, from, to, numbers, sets);
             }
-            Seen::Wrong(r) => {
+            Turn::Stop(r) => {
                 return refused(r);
             }
-            Seen::Body(tag, len) => {
-                let next = at + 3 + len as usize;
-                match judge(st, at, next, tag, fields::body_at(s, at)) {
-                    Turn::Stop(r) => {
-                        return refused(r);
-                    }
-                    Turn::Go(w) => {
-                        st = w;
-                        at = next;
-                    }
-                    Turn::Open(n, f, t, w) => {
-                        sizes[done] = n;
-                        from[done] = f;
-                        to[done] = t;
-                        st = w;
-                        at = next;
-                    }
-                    Turn::More(c, m, w) => {
-                        numbers[used] = c;
-                        sets[used] = m;
-                        used += 1;
-                        st = w;
-                        at = next;
-                    }
-                    Turn::Last(c, m, l, p) => {
-                        numbers[used] = c;
-                        sets[used] = m;
-                        used += 1;
-                        if earlier(&numbers, prev, first, used) {
-                            prev = first;
-                            first = used;
-                            done += 1;
-                            st = Standing::Between(l);
-                            at = next;
-                        } else {
-                            return refused(Refusal::NotAscending(p));
-                        }
-                    }
+            Turn::Go(w) => {
+                k = past(k, next_at(s, k.at), w);
+            }
+            Turn::Open(n, f, t, w) => {
+                keep_head(&mut sizes, &mut from, &mut to, k.done, n, f, t);
+                k = past(k, next_at(s, k.at), w);
+            }
+            Turn::More(c, m, w) => {
+                keep(&mut numbers, &mut sets, k.used, c, m);
+                k = one_more(k, next_at(s, k.at), w);
+            }
+            Turn::Last(c, m, l, p) => {
+                keep(&mut numbers, &mut sets, k.used, c, m);
+                if earlier(&numbers, k.prev, k.first, k.used + 1) {
+                    k = closed(k, next_at(s, k.at), l);
+                } else {
+                    return refused(Refusal::NotAscending(p));
                 }
             }
         }

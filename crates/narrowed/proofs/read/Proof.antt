@@ -1,62 +1,41 @@
 -- `narrowed::read` meets its contract.
 -- Assumes nothing.
-use mathlib.Core.Path.{_≡_, _∙_, ap, sym}
-use lib.ListN.{length, take, drop}
-use denote.Ref.{now}
-use Rattle.fields.specs.Reading.{ends, wrong, body, field-at}
-use Rattle.fields.specs.Said.{field-said, number-of, place-of}
-use Rattle.fields.proofs.Fields.{found}
-use Rattle.fields.proofs.Raws.{body-found}
-use Rattle.narrowed.specs.Said.{outcome-said, due-of, judged, turn-said}
-use Rattle.narrowed.proofs.Loop.{Reading, reads-refused, reading-start, reading-ends, reading-wrong, reading-ready, reading-stop, reading-go, reading-open, reading-more, last-room, last-long, last-done, last-ordered, reading-order, reading-last}
+use mathlib.Core.Path.{_∙_, ap, sym, subst}
+use Prim.Native.Nat.{_-_}
+use native.Mathlib.Omega.{arith}
+use Rattle.narrowed.specs.declared.Marks.{Marks}
+use Rattle.narrowed.specs.Said.{outcome-said, turn-said}
+use lib.ListN.{length}
+use Rattle.narrowed.proofs.Loop.{At, at-start, reading-able, reads-refused, turn-ends, turn-stop, turn-room, go-moves, open-moves, more-moves, last-moves, turn-go, turn-open, turn-more, turn-last, turn-order, at-open, at-more, at-close}
 use borrow.Author.Needs.{needs}
-use Prim.Native.Nat.{_+_, _-_, _≤_}
+use Prim.Native.Nat.{_-_}
 use native.Mathlib.Omega.{arith}
 use Rattle.narrowed.proofs.read.Statement.{statement}
 use Rattle.narrowed.proofs.read.Tie as tie
 
 abbrev Inv-loop : tie.InvT-loop
-Inv-loop s sizes₀ from₀ to₀ numbers₀ sets₀ st₀ at₀ done₀ prev₀ first₀ used₀ sizes from to numbers sets st at done prev first used = Reading s st at done prev first used sizes from to numbers sets
+Inv-loop s sizes₀ from₀ to₀ numbers₀ sets₀ k₀ sizes from to numbers sets k = At s sizes from to numbers sets k
 
 abbrev μ-loop : tie.MeasureT-loop
-μ-loop s sizes₀ from₀ to₀ numbers₀ sets₀ st₀ at₀ done₀ prev₀ first₀ used₀ sizes from to numbers sets st at done prev first used = length s - at
+μ-loop s sizes₀ from₀ to₀ numbers₀ sets₀ k₀ sizes from to numbers sets k = length s - k .at
 
--- where a body is at hand: the field that the definition finds there
-at-body : (c : tie.After-known-told2 Inv-loop μ-loop) →
-    let l = c .before .before .before .before .before .loop in
-    let v = c .before .tag .given .0 in
-    field-at (due-of (l .st)) (now (c .before .before .before .before .before .before .before .args .s)) (l .at) ≡ body (v .0) (v .1 .0)
-at-body c = cc (ap field-said (c .before .tag .given .1))
-
-room : (c : tie.After-known-told2 Inv-loop μ-loop) → c .before .before .before .before .before .loop .at + 3 + c .before .tag .given .0 .1 .0 ≤ length (now (c .before .before .before .before .before .before .before .args .s))
-room c = found (due-of (c .before .before .before .before .before .loop .st)) (now (c .before .before .before .before .before .before .before .args .s)) _ _ _ (at-body c) .room
-
--- the part handed out is that field's body
-is-body : (c : tie.After-body-at Inv-loop μ-loop) →
-    now (c .body-at .result) ≡ take (c .before .before .tag .given .0 .1 .0) (drop (c .before .before .before .before .before .before .loop .at + 3) (now (c .before .before .before .before .before .before .before .before .args .s)))
-is-body c = c .body-at .ensures ∙ body-found _ _ _ _ _ (at-body (c .before))
-
--- where it is judged
-is-judged : (c : tie.After-judge Inv-loop μ-loop) →
-    let l = c .before .before .before .before .before .before .before .loop in
-    let v = c .before .before .before .tag .given .0 in
-    judged (l .st) (l .at) (l .at + 3 + v .1 .0) (v .0) (take (v .1 .0) (drop (l .at + 3) (now (c .before .before .before .before .before .before .before .before .before .args .s)))) ≡ turn-said (c .judge .result)
-is-judged c = rw (← is-body (c .before)) (sym (c .judge .ensures))
+start-requires : tie.Need-start-requires Inv-loop μ-loop
+start-requires c κs = search needs
 
 loop-holds : tie.Need-loop-holds Inv-loop μ-loop
-loop-holds c = reading-start _
+loop-holds c = subst (At _ _ _ _ _ _) (sym (c .start .ensures)) (at-start _)
 
-due-requires : tie.Need-due-requires Inv-loop μ-loop
-due-requires c κs = search needs
-
-field-requires : tie.Need-field-requires Inv-loop μ-loop
-field-requires c κs = search needs
+look-requires : tie.Need-look-requires Inv-loop μ-loop
+look-requires c κs = reading-able (c .loop .inv .0)
 
 enum-told : tie.Need-enum-told Inv-loop μ-loop
 enum-told c = search needs
 
+accepted-requires : tie.Need-accepted-requires Inv-loop μ-loop
+accepted-requires c κs = search needs
+
 returns : tie.Need-returns Inv-loop μ-loop
-returns c = let e : field-at (due-of (c .before .before .before .before .loop .st)) (now (c .before .before .before .before .before .before .args .s)) (c .before .before .before .before .loop .at) ≡ ends = cc (ap field-said (c .enum-told .given .1)) in let r = reading-ends (c .before .before .before .before .loop .inv) e in record { outcome = r .0; members = r .1 }
+returns c = rw (c .accepted .ensures .0, c .accepted .ensures .1) (turn-ends (c .before .before .before .before .loop .inv .0) (sym (c .before .before .before .look .ensures) ∙ ap turn-said (c .before .enum-told .given .1)))
 
 enum-known-r : tie.Need-enum-known-r Inv-loop μ-loop
 enum-known-r c = search needs
@@ -65,124 +44,112 @@ refused-requires : tie.Need-refused-requires Inv-loop μ-loop
 refused-requires c κs = search needs
 
 returns-2 : tie.Need-returns-2 Inv-loop μ-loop
-returns-2 c = let a = reading-wrong (c .before .before .before .before .before .before .loop .inv) _ _ (let e : field-at (due-of (c .before .before .before .before .before .before .loop .st)) (now (c .before .before .before .before .before .before .before .before .args .s)) (c .before .before .before .before .before .before .loop .at) ≡ wrong (number-of (c .before .before .r .given .0 .0)) (place-of (c .before .before .r .given .0 .0)) = cc (ap field-said (c .before .before .r .given .1)) in e) in reads-refused a (ap outcome-said (c .refused .ensures .0)) (c .refused .ensures .1)
+returns-2 c = reads-refused (turn-stop (c .before .before .before .before .before .loop .inv .0) _ _ (sym (c .before .before .before .before .look .ensures) ∙ ap turn-said (c .before .before .r .given .1))) (ap outcome-said (c .refused .ensures .0)) (c .refused .ensures .1)
 
-enum-known-tag : tie.Need-enum-known-tag Inv-loop μ-loop
-enum-known-tag c = search needs
+enum-known-w : tie.Need-enum-known-w Inv-loop μ-loop
+enum-known-w c = search needs
 
-add-next : tie.Need-add-next Inv-loop μ-loop
-add-next c = let r = room c in omega arith
+next-at-requires : tie.Need-next-at-requires Inv-loop μ-loop
+next-at-requires c κs = turn-room _ _ _ _ (go-moves _) (sym (c .before .before .before .look .ensures) ∙ ap turn-said (c .before .w .given .1))
 
-cast-next : tie.Need-cast-next Inv-loop μ-loop
-cast-next c = search needs
+past-requires : tie.Need-past-requires Inv-loop μ-loop
+past-requires c κs = search needs
 
-add-next-2 : tie.Need-add-next-2 Inv-loop μ-loop
-add-next-2 c = let r = room c in omega arith
+loop-less : tie.Need-loop-less Inv-loop μ-loop
+loop-less c = let p = ap (λ (k : Marks). k .at) (c .past .ensures) in let q = c .before .next-at .ensures in let h = turn-room _ _ _ _ (go-moves _) (sym (c .before .before .before .before .before .look .ensures) ∙ ap turn-said (c .before .before .before .w .given .1)) in omega arith
 
-body-at-requires : tie.Need-body-at-requires Inv-loop μ-loop
-body-at-requires c κs = search needs
+loop-again : tie.Need-loop-again Inv-loop μ-loop
+loop-again c = subst (At _ _ _ _ _ _) (sym (c .past .ensures)) (rw (c .before .next-at .ensures) (turn-go (c .before .before .before .before .before .before .loop .inv .0) _ (sym (c .before .before .before .before .before .look .ensures) ∙ ap turn-said (c .before .before .before .w .given .1)), c .before .before .before .before .before .before .loop .inv .1))
 
-judge-requires : tie.Need-judge-requires Inv-loop μ-loop
-judge-requires c κs = rw (is-body c) (reading-ready (c .before .before .before .before .before .before .loop .inv) _ _ (at-body (c .before)))
+enum-known-n : tie.Need-enum-known-n Inv-loop μ-loop
+enum-known-n c = search needs
 
-enum-known-r-2 : tie.Need-enum-known-r-2 Inv-loop μ-loop
-enum-known-r-2 c = search needs
+slice-aggregate-keep-head : tie.Need-slice-aggregate-keep-head Inv-loop μ-loop
+slice-aggregate-keep-head c = search needs
+
+slice-aggregate-keep-head-2 : tie.Need-slice-aggregate-keep-head-2 Inv-loop μ-loop
+slice-aggregate-keep-head-2 c = sym (c .before .before .before .before .before .before .loop .inv .1 .1)
+
+slice-aggregate-keep-head-3 : tie.Need-slice-aggregate-keep-head-3 Inv-loop μ-loop
+slice-aggregate-keep-head-3 c = sym (c .before .before .before .before .before .before .before .loop .inv .1 .2)
+
+keep-head-requires : tie.Need-keep-head-requires Inv-loop μ-loop
+keep-head-requires c κs = let h = turn-open (c .before .before .before .before .before .before .before .loop .inv .0) _ _ _ _ (sym (c .before .before .before .before .before .before .look .ensures) ∙ ap turn-said (c .before .before .before .before .n .given .1)) .0 in let l = c .before .before .before .before .before .before .before .loop .inv .1 in (omega (arith, h, l .0), (omega (arith, h, l .1), omega (arith, h, l .2)))
+
+next-at-requires-2 : tie.Need-next-at-requires-2 Inv-loop μ-loop
+next-at-requires-2 c κs = turn-room _ _ _ _ (open-moves _ _ _ _) (sym (c .before .before .before .before .before .before .before .before .before .before .look .ensures) ∙ ap turn-said (c .before .before .before .before .before .before .before .before .n .given .1))
+
+past-requires-2 : tie.Need-past-requires-2 Inv-loop μ-loop
+past-requires-2 c κs = search needs
+
+loop-less-2 : tie.Need-loop-less-2 Inv-loop μ-loop
+loop-less-2 c = let p = ap (λ (k : Marks). k .at) (c .past2 .ensures) in let q = c .before .next-at2 .ensures in let h = turn-room _ _ _ _ (open-moves _ _ _ _) (sym (c .before .before .before .before .before .before .before .before .before .before .before .before .look .ensures) ∙ ap turn-said (c .before .before .before .before .before .before .before .before .before .before .n .given .1)) in omega arith
+
+loop-again-2 : tie.Need-loop-again-2 Inv-loop μ-loop
+loop-again-2 c = let l = c .before .before .before .before .before .before .before .before .before .before .before .before .before .loop in rw (c .past2 .ensures, c .before .next-at2 .ensures, c .before .before .before .before .before .keep-head .ensures .0, c .before .before .before .before .before .keep-head .ensures .1 .0, c .before .before .before .before .before .keep-head .ensures .1 .1) (at-open _ (l .sizes) (l .from) (l .to) (l .numbers) (l .sets) (l .k) (l .inv) _ _ _ _ (sym (c .before .before .before .before .before .before .before .before .before .before .before .before .look .ensures) ∙ ap turn-said (c .before .before .before .before .before .before .before .before .before .before .n .given .1)))
+
+enum-known-c : tie.Need-enum-known-c Inv-loop μ-loop
+enum-known-c c = search needs
+
+slice-aggregate-keep : tie.Need-slice-aggregate-keep Inv-loop μ-loop
+slice-aggregate-keep c = sym (c .before .before .before .before .before .loop .inv .1 .3)
+
+slice-aggregate-keep-2 : tie.Need-slice-aggregate-keep-2 Inv-loop μ-loop
+slice-aggregate-keep-2 c = search needs
+
+keep-requires : tie.Need-keep-requires Inv-loop μ-loop
+keep-requires c κs = let h = turn-more (c .before .before .before .before .before .before .loop .inv .0) _ _ _ (sym (c .before .before .before .before .before .look .ensures) ∙ ap turn-said (c .before .before .before .c .given .1)) .0 in let l = c .before .before .before .before .before .before .loop .inv .1 in (omega (arith, h, l .3), omega (arith, h, l .4))
+
+next-at-requires-3 : tie.Need-next-at-requires-3 Inv-loop μ-loop
+next-at-requires-3 c κs = turn-room _ _ _ _ (more-moves _ _ _) (sym (c .before .before .before .before .before .before .before .before .look .ensures) ∙ ap turn-said (c .before .before .before .before .before .before .c .given .1))
+
+one-more-requires : tie.Need-one-more-requires Inv-loop μ-loop
+one-more-requires c κs = turn-more (c .before .before .before .before .before .before .before .before .before .before .loop .inv .0) _ _ _ (sym (c .before .before .before .before .before .before .before .before .before .look .ensures) ∙ ap turn-said (c .before .before .before .before .before .before .before .c .given .1)) .0
+
+loop-less-3 : tie.Need-loop-less-3 Inv-loop μ-loop
+loop-less-3 c = let p = ap (λ (k : Marks). k .at) (c .one-more .ensures) in let q = c .before .next-at3 .ensures in let h = turn-room _ _ _ _ (more-moves _ _ _) (sym (c .before .before .before .before .before .before .before .before .before .before .look .ensures) ∙ ap turn-said (c .before .before .before .before .before .before .before .before .c .given .1)) in omega arith
+
+loop-again-3 : tie.Need-loop-again-3 Inv-loop μ-loop
+loop-again-3 c = let l = c .before .before .before .before .before .before .before .before .before .before .before .loop in rw (c .one-more .ensures, c .before .next-at3 .ensures, c .before .before .before .before .keep .ensures .0, c .before .before .before .before .keep .ensures .1) (at-more _ (l .sizes) (l .from) (l .to) (l .numbers) (l .sets) (l .k) (l .inv) _ _ _ (sym (c .before .before .before .before .before .before .before .before .before .before .look .ensures) ∙ ap turn-said (c .before .before .before .before .before .before .before .before .c .given .1)))
+
+enum-known-c-2 : tie.Need-enum-known-c-2 Inv-loop μ-loop
+enum-known-c-2 c = search needs
+
+slice-aggregate-keep-3 : tie.Need-slice-aggregate-keep-3 Inv-loop μ-loop
+slice-aggregate-keep-3 c = sym (c .before .before .before .before .before .loop .inv .1 .3)
+
+slice-aggregate-keep-4 : tie.Need-slice-aggregate-keep-4 Inv-loop μ-loop
+slice-aggregate-keep-4 c = search needs
+
+keep-requires-2 : tie.Need-keep-requires-2 Inv-loop μ-loop
+keep-requires-2 c κs = let h = turn-last (c .before .before .before .before .before .before .loop .inv .0) _ _ _ _ (sym (c .before .before .before .before .before .look .ensures) ∙ ap turn-said (c .before .before .before .c2 .given .1)) .0 in let l = c .before .before .before .before .before .before .loop .inv .1 in (omega (arith, h, l .3), omega (arith, h, l .4))
+
+slice-aggregate-earlier : tie.Need-slice-aggregate-earlier Inv-loop μ-loop
+slice-aggregate-earlier c = search needs
+
+add-earlier : tie.Need-add-earlier Inv-loop μ-loop
+add-earlier c = let h = turn-last (c .before .before .before .before .before .before .before .before .before .before .before .loop .inv .0) _ _ _ _ (sym (c .before .before .before .before .before .before .before .before .before .before .look .ensures) ∙ ap turn-said (c .before .before .before .before .before .before .before .before .c2 .given .1)) .0 in omega arith
+
+earlier-requires : tie.Need-earlier-requires Inv-loop μ-loop
+earlier-requires c κs = let h = turn-last (c .before .before .before .before .before .before .before .before .before .before .before .loop .inv .0) _ _ _ _ (sym (c .before .before .before .before .before .before .before .before .before .before .look .ensures) ∙ ap turn-said (c .before .before .before .before .before .before .before .before .c2 .given .1)) in rw (c .before .before .before .before .keep2 .ensures .0) (h .2, (h .3, omega (arith, h .0, h .4)))
+
+next-at-requires-4 : tie.Need-next-at-requires-4 Inv-loop μ-loop
+next-at-requires-4 c κs = turn-room _ _ _ _ (last-moves _ _ _ _) (sym (c .before .before .before .before .before .before .before .before .before .before .before .before .look .ensures) ∙ ap turn-said (c .before .before .before .before .before .before .before .before .before .before .c2 .given .1))
+
+closed-requires : tie.Need-closed-requires Inv-loop μ-loop
+closed-requires c κs = let h = turn-last (c .before .before .before .before .before .before .before .before .before .before .before .before .before .before .loop .inv .0) _ _ _ _ (sym (c .before .before .before .before .before .before .before .before .before .before .before .before .before .look .ensures) ∙ ap turn-said (c .before .before .before .before .before .before .before .before .before .before .before .c2 .given .1)) in (h .0, h .1)
+
+loop-less-4 : tie.Need-loop-less-4 Inv-loop μ-loop
+loop-less-4 c = let p = ap (λ (k : Marks). k .at) (c .closed .ensures) in let q = c .before .next-at4 .ensures in let h = turn-room _ _ _ _ (last-moves _ _ _ _) (sym (c .before .before .before .before .before .before .before .before .before .before .before .before .before .before .look .ensures) ∙ ap turn-said (c .before .before .before .before .before .before .before .before .before .before .before .before .c2 .given .1)) in omega arith
+
+loop-again-4 : tie.Need-loop-again-4 Inv-loop μ-loop
+loop-again-4 c = let l = c .before .before .before .before .before .before .before .before .before .before .before .before .before .before .before .loop in rw (c .closed .ensures, c .before .next-at4 .ensures, c .before .before .before .before .before .before .before .before .keep2 .ensures .0, c .before .before .before .before .before .before .before .before .keep2 .ensures .1) (at-close _ (l .sizes) (l .from) (l .to) (l .numbers) (l .sets) (l .k) (l .inv) _ _ _ _ (sym (c .before .before .before .before .before .before .before .before .before .before .before .before .before .before .look .ensures) ∙ ap turn-said (c .before .before .before .before .before .before .before .before .before .before .before .before .c2 .given .1)) (rw (← c .before .before .before .before .before .before .before .before .keep2 .ensures .0) (sym (c .before .before .before .earlier .ensures) ∙ c .before .before .if1 .taken)))
 
 refused-requires-2 : tie.Need-refused-requires-2 Inv-loop μ-loop
 refused-requires-2 c κs = search needs
 
 returns-3 : tie.Need-returns-3 Inv-loop μ-loop
-returns-3 c = let a = reading-stop (c .before .before .before .before .before .before .before .before .before .before .before .loop .inv) _ _ (at-body (c .before .before .before .before .before .before)) _ _ (is-judged (c .before .before .before .before) ∙ ap turn-said (c .before .before .r2 .given .1)) in reads-refused a (ap outcome-said (c .refused2 .ensures .0)) (c .refused2 .ensures .1)
-
-enum-known-w : tie.Need-enum-known-w Inv-loop μ-loop
-enum-known-w c = search needs
-
-loop-less : tie.Need-loop-less Inv-loop μ-loop
-loop-less c = let r = room (c .before .before .before .before .before) in omega arith
-
-loop-again : tie.Need-loop-again Inv-loop μ-loop
-loop-again c = reading-go (c .before .before .before .before .before .before .before .before .before .before .loop .inv) _ _ (at-body (c .before .before .before .before .before)) _ (is-judged (c .before .before .before) ∙ ap turn-said (c .before .w .given .1))
-
-enum-known-n : tie.Need-enum-known-n Inv-loop μ-loop
-enum-known-n c = search needs
-
-array-write-sizes : tie.Need-array-write-sizes Inv-loop μ-loop
-array-write-sizes c = reading-open (c .before .before .before .before .before .before .before .before .before .before .loop .inv) _ _ (at-body (c .before .before .before .before .before)) _ _ _ _ (is-judged (c .before .before .before) ∙ ap turn-said (c .before .n .given .1)) .0
-
-mul-from : tie.Need-mul-from Inv-loop μ-loop
-mul-from c = let h = reading-open (c .before .before .before .before .before .before .before .before .before .before .loop .inv) _ _ (at-body (c .before .before .before .before .before)) _ _ _ _ (is-judged (c .before .before .before) ∙ ap turn-said (c .before .n .given .1)) .0 in omega arith
-
-array-write-from : tie.Need-array-write-from Inv-loop μ-loop
-array-write-from c = reading-open (c .before .before .before .before .before .before .before .before .before .before .loop .inv) _ _ (at-body (c .before .before .before .before .before)) _ _ _ _ (is-judged (c .before .before .before) ∙ ap turn-said (c .before .n .given .1)) .0
-
-mul-to : tie.Need-mul-to Inv-loop μ-loop
-mul-to c = let h = reading-open (c .before .before .before .before .before .before .before .before .before .before .loop .inv) _ _ (at-body (c .before .before .before .before .before)) _ _ _ _ (is-judged (c .before .before .before) ∙ ap turn-said (c .before .n .given .1)) .0 in omega arith
-
-array-write-to : tie.Need-array-write-to Inv-loop μ-loop
-array-write-to c = reading-open (c .before .before .before .before .before .before .before .before .before .before .loop .inv) _ _ (at-body (c .before .before .before .before .before)) _ _ _ _ (is-judged (c .before .before .before) ∙ ap turn-said (c .before .n .given .1)) .0
-
-loop-less-2 : tie.Need-loop-less-2 Inv-loop μ-loop
-loop-less-2 c = let r = room (c .before .before .before .before .before) in omega arith
-
-loop-again-2 : tie.Need-loop-again-2 Inv-loop μ-loop
-loop-again-2 c = reading-open (c .before .before .before .before .before .before .before .before .before .before .loop .inv) _ _ (at-body (c .before .before .before .before .before)) _ _ _ _ (is-judged (c .before .before .before) ∙ ap turn-said (c .before .n .given .1)) .1
-
-enum-known-c : tie.Need-enum-known-c Inv-loop μ-loop
-enum-known-c c = search needs
-
-array-write-numbers : tie.Need-array-write-numbers Inv-loop μ-loop
-array-write-numbers c = reading-more (c .before .before .before .before .before .before .before .before .before .before .loop .inv) _ _ (at-body (c .before .before .before .before .before)) _ _ _ (is-judged (c .before .before .before) ∙ ap turn-said (c .before .c .given .1)) .0
-
-mul-sets : tie.Need-mul-sets Inv-loop μ-loop
-mul-sets c = let h = reading-more (c .before .before .before .before .before .before .before .before .before .before .loop .inv) _ _ (at-body (c .before .before .before .before .before)) _ _ _ (is-judged (c .before .before .before) ∙ ap turn-said (c .before .c .given .1)) .0 in omega arith
-
-array-write-sets : tie.Need-array-write-sets Inv-loop μ-loop
-array-write-sets c = reading-more (c .before .before .before .before .before .before .before .before .before .before .loop .inv) _ _ (at-body (c .before .before .before .before .before)) _ _ _ (is-judged (c .before .before .before) ∙ ap turn-said (c .before .c .given .1)) .0
-
-add-used : tie.Need-add-used Inv-loop μ-loop
-add-used c = let h = reading-more (c .before .before .before .before .before .before .before .before .before .before .loop .inv) _ _ (at-body (c .before .before .before .before .before)) _ _ _ (is-judged (c .before .before .before) ∙ ap turn-said (c .before .c .given .1)) .0 in omega arith
-
-loop-less-3 : tie.Need-loop-less-3 Inv-loop μ-loop
-loop-less-3 c = let r = room (c .before .before .before .before .before) in omega arith
-
-loop-again-3 : tie.Need-loop-again-3 Inv-loop μ-loop
-loop-again-3 c = reading-more (c .before .before .before .before .before .before .before .before .before .before .loop .inv) _ _ (at-body (c .before .before .before .before .before)) _ _ _ (is-judged (c .before .before .before) ∙ ap turn-said (c .before .c .given .1)) .1
-
-enum-known-c-2 : tie.Need-enum-known-c-2 Inv-loop μ-loop
-enum-known-c-2 c = search needs
-
-array-write-numbers-2 : tie.Need-array-write-numbers-2 Inv-loop μ-loop
-array-write-numbers-2 c = last-room (c .before .before .before .before .before .before .before .before .before .before .loop .inv) _ _ (at-body (c .before .before .before .before .before)) _ _ _ _ (is-judged (c .before .before .before) ∙ ap turn-said (c .before .c2 .given .1))
-
-mul-sets-2 : tie.Need-mul-sets-2 Inv-loop μ-loop
-mul-sets-2 c = let h = last-room (c .before .before .before .before .before .before .before .before .before .before .loop .inv) _ _ (at-body (c .before .before .before .before .before)) _ _ _ _ (is-judged (c .before .before .before) ∙ ap turn-said (c .before .c2 .given .1)) in omega arith
-
-array-write-sets-2 : tie.Need-array-write-sets-2 Inv-loop μ-loop
-array-write-sets-2 c = last-room (c .before .before .before .before .before .before .before .before .before .before .loop .inv) _ _ (at-body (c .before .before .before .before .before)) _ _ _ _ (is-judged (c .before .before .before) ∙ ap turn-said (c .before .c2 .given .1))
-
-add-used-2 : tie.Need-add-used-2 Inv-loop μ-loop
-add-used-2 c = let h = last-room (c .before .before .before .before .before .before .before .before .before .before .loop .inv) _ _ (at-body (c .before .before .before .before .before)) _ _ _ _ (is-judged (c .before .before .before) ∙ ap turn-said (c .before .c2 .given .1)) in omega arith
-
-slice-aggregate-earlier : tie.Need-slice-aggregate-earlier Inv-loop μ-loop
-slice-aggregate-earlier c = sym (last-long (c .before .before .before .before .before .before .before .before .before .before .before .loop .inv) _ _ (at-body (c .before .before .before .before .before .before)) _ _ _ _ (is-judged (c .before .before .before .before) ∙ ap turn-said (c .before .before .c2 .given .1)))
-
-earlier-requires : tie.Need-earlier-requires Inv-loop μ-loop
-earlier-requires c κs = let l = last-ordered (c .before .before .before .before .before .before .before .before .before .before .before .loop .inv) _ _ (at-body (c .before .before .before .before .before .before)) _ _ _ _ (is-judged (c .before .before .before .before) ∙ ap turn-said (c .before .before .c2 .given .1)) in let h = last-room (c .before .before .before .before .before .before .before .before .before .before .before .loop .inv) _ _ (at-body (c .before .before .before .before .before .before)) _ _ _ _ (is-judged (c .before .before .before .before) ∙ ap turn-said (c .before .before .c2 .given .1)) in let k = last-long (c .before .before .before .before .before .before .before .before .before .before .before .loop .inv) _ _ (at-body (c .before .before .before .before .before .before)) _ _ _ _ (is-judged (c .before .before .before .before) ∙ ap turn-said (c .before .before .c2 .given .1)) in (l .0, (l .1, omega (arith, h, k)))
-
-add-done : tie.Need-add-done Inv-loop μ-loop
-add-done c = let h = last-done (c .before .before .before .before .before .before .before .before .before .before .before .before .before .loop .inv) _ _ (at-body (c .before .before .before .before .before .before .before .before)) _ _ _ _ (is-judged (c .before .before .before .before .before .before) ∙ ap turn-said (c .before .before .before .before .c2 .given .1)) in omega arith
-
-loop-less-4 : tie.Need-loop-less-4 Inv-loop μ-loop
-loop-less-4 c = let r = room (c .before .before .before .before .before .before .before .before) in omega arith
-
-loop-again-4 : tie.Need-loop-again-4 Inv-loop μ-loop
-loop-again-4 c = reading-last (c .before .before .before .before .before .before .before .before .before .before .before .before .before .loop .inv) _ _ (at-body (c .before .before .before .before .before .before .before .before)) _ _ _ _ (is-judged (c .before .before .before .before .before .before) ∙ ap turn-said (c .before .before .before .before .c2 .given .1)) (sym (c .before .earlier .ensures) ∙ c .if1 .taken)
-
-refused-requires-3 : tie.Need-refused-requires-3 Inv-loop μ-loop
-refused-requires-3 c κs = search needs
-
-returns-4 : tie.Need-returns-4 Inv-loop μ-loop
-returns-4 c = let a = reading-order (c .before .before .before .before .before .before .before .before .before .before .before .before .before .before .loop .inv) _ _ (at-body (c .before .before .before .before .before .before .before .before .before)) _ _ _ _ (is-judged (c .before .before .before .before .before .before .before) ∙ ap turn-said (c .before .before .before .before .before .c2 .given .1)) (sym (c .before .before .earlier .ensures) ∙ c .before .if1 .left) in reads-refused a (ap outcome-said (c .refused3 .ensures .0)) (c .refused3 .ensures .1)
+returns-3 c = reads-refused (turn-order (c .before .before .before .before .before .before .before .before .before .before .before .before .before .before .loop .inv .0) _ _ _ _ (sym (c .before .before .before .before .before .before .before .before .before .before .before .before .before .look .ensures) ∙ ap turn-said (c .before .before .before .before .before .before .before .before .before .before .before .c2 .given .1)) (rw (← c .before .before .before .before .before .before .before .keep2 .ensures .0) (sym (c .before .before .earlier .ensures) ∙ c .before .if1 .left))) (ap outcome-said (c .refused2 .ensures .0)) (c .refused2 .ensures .1)
 
 pub read-spec : {M : Type 1} → statement M
 read-spec =
@@ -190,50 +157,47 @@ read-spec =
     (tie.spec
     Inv-loop
     μ-loop
+    start-requires
     loop-holds
-    due-requires
-    field-requires
+    look-requires
     enum-told
+    accepted-requires
     returns
     enum-known-r
     refused-requires
     returns-2
-    enum-known-tag
-    add-next
-    cast-next
-    add-next-2
-    body-at-requires
-    judge-requires
-    enum-known-r-2
-    refused-requires-2
-    returns-3
     enum-known-w
+    next-at-requires
+    past-requires
     loop-less
     loop-again
     enum-known-n
-    array-write-sizes
-    mul-from
-    array-write-from
-    mul-to
-    array-write-to
+    slice-aggregate-keep-head
+    slice-aggregate-keep-head-2
+    slice-aggregate-keep-head-3
+    keep-head-requires
+    next-at-requires-2
+    past-requires-2
     loop-less-2
     loop-again-2
     enum-known-c
-    array-write-numbers
-    mul-sets
-    array-write-sets
-    add-used
+    slice-aggregate-keep
+    slice-aggregate-keep-2
+    keep-requires
+    next-at-requires-3
+    one-more-requires
     loop-less-3
     loop-again-3
     enum-known-c-2
-    array-write-numbers-2
-    mul-sets-2
-    array-write-sets-2
-    add-used-2
+    slice-aggregate-keep-3
+    slice-aggregate-keep-4
+    keep-requires-2
     slice-aggregate-earlier
+    add-earlier
     earlier-requires
-    add-done
+    next-at-requires-4
+    closed-requires
     loop-less-4
     loop-again-4
-    refused-requires-3
-    returns-4)
+    refused-requires-2
+    returns-3)

@@ -103,22 +103,24 @@ def narrow(sheet: bytes, question: bytes, work: list, file: bytearray) -> Outcom
     return Accepted(len(members), len(made))
 
 
+def answered(records: Register, words, work: list, answer: list) -> Outcome:
+    """The words that `words` yields, if both areas are long enough."""
+    with borrowed(work, answer_work(records)):
+        demand_room(answer, answer_words(records))
+        fill(answer, words())
+    return Accepted()
+
+
 @outcome
 def plain_answer(question: bytes, register: bytes, work: list, answer: list) -> Outcome:
     symbols, records = read_question(question), read_register(register)
-    with borrowed(work, answer_work(records)):
-        demand_room(answer, answer_words(records))
-        fill(answer, meaning.plain_words(symbols, records))
-    return Accepted()
+    return answered(records, lambda: meaning.plain_words(symbols, records), work, answer)
 
 
 @outcome
 def narrowed_answer(narrowed: bytes, register: bytes, work: list, answer: list) -> Outcome:
     members, records = read_narrowed(narrowed), read_register(register)
-    with borrowed(work, answer_work(records)):
-        demand_room(answer, answer_words(records))
-        fill(answer, meaning.narrowed_words(members, records))
-    return Accepted()
+    return answered(records, lambda: meaning.narrowed_words(members, records), work, answer)
 
 
 @outcome

@@ -20,24 +20,22 @@ def narrowable(rng: random.Random, count: int):
 
 
 class Registers(unittest.TestCase):
-    def test_obeying_registers_have_equal_words(self):
-        rng, found = random.Random(51), 0
-        for sheet, question, members in narrowable(rng, 1500):
-            register = generate.obeying_register(rng, sheet)
+    def equal_words(self, seed: int, count: int, register_of, least: int):
+        """Of registers that obey; at least so many answers hold a pair."""
+        rng, found = random.Random(seed), 0
+        for sheet, question, members in narrowable(rng, count):
+            register = register_of(rng, sheet)
             plain = meaning.plain_words(question, register)
             self.assertEqual(meaning.narrowed_words(members, register), plain,
                              (sheet, question, register))
             found += any(plain)
-        self.assertGreater(found, 500)
+        self.assertGreater(found, least)
+
+    def test_obeying_registers_have_equal_words(self):
+        self.equal_words(51, 1500, generate.obeying_register, 500)
 
     def test_wide_registers_have_equal_words(self):
-        rng, found = random.Random(52), 0
-        for sheet, question, members in narrowable(rng, 60):
-            register = generate.wide_register(rng, sheet)
-            plain = meaning.plain_words(question, register)
-            self.assertEqual(meaning.narrowed_words(members, register), plain)
-            found += any(plain)
-        self.assertGreater(found, 20)
+        self.equal_words(52, 60, generate.wide_register, 20)
 
     def test_breaking_registers_have_no_pair_more(self):
         rng, fewer = random.Random(53), 0

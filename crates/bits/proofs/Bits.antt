@@ -1,14 +1,14 @@
 -- The laws of a bit, over any width.
 -- Assumes nothing.
 use mathlib.Core.Path.{_≡_, refl, sym, _∙_}
-use mathlib.Core.Bool.{true, false, _&&_, _||_, true≢false, false≢true}
-use Prim.Native.Nat.{ℕ, zero, suc, _+_, _*_, _/_, _%_, _^_, _≤_, _<_}
-use native.Mathlib.Nat.{zero-div, div-eq-of-lt, lt-of-lt-of-le, div-one, pow-suc, one-mul}
+use mathlib.Core.Bool.{true, false, _||_, true≢false, false≢true}
+use Prim.Native.Nat.{ℕ, zero, suc, _*_, _/_, _%_, _^_, _<_}
+use native.Mathlib.Nat.{zero-div, div-one, pow-suc, one-mul}
 use native.Mathlib.Omega.{arith}
 use native.Mathlib.Numerals.{one-add}
 use lib.Dec.{eqb, eqb·suc-zero, eqb·zero-suc, eqb·suc-suc}
-use lib.Bits.{bitOr, bitAnd, or-shr, and-shr, or-mod, and-mod, shifted-half, shifted-even}
-use lib.Pow.{pow-mono, shl-exact, shr-shr}
+use lib.Bits.{bitOr, or-shr, or-mod, shifted-half, shifted-even}
+use lib.Pow.{shl-exact, shr-shr}
 use Rattle.bits.specs.Bit.{bitOf, withBit}
 
 -- what holds of 0 and of 1 holds of each digit
@@ -25,11 +25,6 @@ pub bit-zero : (k : ℕ) → bitOf 0 k ≡ false
 unfolding bitOf
 bit-zero k = rw zero-div
 
--- bits past the width are not set
-pub bit-high : (w x k : ℕ) → x < 2 ^ w → w ≤ k → bitOf x k ≡ false
-unfolding bitOf
-bit-high w x k h l = rw (div-eq-of-lt (lt-of-lt-of-le h (pow-mono l)))
-
 pub bit-low-one : (x : ℕ) → x % 2 ≡ 1 → bitOf x 0 ≡ true
 unfolding bitOf
 bit-low-one x e = rw (div-one, e)
@@ -41,10 +36,6 @@ bit-low-zero x e = rw (div-one, e)
 pub bit-suc : (x k : ℕ) → bitOf x (suc k) ≡ bitOf (x / 2) k
 unfolding bitOf
 bit-suc x k = rw (shr-shr x 1 k, one-add k)
-
-pub bit-shr : (x p k : ℕ) → bitOf (x / 2 ^ p) k ≡ bitOf x (p + k)
-unfolding bitOf
-bit-shr x p k = rw (shr-shr x p k)
 
 -- bit k of a number that has bit j alone
 pub bit-pow : (j k : ℕ) → bitOf (2 ^ j) k ≡ eqb k j
@@ -66,18 +57,9 @@ or-digit a b ha hb =
     digit-ind (λ (n : ℕ). eqb (bitOr n b) 1 ≡ eqb n 1 || eqb b 1) refl
     (digit-ind (λ (n : ℕ). eqb (bitOr 1 n) 1 ≡ true) refl refl b hb) a ha
 
-and-digit : (a b : ℕ) → a < 2 → b < 2 → eqb (bitAnd a b) 1 ≡ eqb a 1 && eqb b 1
-and-digit a b ha hb =
-    digit-ind (λ (n : ℕ). eqb (bitAnd n b) 1 ≡ eqb n 1 && eqb b 1) refl
-    (digit-ind (λ (n : ℕ). eqb (bitAnd 1 n) 1 ≡ eqb n 1) refl refl b hb) a ha
-
 pub bit-or : (a b k : ℕ) → bitOf (bitOr a b) k ≡ bitOf a k || bitOf b k
 unfolding bitOf
 bit-or a b k = rw (or-shr, or-mod (a / 2 ^ k) (b / 2 ^ k) 1) (or-digit (a / 2 ^ k % 2) (b / 2 ^ k % 2) (digit (a / 2 ^ k)) (digit (b / 2 ^ k)))
-
-pub bit-and : (a b k : ℕ) → bitOf (bitAnd a b) k ≡ bitOf a k && bitOf b k
-unfolding bitOf
-bit-and a b k = rw (and-shr, and-mod (a / 2 ^ k) (b / 2 ^ k) 1) (and-digit (a / 2 ^ k % 2) (b / 2 ^ k % 2) (digit (a / 2 ^ k)) (digit (b / 2 ^ k)))
 
 pub bit-with : (x j k : ℕ) → bitOf (withBit x j) k ≡ bitOf x k || eqb k j
 unfolding withBit

@@ -1,7 +1,7 @@
 -- Tests that came out one way, taken apart; and answers that were got.
 -- Assumes nothing.
 use mathlib.Core.Path.{_≡_, refl}
-use mathlib.Core.Bool.{Bool, true, false, cond, _&&_, _||_, false≢true}
+use mathlib.Core.Bool.{Bool, true, false, cond, _&&_, false≢true}
 use Prim.Native.Nat.{ℕ}
 use native.Mathlib.Omega.{arith}
 use Rattle.fields.specs.Answer.{Answer, got, refused, onward}
@@ -23,10 +23,6 @@ pub and-right : (a b : Bool) → (a && b) ≡ true → b ≡ true
 and-right true b e = e
 and-right false b e = absurd (false≢true e)
 
-pub or-none : (a : Bool) → (a || false) ≡ true → a ≡ true
-or-none true e = refl
-or-none false e = e
-
 pub not-got : {A : Type 0} (n p : ℕ) (x : A) → refused n p ≡ got x → ⊥
 not-got n p x e = let z : _≡_ {A = ℕ} 0 1 = cc in omega arith
 
@@ -34,3 +30,12 @@ not-got n p x e = let z : _≡_ {A = ℕ} 0 1 = cc in omega arith
 pub onward-got : {A B : Type 0} (f : A → Answer B) (a : Answer A) (y : B) → onward f a ≡ got y → (x : A) × (a ≡ got x) × (f x ≡ got y)
 onward-got f (got x) y e = (x, refl, e)
 onward-got f (refused n p) y e = absurd (not-got n p y e)
+
+-- two chains from one answer are refused together, where each refusal after it is one of both
+pub refused-too : {A B C : Type 0} (f : A → Answer B) (g : A → Answer C) (i j : ℕ) (a : Answer A) → ((x : A) → f x ≡ refused i j → g x ≡ refused i j)
+    → onward f a ≡ refused i j → onward g a ≡ refused i j
+refused-too f g i j (got x) k e = k x e
+refused-too f g i j (refused n p) k e = cc
+
+pub not-refused : {A B : Type 0} (x : A) (i j : ℕ) → got x ≡ refused i j → B
+not-refused x i j e = let z : _≡_ {A = ℕ} 0 1 = cc in absurd (omega arith)

@@ -3,7 +3,7 @@
 use mathlib.Core.Path.{_≡_, refl, sym, ap}
 use mathlib.Core.Bool.{Bool, true, false, cond, not, _&&_}
 use mathlib.Core.List.{List}
-use Prim.Native.Nat.{ℕ, _+_, _-_, _*_, _<_, _≤_}
+use Prim.Native.Nat.{ℕ, _+_, _-_, _*_, _≤_}
 use native.Mathlib.Omega.{arith}
 use lib.Dec.{ltb, leb, eqb}
 use lib.ListN.{getD}
@@ -11,12 +11,8 @@ use borrow.Author.Tests.{ltb-true, leb-true, eqb-false}
 use Rattle.fields.specs.declared.Stack.{Stack}
 use Rattle.fields.specs.Answer.{got}
 use Rattle.fields.specs.Reading.{eight}
-use Rattle.fields.specs.Symbols.{Numbered, numbered, step-of, operator-of, symbol-in, push}
+use Rattle.fields.specs.Symbols.{Numbered, numbered, step-of, operator-of, symbol-in, push, Plain}
 use Rattle.fields.proofs.Bools.{cond-else, cond-then, and-left, and-right, not-got}
-
--- a step or an operator, without a set
-abbrev pub Plain : Numbered → Type 0
-Plain x = (x .number < 134) × (x .set ≡ 0)
 
 step-plain : (at : ℕ) (b : List ℕ) (x : Numbered) → step-of at b ≡ got x → Plain x
 unfolding step-of

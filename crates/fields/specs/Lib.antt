@@ -5,3 +5,4 @@ pub mod Raw
 pub mod Symbols
 pub mod Said
 pub mod Padded
+pub mod Case

@@ -84,9 +84,13 @@ number-symbol (s-op o) = numbered (code (s-op o)) 0
 number-symbol s-closure = numbered 133 0
 
 -- ---- symbols that make a path
--- a step or an operator, without a set; or a join through a set
+-- a step or an operator, without a set
+abbrev pub Plain : Numbered → Type 0
+Plain x = (x .number < 134) × (x .set ≡ 0)
+
+-- or a join through a set
 abbrev pub Fine : Numbered → Type 0
-Fine x = ((x .number < 134) × (x .set ≡ 0)) ⊎ ((x .number ≡ 255) × is-set (x .set))
+Fine x = Plain x ⊎ ((x .number ≡ 255) × is-set (x .set))
 
 -- each symbol is fine and finds its operands, and they come to an end as the path does (the places do not matter here)
 abbrev pub Runs : Stack → List Numbered → Type 0

@@ -3,17 +3,17 @@
 use Prim.Native.Nat.{ℕ, _<_}
 use mathlib.Core.Path.{_≡_, refl, sym, ap, ap₂, _∙_, subst}
 use mathlib.Core.List.{List, [], _∷_, map, List·Memᴰ as In, List·Memᴰ·head as here, List·Memᴰ·tail as there}
-use mathlib.Core.Option.{Option, none, some}
+use mathlib.Core.Option.{some}
 use lib.Dec.{T}
 use lib.ListN.{length, length-map}
 use native.Mathlib.Omega.{arith}
 use Rattle.theory.specs.PathExpr.{PathExpr, Symbol, postfix, size, code, codes, before?, plain?}
-use Rattle.theory.specs.Postfix.{read as read-paths, single-path}
+use Rattle.theory.specs.Postfix.{read as read-paths}
 use Rattle.theory.specs.Sheet.{Sheet, sheet?}
 use Rattle.theory.specs.Merging.{Member, Ascending}
 use Rattle.theory.specs.Narrowing.{narrow, narrowed, MemberFits, Fits}
 use Rattle.theory.proofs.Tests.{to-true}
-use Rattle.theory.proofs.Postfix.{path-of-postfix}
+use Rattle.theory.proofs.Postfix.{path-of-postfix, single}
 use Rattle.theory.proofs.Members.{narrow-fits}
 use Rattle.fields.specs.Answer.{got}
 use Rattle.fields.specs.Reading.{read}
@@ -22,14 +22,8 @@ use Rattle.fields.specs.Symbols.{Runs, number-symbol}
 use Rattle.narrowed.specs.Formed.{Formed, InOrder, WellFormed}
 use Rattle.narrowed.specs.Members.{flat-of, narrowed-file}
 use Rattle.fields.proofs.Numbers.{AllHeld, number-of, held-postfix, length-postfix}
-use Rattle.fields.proofs.Counting.{none-some, read-runs}
+use Rattle.fields.proofs.Counting.{read-runs}
 use Rattle.narrowed.proofs.Forth.{read-encode}
-
-single : (o : Option (List PathExpr)) (p : PathExpr) → single-path o ≡ some p → o ≡ some (p ∷ [])
-single none p e = none-some e
-single (some []) p e = none-some e
-single (some (x ∷ [])) p e = let z : x ≡ p = cc in ap (λ (y : PathExpr). some (y ∷ [])) z
-single (some (x ∷ y ∷ st)) p e = none-some e
 
 -- theory's codes are those by which members are compared in a file
 numbered-codes : (ss : List Symbol) → AllHeld ss → order-codes (map number-symbol ss) ≡ map code ss

@@ -10,10 +10,10 @@ use native.Mathlib.Omega.{arith}
 use borrow.Author.Tests.{eqb-true, eqb-false}
 use Rattle.fields.specs.declared.File.the-variants as file
 use Rattle.fields.specs.declared.Stack.{Stack}
-use Rattle.fields.specs.Answer.{Answer, got, refused, onward}
+use Rattle.fields.specs.Answer.{got, refused, onward}
 use Rattle.fields.specs.Reading.{word, eight}
 use Rattle.fields.specs.Symbols.{Numbered, numbered, symbol-in, push, arity}
-use Rattle.fields.proofs.Bools.{onward-got, cond-then, not-got}
+use Rattle.fields.proofs.Bools.{onward-got, refused-too, not-refused, cond-then, not-got}
 use Rattle.narrowed.specs.Form.{Flat, open-as, between, within, judge as judge-of, head-of, open-of, grown}
 use Rattle.narrowed.specs.declared.Standing.{Standing}
 use Rattle.narrowed.specs.declared.Standing.the-variants.{Between, Within}
@@ -44,16 +44,10 @@ module _ (l p f t : ℕ) (prev : List ℕ) (ms : List Flat) (q : Stack) (xs : Li
   -- a refusal is the same for both
   pub judge-stop : (m k : ℕ) → symbol-move l p q at next u b ≡ refused m k → judge-of (within l prev ms (open-as p f t q xs)) at next u b ≡ refused m k
   unfolding symbol-move
-  judge-stop m k e = by-sym (symbol-in at u b) e
-    where
-      by-push : (x : Numbered) (a : Answer Stack) → onward (λ q′. got (moved l p x q′)) a ≡ refused m k → onward (grown l prev ms (open-as p f t q xs) x) a ≡ refused m k
-      by-push x (got q′) e = let z : _≡_ {A = ℕ} 0 1 = cc in absurd (omega arith)
-      by-push x (refused i j) e = cc
-
-      by-sym : (a : Answer Numbered) → onward (λ x. onward (λ q′. got (moved l p x q′)) (push q at next (arity (x .number)))) a ≡ refused m k
-          → onward (λ x. onward (grown l prev ms (open-as p f t q xs) x) (push q at next (arity (x .number)))) a ≡ refused m k
-      by-sym (got x) e = by-push x (push q at next (arity (x .number))) e
-      by-sym (refused i j) e = cc
+  judge-stop m k e =
+      refused-too (λ x. onward (λ q′. got (moved l p x q′)) (push q at next (arity (x .number)))) (λ x. onward (grown l prev ms (open-as p f t q xs) x) (push q at next (arity (x .number)))) m k
+      (symbol-in at u b)
+      (λ x. refused-too (λ q′. got (moved l p x q′)) (grown l prev ms (open-as p f t q xs) x) m k (push q at next (arity (x .number))) (λ q′. not-refused (moved l p x q′) m k)) e
 
 -- ---- moves are told apart
 pub more-is : (l p : ℕ) (x : Numbered) (q : Stack) (c m : ℕ) (st : Standing) → moved l p x q ≡ more c m st → (q .left ≡ 0 → ⊥) × (Within l p q ≡ st) × (x ≡ numbered c m)

@@ -1,20 +1,14 @@
 -- Files with what reading them yields, computed: the questions of cases 1 and 4 of 01-scope.md and the edges of a question.
 -- Assumes nothing.
-use mathlib.Core.Path.{_≡_, refl}
-use mathlib.Core.List.{List, [], _∷_, map}
+use mathlib.Core.Path.{refl}
+use mathlib.Core.List.{List, [], _∷_}
 use Prim.Native.Nat.{ℕ}
-use Rattle.fields.specs.Answer.{Answer, got, refused}
+use Rattle.fields.specs.Case.{Case, case, AllRead}
+use Rattle.fields.specs.Answer.{got, refused}
 use Rattle.fields.specs.Table.{among, rows}
 use Rattle.fields.specs.Reading.{eight, read, walk, field-at, fitting}
 use Rattle.fields.specs.Symbols.{step-of, operator-of, symbol-in, arity, push}
 use Rattle.question.specs.Form.{question-form, head-of}
-
-pub record Case : Type 0 where
-  pub file : List ℕ
-  pub answer : Answer (List ℕ)
-
-abbrev case : List ℕ → Answer (List ℕ) → Case
-case s a = record { file = s; answer = a }
 
 -- the fields, before what comes after them
 abbrev f21 : ℕ → List ℕ → List ℕ
@@ -26,7 +20,7 @@ f43 d l r = 0x43 ∷ 0 ∷ 2 ∷ d ∷ l ∷ r
 abbrev f44 : ℕ → List ℕ → List ℕ
 f44 o r = 0x44 ∷ 0 ∷ 1 ∷ o ∷ r
 
-abbrev pub cases : List Case
+abbrev pub cases : List (Case (List ℕ))
 cases =
     -- carries/sealed, under+, and the last link against its direction
     case (f21 3 (f43 0 0 (f43 0 3 (f44 128 [])))) (got (0 ∷ 3 ∷ 128 ∷ []))
@@ -51,6 +45,6 @@ cases =
     ∷ case (f21 1 (0x43 ∷ 0 ∷ 2 ∷ 0 ∷ [])) (refused 1 4)
     ∷ []
 
-pub all-read : map (λ (c : Case). read question-form (c .file)) cases ≡ map (λ (c : Case). c .answer) cases
+pub all-read : AllRead question-form cases
 unfolding read walk field-at fitting among rows head-of eight step-of operator-of symbol-in arity push
 all-read = refl

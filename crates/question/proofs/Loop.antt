@@ -10,11 +10,11 @@ use native.Mathlib.Omega.{arith}
 use borrow.Author.Tests.{leb-true}
 use Rattle.fields.specs.declared.File.the-variants as file
 use Rattle.fields.specs.declared.Stack.{Stack}
-use Rattle.fields.specs.Answer.{Answer, got, refused, onward}
+use Rattle.fields.specs.Answer.{got, refused, onward}
 use Rattle.fields.specs.Table.{rows, tag-length}
 use Rattle.fields.specs.Reading.{ends, wrong, body, field-at, read}
-use Rattle.fields.specs.Symbols.{Numbered, symbol-in, push, arity}
-use Rattle.fields.proofs.Bools.{onward-got, cond-then, not-got, and-right}
+use Rattle.fields.specs.Symbols.{symbol-in, push, arity}
+use Rattle.fields.proofs.Bools.{onward-got, refused-too, not-refused, cond-then, not-got, and-right}
 use Rattle.fields.proofs.Fields.{found, body-length, one-due, ended, in-path}
 use Rattle.fields.proofs.Going.{Going, going-start, going-ends, going-wrong, going-refused, going-more}
 use Rattle.fields.specs.Padded.{padded}
@@ -73,20 +73,11 @@ module _ (s : List ℕ) (at count : ℕ) (code : List ℕ) where
 
     -- the definition's judgement is the code's, with the symbols
     stops : (st : Standing) (xs : List ℕ) (next : ℕ) (b : List ℕ) (i j : ℕ) → judged st at next t b ≡ refused i j → judge-of (state-of st xs) at next t b ≡ refused i j
-    stops Head xs next b i j h = by-num (head-of at b) h
-      where
-        by-num : (a : Answer ℕ) → onward (λ n. got (go (record { left = n; depth = 0 }))) a ≡ refused i j → onward (λ n. got (fresh n)) a ≡ refused i j
-        by-num (got n) h = let z : _≡_ {A = ℕ} 0 1 = cc in absurd (omega arith)
-        by-num (refused k l) h = cc
-    stops (Within q) xs next b i j h = by-sym (symbol-in at t b) h
-      where
-        by-push : (x : Numbered) (a : Answer Stack) → onward (λ q′. got (more (x .number) q′)) a ≡ refused i j → onward (λ q′. got (within q′ (xs ++ (x .number ∷ [])))) a ≡ refused i j
-        by-push x (got q′) h = let z : _≡_ {A = ℕ} 0 1 = cc in absurd (omega arith)
-        by-push x (refused k l) h = cc
-
-        by-sym : (a : Answer Numbered) → onward (λ x. onward (λ q′. got (more (x .number) q′)) (push q at next (arity (x .number)))) a ≡ refused i j → onward (one-more q xs at next) a ≡ refused i j
-        by-sym (got x) h = by-push x (push q at next (arity (x .number))) h
-        by-sym (refused k l) h = cc
+    stops Head xs next b i j h =
+        refused-too (λ n. got (go (record { left = n; depth = 0 }))) (λ n. got (fresh n)) i j (head-of at b) (λ n. not-refused (go (record { left = n; depth = 0 })) i j) h
+    stops (Within q) xs next b i j h =
+        refused-too (λ x. onward (λ q′. got (more (x .number) q′)) (push q at next (arity (x .number)))) (one-more q xs at next) i j (symbol-in at t b)
+        (λ x. refused-too (λ q′. got (more (x .number) q′)) (λ q′. got (within q′ (xs ++ (x .number ∷ [])))) i j (push q at next (arity (x .number))) (λ q′. not-refused (more (x .number) q′) i j)) h
 
     pub reading-stop : (st : Standing) → Reading s st at count code → field-at (due-of st) s at ≡ body t m → (i j : ℕ) → judged st at (at + 3 + m) t (take m (drop (at + 3) s)) ≡ refused i j
         → read question-form s ≡ refused i j

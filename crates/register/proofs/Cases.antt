@@ -1,20 +1,14 @@
 -- Files with what reading them yields, computed: case 11 of 01-scope.md and the edges of a register.
 -- Assumes nothing.
-use mathlib.Core.Path.{_≡_, refl}
-use mathlib.Core.List.{List, [], _∷_, map}
+use mathlib.Core.Path.{refl}
+use mathlib.Core.List.{List, [], _∷_}
 use Prim.Native.Nat.{ℕ}
 use Rattle.theory.specs.Register.{edge, Register}
-use Rattle.fields.specs.Answer.{Answer, got, refused}
+use Rattle.fields.specs.Case.{Case, case, AllRead}
+use Rattle.fields.specs.Answer.{got, refused}
 use Rattle.fields.specs.Table.{among, rows}
 use Rattle.fields.specs.Reading.{read, walk, field-at, fitting}
 use Rattle.register.specs.Form.{register-form, head-of, kind-of, link-of, key}
-
-pub record Case : Type 0 where
-  pub file : List ℕ
-  pub answer : Answer Register
-
-abbrev case : List ℕ → Answer Register → Case
-case s a = record { file = s; answer = a }
 
 -- the fields, before what comes after them
 abbrev f31 : ℕ → ℕ → List ℕ → List ℕ
@@ -26,7 +20,7 @@ f32 k r = 0x32 ∷ 0 ∷ 1 ∷ k ∷ r
 abbrev f33 : ℕ → ℕ → ℕ → List ℕ → List ℕ
 f33 a l b r = 0x33 ∷ 0 ∷ 5 ∷ 0 ∷ a ∷ l ∷ 0 ∷ b ∷ r
 
-abbrev pub cases : List Case
+abbrev pub cases : List (Case Register)
 cases =
     case (f31 6 6 (f32 0 (f32 1 (f32 3 (f32 4 (f32 5 (f32 0 (f33 0 0 1 (f33 0 3 2 (f33 0 4 3 (f33 1 3 2 (f33 3 4 4 (f33 5 4 3 [])))))))))))))
     (got (record {
@@ -48,6 +42,6 @@ cases =
     ∷ case (f31 1 1 (f32 0 [])) (refused 5 11)
     ∷ []
 
-pub all-read : map (λ (c : Case). read register-form (c .file)) cases ≡ map (λ (c : Case). c .answer) cases
+pub all-read : AllRead register-form cases
 unfolding read walk field-at fitting among rows head-of kind-of link-of key
 all-read = refl

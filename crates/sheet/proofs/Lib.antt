@@ -3,4 +3,4 @@ pub mod Ranges
 pub mod Tables
 -- the reader's loop, and the cases
 pub mod Loop
-pub mod Computed
+pub mod Cases

@@ -17,7 +17,7 @@ use Rattle.fields.specs.Answer.{Answer, got, refused, onward}
 use Rattle.fields.specs.Reading.{ends, wrong, body, field-at, read}
 use Rattle.fields.specs.Table.{tag-length, rows}
 use Rattle.fields.specs.Said.{refusal-said}
-use Rattle.fields.proofs.Bools.{onward-got}
+use Rattle.fields.proofs.Bools.{onward-got, refused-too, not-refused}
 use Rattle.fields.proofs.Fields.{found, body-length, one-due, ended}
 use Rattle.fields.proofs.Going.{Going, going-start, going-ends, going-wrong, going-refused, going-more}
 use Rattle.sheet.specs.declared.Outcome.{Outcome}
@@ -58,11 +58,6 @@ progress-start s = record { es = []; going = going-start sheet-form s; holds = r
 pub reads-refused : (a : Answer Sheet) (r : Refusal) (o : Outcome) (t : List ℕ) → a ≡ refusal-said r → (o ≡ outcome.Refused r) × (t ≡ replicate 4096 0) → Reads a o t
 reads-refused a r o t e h = record { outcome = ap outcome-said (h .0) ∙ ap sizes (sym e); table = h .1 ∙ ap table-in (sym e) }
 
--- two answers that go on from the same one are refused together
-refused-too : {A B C : Type 0} (f : A → B) (g : A → C) (a : Answer A) (i j : ℕ) → onward (λ x. got (f x)) a ≡ refused i j → onward (λ x. got (g x)) a ≡ refused i j
-refused-too f g (got x) i j h = let z : _≡_ {A = ℕ} 0 1 = cc in absurd (omega arith)
-refused-too f g (refused k l) i j h = cc
-
 module _ (s : List ℕ) (at : ℕ) (table : List ℕ) where
   pub progress-ends : (st : Standing) → Progress s st at table → field-at (due-of st) s at ≡ ends → (o : Outcome) → outcome-said o ≡ sizes-at st → Reads (read sheet-form s) o table
   progress-ends Head p e o h = absurd (false≢true (ended due-head s at e .may))
@@ -83,8 +78,8 @@ module _ (s : List ℕ) (at : ℕ) (table : List ℕ) where
         (body-length f ∙ one-due (due-triple q) t n refl (f .fit) .1, omega (arith, p .holds .1))
 
     stops : (st : Standing) (es : List Edge) (i j : ℕ) (b : List ℕ) → judged st at b ≡ refused i j → judge (state-of st es) at (at + 3 + n) t b ≡ refused i j
-    stops Head es i j b h = refused-too go (λ q. within q []) (head-of at b) i j h
-    stops (Within q) es i j b h = refused-too (more (edge-of b)) (λ q′. within q′ (es ++ (edge-of b ∷ []))) (next q at b) i j h
+    stops Head es i j b h = refused-too (λ q. got (go q)) (λ q. got (within q [])) i j (head-of at b) (λ q. not-refused (go q) i j) h
+    stops (Within q) es i j b h = refused-too (λ q′. got (more (edge-of b) q′)) (λ q′. got (within q′ (es ++ (edge-of b ∷ [])))) i j (next q at b) (λ q′. not-refused (more (edge-of b) q′) i j) h
 
     pub progress-stop : (st : Standing) → Progress s st at table → field-at (due-of st) s at ≡ body t n → (i j : ℕ) → judged st at (take n (drop (at + 3) s)) ≡ refused i j
         → read sheet-form s ≡ refused i j

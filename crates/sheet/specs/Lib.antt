@@ -3,4 +3,3 @@ pub mod Form
 pub mod Table
 -- what the code says of them, and cases
 pub mod Said
-pub mod Cases

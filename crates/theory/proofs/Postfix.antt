@@ -26,23 +26,30 @@ abbrev symbols : Stack → List Symbol
 symbols [] = []
 symbols (p ∷ st) = symbols st ++ postfix p
 
-never : {A : Type 0} {st : Stack} → Path (Option Stack) none (some st) → A
-never e = let z : _≡_ {A = ℕ} 0 1 = cc in absurd (omega arith)
+pub none-some : {A B : Type 0} {x : A} → Path (Option A) none (some x) → B
+none-some e = let z : _≡_ {A = ℕ} 0 1 = cc in absurd (omega arith)
+
+-- a stack whose path is p holds p alone
+pub single : (o : Option Stack) (p : PathExpr) → single-path o ≡ some p → o ≡ some (p ∷ [])
+single none p e = none-some e
+single (some []) p e = none-some e
+single (some (x ∷ [])) p e = let z : x ≡ p = cc in ap (λ (y : PathExpr). some (y ∷ [])) z
+single (some (x ∷ y ∷ st)) p e = none-some e
 
 -- one symbol adds itself
 push-symbols : (s : Symbol) (st st′ : Stack) → push s st ≡ some st′ → symbols st′ ≡ symbols st ++ (s ∷ [])
 push-symbols (s-step d l) st st′ e = let f : step d l ∷ st ≡ st′ = cc in ap symbols (sym f)
-push-symbols (s-join v) [] st′ e = never e
-push-symbols (s-join v) (q ∷ []) st′ e = never e
+push-symbols (s-join v) [] st′ e = none-some e
+push-symbols (s-join v) (q ∷ []) st′ e = none-some e
 push-symbols (s-join v) (q ∷ p ∷ st) st′ e =
     let f : join v p q ∷ st ≡ st′ = cc in
     ap symbols (sym f) ∙ sym (append-assoc (symbols st) (postfix p) (postfix q ++ (s-join v ∷ []))) ∙ sym (append-assoc (symbols st ++ postfix p) (postfix q) (s-join v ∷ []))
-push-symbols (s-op o) [] st′ e = never e
-push-symbols (s-op o) (q ∷ []) st′ e = never e
+push-symbols (s-op o) [] st′ e = none-some e
+push-symbols (s-op o) (q ∷ []) st′ e = none-some e
 push-symbols (s-op o) (q ∷ p ∷ st) st′ e =
     let f : op o p q ∷ st ≡ st′ = cc in
     ap symbols (sym f) ∙ sym (append-assoc (symbols st) (postfix p) (postfix q ++ (s-op o ∷ []))) ∙ sym (append-assoc (symbols st ++ postfix p) (postfix q) (s-op o ∷ []))
-push-symbols s-closure [] st′ e = never e
+push-symbols s-closure [] st′ e = none-some e
 push-symbols s-closure (p ∷ st) st′ e =
     let f : closure p ∷ st ≡ st′ = cc in
     ap symbols (sym f) ∙ sym (append-assoc (symbols st) (postfix p) (s-closure ∷ []))
@@ -53,20 +60,11 @@ read-symbols (s ∷ ss) st st′ e = go (push s st) refl e (λ x h. read-symbols
   where
     go : (o : Option Stack) → push s st ≡ o → go-on o (read ss) ≡ some st′ → ((x : Stack) → read ss x ≡ some st′ → symbols st′ ≡ symbols x ++ ss)
         → symbols st′ ≡ symbols st ++ (s ∷ ss)
-    go none p h rest = never h
+    go none p h rest = none-some h
     go (some x) p h rest = rest x h ∙ ap (λ l. l ++ ss) (push-symbols s st x p) ∙ append-assoc (symbols st) (s ∷ []) ss
 
 pub postfix-path-of : (ss : List Symbol) (p : PathExpr) → path-of ss ≡ some p → postfix p ≡ ss
-postfix-path-of ss p e = go (read ss []) refl e
-  where
-    none-some : Path (Option PathExpr) none (some p) → postfix p ≡ ss
-    none-some e = let z : _≡_ {A = ℕ} 0 1 = cc in absurd (omega arith)
-
-    go : (o : Option Stack) → read ss [] ≡ o → single-path o ≡ some p → postfix p ≡ ss
-    go none r h = none-some h
-    go (some []) r h = none-some h
-    go (some (x ∷ [])) r h = let f : x ≡ p = cc in ap postfix (sym f) ∙ read-symbols ss [] (x ∷ []) r
-    go (some (x ∷ y ∷ st)) r h = none-some h
+postfix-path-of ss p e = read-symbols ss [] (p ∷ []) (single (read ss []) p e)
 
 -- ---- symbol i ends part i
 ended-postfix : (p : PathExpr) (ss : List Symbol) (st : Stack) → ended (postfix p ++ ss) st ≡ parts p ++ ended ss (p ∷ st)

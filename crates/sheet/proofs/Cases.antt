@@ -1,18 +1,16 @@
--- Cases of reading a sheet: a file, and what it yields.
+-- Files with what reading them yields, computed: the sheet of the cases and the edges of a sheet.
 -- 01-scope.md, "Sheet and register of the cases", and refusals 1 to 5.
 -- Assumes nothing.
+use mathlib.Core.Path.{refl}
 use mathlib.Core.List.{List, [], _∷_, _++_}
 use Prim.Native.Nat.{ℕ}
 use Rattle.theory.specs.Sheet.{Sheet}
 use Rattle.theory.specs.Cases.{sheet}
-use Rattle.fields.specs.Answer.{Answer, got, refused}
-
-pub record Case : Type 0 where
-  pub file : List ℕ
-  pub expected : Answer Sheet
-
-abbrev case : List ℕ → Answer Sheet → Case
-case s a = record { file = s; expected = a }
+use Rattle.fields.specs.Answer.{got, refused}
+use Rattle.fields.specs.Case.{Case, case, AllRead}
+use Rattle.fields.specs.Reading.{read, walk, field-at, fitting}
+use Rattle.fields.specs.Table.{among, rows}
+use Rattle.sheet.specs.Form.{sheet-form, head-of, next}
 
 abbrev head : ℕ → ℕ → List ℕ
 head k e = 0x11 ∷ 0 ∷ 2 ∷ k ∷ e ∷ []
@@ -20,7 +18,7 @@ head k e = 0x11 ∷ 0 ∷ 2 ∷ k ∷ e ∷ []
 abbrev triple : ℕ → ℕ → ℕ → List ℕ
 triple a l b = 0x12 ∷ 0 ∷ 3 ∷ a ∷ l ∷ b ∷ []
 
-unfoldable pub cases : List Case
+abbrev pub cases : List (Case Sheet)
 cases =
     case (head 6 5 ++ triple 0 0 1 ++ triple 0 3 3 ++ triple 0 4 4 ++ triple 1 1 2 ++ triple 1 3 3 ++ triple 2 2 2 ++ triple 4 4 5) (got sheet)
     -- the edges of the ranges
@@ -38,3 +36,7 @@ cases =
     ∷ case (head 6 5 ++ head 6 5) (refused 2 5)
     ∷ case (head 6 5 ++ (0x12 ∷ 0 ∷ 3 ∷ 0 ∷ 0 ∷ [])) (refused 1 5)
     ∷ []
+
+pub all-read : AllRead sheet-form cases
+unfolding sheet read walk field-at fitting among rows head-of next
+all-read = refl

@@ -68,7 +68,7 @@ pub record Reads (a : Answer (List Flat)) (o : Outcome) (q : Members) : Type 0 w
   pub outcome : outcome-said o ≡ counted a
   pub members : Packed (members-in a) q
 
--- ---- one turn
+-- ---- one turn: what the code computes on the way; nothing that is handed on rests on it
 abbrev pub due-of : Standing → Due
 due-of Head = record { file = file.Narrowed; lo = 0x41; hi = 0x41; ends = false; over = false }
 due-of (Between l) = record { file = file.Narrowed; lo = 0x42; hi = 0x42; ends = eqb l 0; over = eqb l 0 }

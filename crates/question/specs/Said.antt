@@ -38,7 +38,7 @@ pub record Reads (a : Answer (List ℕ)) (o : Outcome) (array : List ℕ) : Type
   pub outcome : outcome-said o ≡ counted a
   pub codes : array ≡ codes-in a
 
--- ---- one turn
+-- ---- one turn: what the code computes on the way; nothing that is handed on rests on it
 abbrev pub due-of : Standing → Due
 due-of Head = due-head
 due-of (Within q) = due-symbols file.Question q

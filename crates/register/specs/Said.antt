@@ -19,6 +19,23 @@ use Rattle.register.specs.declared.Outcome.{Outcome}
 use Rattle.register.specs.declared.Outcome.the-variants as outcome
 use Rattle.register.specs.Form.{due-head, due-entry, head-of, kind-of, link-of}
 
+-- ---- the outcome
+-- the numbers of records and links
+pub record Sizes : Type 0 where
+  pub records : ℕ
+  pub links : ℕ
+
+abbrev pub sizes : ℕ → ℕ → Sizes
+sizes n l = record { records = n; links = l }
+
+abbrev pub outcome-said : Outcome → Answer Sizes
+outcome-said (outcome.Accepted n l) = got (sizes n l)
+outcome-said (outcome.Refused r) = refusal-said r
+
+abbrev pub sized : Answer Register → Answer Sizes
+sized a = onward (λ r. got (sizes (records r) (length (r .links)))) a
+
+-- ---- one turn: what the code computes on the way; nothing that is handed on rests on it
 abbrev pub due-of : Position → Due
 due-of position.Start = due-head
 due-of (position.Within q) = due-entry q
@@ -39,21 +56,6 @@ Ready (position.Within q) n = (n ≡ cond (eqb (q .kindless) 0) 5 1) × (0 < q .
 abbrev pub turn-said : Turn → Answer Progress
 turn-said (turn.Go q) = got q
 turn-said (turn.Stop r) = refusal-said r
-
--- the numbers of records and links
-pub record Sizes : Type 0 where
-  pub records : ℕ
-  pub links : ℕ
-
-abbrev pub sizes : ℕ → ℕ → Sizes
-sizes n l = record { records = n; links = l }
-
-abbrev pub outcome-said : Outcome → Answer Sizes
-outcome-said (outcome.Accepted n l) = got (sizes n l)
-outcome-said (outcome.Refused r) = refusal-said r
-
-abbrev pub sized : Answer Register → Answer Sizes
-sized a = onward (λ r. got (sizes (records r) (length (r .links)))) a
 
 abbrev pub sizes-of : Position → Answer Sizes
 sizes-of position.Start = got (sizes 0 0)

@@ -36,7 +36,7 @@ pub record Reads (a : Answer Sheet) (o : Outcome) (t : List ℕ) : Type 0 where
   pub outcome : outcome-said o ≡ sizes a
   pub table : t ≡ table-in a
 
--- ---- one turn
+-- ---- one turn: what the code computes on the way; nothing that is handed on rests on it
 abbrev pub sizes-at : Standing → Answer Sizes
 sizes-at Head = got (record { kinds = 0; links = 0 })
 sizes-at (Within q) = got (record { kinds = q .kinds; links = q .links })

@@ -1,14 +1,14 @@
 -- The laws of a bit, over any width.
 -- Assumes nothing.
 use mathlib.Core.Path.{_≡_, refl, sym, _∙_}
-use mathlib.Core.Bool.{true, false, _||_, true≢false, false≢true}
-use Prim.Native.Nat.{ℕ, zero, suc, _*_, _/_, _%_, _^_, _<_}
-use native.Mathlib.Nat.{zero-div, div-one, pow-suc, one-mul}
+use mathlib.Core.Bool.{true, false, _&&_, _||_, true≢false, false≢true}
+use Prim.Native.Nat.{ℕ, zero, suc, _+_, _*_, _/_, _%_, _^_, _<_, _≤_}
+use native.Mathlib.Nat.{zero-div, div-one, pow-suc, one-mul, div-eq-of-lt, lt-of-lt-of-le}
 use native.Mathlib.Omega.{arith}
 use native.Mathlib.Numerals.{one-add}
 use lib.Dec.{eqb, eqb·suc-zero, eqb·zero-suc, eqb·suc-suc}
-use lib.Bits.{bitOr, or-shr, or-mod, shifted-half, shifted-even}
-use lib.Pow.{shl-exact, shr-shr}
+use lib.Bits.{bitOr, bitAnd, or-shr, or-mod, and-shr, and-mod, shifted-half, shifted-even}
+use lib.Pow.{pow-mono, shl-exact, shr-shr}
 use Rattle.bits.specs.Bit.{bitOf, withBit}
 
 -- what holds of 0 and of 1 holds of each digit
@@ -51,6 +51,25 @@ bit-pow j k = rw (← one-mul (2 ^ j)) (shifted j k)
 pub shl-one : (j w : ℕ) → j < w → (1 * 2 ^ j) % 2 ^ w ≡ 2 ^ j
 shl-one j w h = shl-exact {a = 1} 1 j w (omega arith) (omega arith) ∙ one-mul (2 ^ j)
 
+pub bit-shr : (x p k : ℕ) → bitOf (x / 2 ^ p) k ≡ bitOf x (p + k)
+unfolding bitOf
+bit-shr x p k = rw (shr-shr x p k)
+
+-- bits past the width are not set
+pub bit-high : (w x k : ℕ) → x < 2 ^ w → w ≤ k → bitOf x k ≡ false
+unfolding bitOf
+bit-high w x k h l = rw (div-eq-of-lt (lt-of-lt-of-le h (pow-mono l)))
+
+-- a word that is not 0 has a bit
+pub some-bit : (w x : ℕ) → x < 2 ^ w → (x ≡ 0 → ⊥) → (k : ℕ) × (k < w) × (bitOf x k ≡ true)
+some-bit zero x h n = absurd (n (omega arith))
+some-bit (suc w) x h n =
+    let p = pow-suc 2 w in
+    digit-ind (λ (d : ℕ). x % 2 ≡ d → (k : ℕ) × (k < suc w) × (bitOf x k ≡ true))
+    (λ e. let r = some-bit w (x / 2) (omega arith) (λ z. n (omega arith)) in (suc (r .0), omega (arith, r .1), bit-suc x (r .0) ∙ r .2))
+    (λ e. (0, omega arith, bit-low-one x e))
+    (x % 2) (digit x) refl
+
 -- ---- of two words
 or-digit : (a b : ℕ) → a < 2 → b < 2 → eqb (bitOr a b) 1 ≡ eqb a 1 || eqb b 1
 or-digit a b ha hb =
@@ -60,6 +79,15 @@ or-digit a b ha hb =
 pub bit-or : (a b k : ℕ) → bitOf (bitOr a b) k ≡ bitOf a k || bitOf b k
 unfolding bitOf
 bit-or a b k = rw (or-shr, or-mod (a / 2 ^ k) (b / 2 ^ k) 1) (or-digit (a / 2 ^ k % 2) (b / 2 ^ k % 2) (digit (a / 2 ^ k)) (digit (b / 2 ^ k)))
+
+and-digit : (a b : ℕ) → a < 2 → b < 2 → eqb (bitAnd a b) 1 ≡ eqb a 1 && eqb b 1
+and-digit a b ha hb =
+    digit-ind (λ (n : ℕ). eqb (bitAnd n b) 1 ≡ eqb n 1 && eqb b 1) refl
+    (digit-ind (λ (n : ℕ). eqb (bitAnd 1 n) 1 ≡ eqb n 1) refl refl b hb) a ha
+
+pub bit-and : (a b k : ℕ) → bitOf (bitAnd a b) k ≡ bitOf a k && bitOf b k
+unfolding bitOf
+bit-and a b k = rw (and-shr, and-mod (a / 2 ^ k) (b / 2 ^ k) 1) (and-digit (a / 2 ^ k % 2) (b / 2 ^ k % 2) (digit (a / 2 ^ k)) (digit (b / 2 ^ k)))
 
 pub bit-with : (x j k : ℕ) → bitOf (withBit x j) k ≡ bitOf x k || eqb k j
 unfolding withBit

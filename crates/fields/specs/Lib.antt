@@ -3,6 +3,7 @@ pub mod Table
 pub mod Reading
 pub mod Raw
 pub mod Symbols
+pub mod Call
 pub mod Said
 pub mod Padded
 pub mod Case

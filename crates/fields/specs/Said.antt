@@ -3,6 +3,10 @@
 use Prim.Native.Nat.{ℕ}
 use Rattle.fields.specs.declared.Refusal.{Refusal}
 use Rattle.fields.specs.declared.Refusal.the-variants.{Truncated, Unexpected, OutOfRange, NotAscending, WrongEnd, Operands, UnnamedLink, TooMany, TooLong, AreaShort, WorkShort, Breach}
+use Rattle.fields.specs.declared.Source.{Source}
+use Rattle.fields.specs.declared.Source.the-variants.{Sheet, Question, Narrowed, Register, Work}
+use Rattle.fields.specs.declared.Outcome as declared·Outcome
+use Rattle.fields.specs.declared.Outcome.the-variants as outcome
 use Rattle.fields.specs.declared.Seen as declared·Seen
 use Rattle.fields.specs.declared.Seen.the-variants as seen
 use Rattle.fields.specs.declared.Read as declared·Read
@@ -11,6 +15,7 @@ use Rattle.fields.specs.declared.Pushed as declared·Pushed
 use Rattle.fields.specs.declared.Pushed.the-variants as pushed
 use Rattle.fields.specs.declared.Stack.{Stack}
 use Rattle.fields.specs.Answer.{Answer, got, refused}
+use Rattle.fields.specs.Call.{Outcome, accepts, refuses}
 use Rattle.fields.specs.Reading.{Field, ends, wrong, body}
 use Rattle.fields.specs.Symbols.{Numbered, numbered}
 
@@ -42,8 +47,19 @@ place-of (AreaShort p) = p
 place-of (WorkShort p) = p
 place-of (Breach p) = p
 
+abbrev pub source-number : Source → ℕ
+source-number Sheet = 1
+source-number Question = 2
+source-number Narrowed = 3
+source-number Register = 4
+source-number Work = 5
+
 abbrev pub refusal-said : {A : Type 0} → Refusal → Answer A
 refusal-said r = refused (number-of r) (place-of r)
+
+abbrev pub outcome-said : declared·Outcome.Outcome → Outcome (Unit {0})
+outcome-said outcome.Accepted = accepts tt
+outcome-said (outcome.Refused f r) = refuses f (number-of r) (place-of r)
 
 abbrev pub field-said : declared·Seen.Seen → Field
 field-said seen.Ends = ends

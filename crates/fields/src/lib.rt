@@ -6,7 +6,7 @@ ghost use Rattle.fields.specs.Table.{allowed, matching, among, rows};
 ghost use Rattle.fields.specs.Reading.{fitting, field-at, word, eight};
 ghost use Rattle.fields.specs.Raw.{raw-at, body-in, judged};
 ghost use Rattle.fields.specs.Symbols.{symbol-length, step-of, operator-of, symbol-in, push, arity, due-symbols};
-ghost use Rattle.fields.specs.Said.{number-of, place-of, field-said, symbol-said, push-said};
+ghost use Rattle.fields.specs.Said.{number-of, place-of, source-number, field-said, symbol-said, push-said};
 
 // Why a file or a call is refused: the paper's numbers 1 to 6 and 11 to 16, each with its place.
 pub enum Refusal {
@@ -60,6 +60,34 @@ pub fn place_of(r: Refusal) -> usize
         Refusal::AreaShort(p) => p,
         Refusal::WorkShort(p) => p,
         Refusal::Breach(p) => p,
+    }
+}
+
+// What a call's refusal is about: one of its files, or, for 11 to 16, the work at hand.
+pub enum Source {
+    Sheet,
+    Question,
+    Narrowed,
+    Register,
+    Work,
+}
+
+// What comes of a call that tells nothing but this.
+pub enum Outcome {
+    Accepted,
+    Refused(Source, Refusal),
+}
+
+// Its number, for callers in C.
+pub fn source_number(s: Source) -> u8
+    ensures { λ n. ⌜ n ≡ source-number s ⌝ }
+{
+    match s {
+        Source::Sheet => 1,
+        Source::Question => 2,
+        Source::Narrowed => 3,
+        Source::Register => 4,
+        Source::Work => 5,
     }
 }
 

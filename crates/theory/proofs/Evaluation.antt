@@ -65,7 +65,7 @@ module _ (r : Register) (well-formed : T (well-formed? r)) where
   of-passed (through m) z t = t
 
   join-right : (v : Via) (p q : PathExpr) → Right p → Right q → Right (join v p q)
-  join-right v p q f g = tabled (join? r v x y) (join v p q) to from
+  join-right v p q f g = tabled (join? (records r) (passes? r v) (look x) (look y)) (join v p q) to from
     where
       x : Table
       x = evaluate r p
@@ -73,14 +73,14 @@ module _ (r : Register) (well-formed : T (well-formed? r)) where
       y : Table
       y = evaluate r q
 
-      to : (s t : ℕ) → T (join? r v x y s t) → Holds r (join v p q) s t
+      to : (s t : ℕ) → T (join? (records r) (passes? r v) (look x) (look y) s t) → Holds r (join v p q) s t
       to s t h =
           let e = some-in (λ z. look x s z && (look y z t && passes? r v z)) (range (records r)) h in
           let z = e .0 in
           let u : T (look x s z && (look y z t && passes? r v z)) = e .2 in
           (z, f s z .0 (search tests), g z t .0 (search tests), passed v z (search tests))
 
-      from : (s t : ℕ) → Holds r (join v p q) s t → T (join? r v x y s t)
+      from : (s t : ℕ) → Holds r (join v p q) s t → T (join? (records r) (passes? r v) (look x) (look y) s t)
       from s t h =
           let z = h .0 in
           in-some (λ z. look x s z && (look y z t && passes? r v z)) (range-in (records r) z (holds-bounds p s z (h .1) .1))
@@ -88,7 +88,7 @@ module _ (r : Register) (well-formed : T (well-formed? r)) where
 
   op-right : (o : Op) (p q : PathExpr) → Right p → Right q → Right (op o p q)
   op-right union p q f g =
-      tabled (op? (records r) union (evaluate r p) (evaluate r q)) (op union p q)
+      tabled (op? (records r) union (look (evaluate r p)) (look (evaluate r q))) (op union p q)
       (λ s t x. elim (or-cases (look (evaluate r p) s t) (look (evaluate r q) s t) x) [ inl u ↦ inl (f s t .0 u) | inr u ↦ inr (g s t .0 u) ])
       from
     where
@@ -98,13 +98,13 @@ module _ (r : Register) (well-formed : T (well-formed? r)) where
   op-right conjunction p q f g =
       let x = evaluate r p in
       let y = evaluate r q in
-      tabled (op? (records r) conjunction x y) (op conjunction p q)
+      tabled (op? (records r) conjunction (look x) (look y)) (op conjunction p q)
       (λ s t u. (f s t .0 (and-left (look x s t) (look y s t) u), g s t .0 (and-right (look x s t) (look y s t) u)))
       (λ s t h. and-both (look x s t) (look y s t) (f s t .1 (h .0)) (g s t .1 (h .1)))
   op-right branch-right p q f g =
       let x = evaluate r p in
       let y = evaluate r q in
-      tabled (op? (records r) branch-right x y) (op branch-right p q)
+      tabled (op? (records r) branch-right (look x) (look y)) (op branch-right p q)
       (λ s t u.
       let e = some-in (look y t) (range (records r)) (and-right (look x s t) (some? (look y t) (range (records r))) u) in
       (f s t .0 (and-left (look x s t) (some? (look y t) (range (records r))) u), (e .0, g t (e .0) .0 (e .2))))
@@ -114,7 +114,7 @@ module _ (r : Register) (well-formed : T (well-formed? r)) where
   op-right branch-left p q f g =
       let x = evaluate r p in
       let y = evaluate r q in
-      tabled (op? (records r) branch-left x y) (op branch-left p q)
+      tabled (op? (records r) branch-left (look x) (look y)) (op branch-left p q)
       (λ s t u.
       let e = some-in (look x s) (range (records r)) (and-right (look y s t) (some? (look x s) (range (records r))) u) in
       (g s t .0 (and-left (look y s t) (some? (look x s) (range (records r))) u), (e .0, f s (e .0) .0 (e .2))))

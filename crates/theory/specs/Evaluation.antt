@@ -22,19 +22,20 @@ abbrev pub passes? : Register → Via → ℕ → Bool
 passes? r any z = true
 passes? r (through m) z = has m (kind r z)
 
-abbrev pub join? : Register → Via → Table → Table → ℕ → ℕ → Bool
-join? r v x y s t = some? (λ z. look x s z && (look y z t && passes? r v z)) (range (records r))
+-- pairs joined at one of n records that passes
+abbrev pub join? : ℕ → (ℕ → Bool) → (ℕ → ℕ → Bool) → (ℕ → ℕ → Bool) → ℕ → ℕ → Bool
+join? n pass f g s t = some? (λ z. f s z && (g z t && pass z)) (range n)
 
-abbrev pub op? : ℕ → Op → Table → Table → ℕ → ℕ → Bool
-op? n union x y s t = look x s t || look y s t
-op? n conjunction x y s t = look x s t && look y s t
-op? n branch-right x y s t = look x s t && some? (look y t) (range n)
-op? n branch-left x y s t = look y s t && some? (look x s) (range n)
+abbrev pub op? : ℕ → Op → (ℕ → ℕ → Bool) → (ℕ → ℕ → Bool) → ℕ → ℕ → Bool
+op? n union f g s t = f s t || g s t
+op? n conjunction f g s t = f s t && g s t
+op? n branch-right f g s t = f s t && some? (g t) (range n)
+op? n branch-left f g s t = g s t && some? (f s) (range n)
 
 abbrev pub evaluate : Register → PathExpr → Table
 evaluate r (step d l) = table (records r) (step? r d l)
-evaluate r (join v p q) = let x = evaluate r p in let y = evaluate r q in table (records r) (join? r v x y)
-evaluate r (op o p q) = let x = evaluate r p in let y = evaluate r q in table (records r) (op? (records r) o x y)
+evaluate r (join v p q) = let x = evaluate r p in let y = evaluate r q in table (records r) (join? (records r) (passes? r v) (look x) (look y))
+evaluate r (op o p q) = let x = evaluate r p in let y = evaluate r q in table (records r) (op? (records r) o (look x) (look y))
 evaluate r (closure p) = let x = evaluate r p in closure? (records r) (look x)
 
 -- a plain answer's pair

@@ -1,0 +1,8 @@
+-- writing words, one after the other
+pub mod Words
+-- some number below n
+pub mod Ranges
+-- rows of bits
+pub mod Rows
+-- rows made of a test
+pub mod Masks

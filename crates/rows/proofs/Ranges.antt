@@ -1,0 +1,51 @@
+-- Whether some number below n passes a test.
+-- Assumes nothing.
+use mathlib.Core.Path.{_≡_, refl, sym, ap, ap₂, _∙_}
+use mathlib.Core.Bool.{Bool, true, false, _||_, or-false, or-assoc}
+use mathlib.Core.List.{List, [], _∷_, _++_}
+use mathlib.Core.Logic.{⊎-elim}
+use Prim.Native.Nat.{ℕ, zero, suc, _+_, _<_}
+use native.Mathlib.Nat.{add-zero, zero-add, add-suc, suc-add, eq-or-lt-of-le}
+use native.Mathlib.Omega.{arith}
+use Rattle.theory.specs.Lists.{some?, tabulate, range}
+
+some-append : (f : ℕ → Bool) (xs ys : List ℕ) → some? f (xs ++ ys) ≡ some? f xs || some? f ys
+some-append f [] ys = refl
+some-append f (x ∷ xs) ys = rw (some-append f xs ys) (sym (or-assoc (f x) (some? f xs) (some? f ys)))
+
+tabulate-suc : (i n : ℕ) → tabulate (λ k. k) i (suc n) ≡ tabulate (λ k. k) i n ++ ((i + n) ∷ [])
+tabulate-suc i zero = ap (λ (k : ℕ). k ∷ []) (sym (add-zero i))
+tabulate-suc i (suc n) = ap (λ (l : List ℕ). i ∷ l) (tabulate-suc (suc i) n ∙ ap (λ (k : ℕ). tabulate (λ j. j) (suc i) n ++ (k ∷ [])) (suc-add i n ∙ sym (add-suc i n)))
+
+-- one number more
+pub some-suc : (f : ℕ → Bool) (n : ℕ) → some? f (range (suc n)) ≡ some? f (range n) || f n
+some-suc f n =
+    ap (some? f) (tabulate-suc 0 n)
+    ∙ some-append f (range n) ((0 + n) ∷ [])
+    ∙ ap (λ (b : Bool). some? f (range n) || b) (or-false (f (0 + n)) ∙ ap f (zero-add n))
+
+pub some-same : (f g : ℕ → Bool) (n : ℕ) → ((z : ℕ) → z < n → f z ≡ g z) → some? f (range n) ≡ some? g (range n)
+some-same f g zero e = refl
+some-same f g (suc n) e = some-suc f n ∙ ap₂ _||_ (some-same f g n (λ z h. e z (omega arith))) (e n (omega arith)) ∙ sym (some-suc g n)
+
+pub some-none : (f : ℕ → Bool) (n : ℕ) → ((z : ℕ) → z < n → f z ≡ false) → some? f (range n) ≡ false
+some-none f zero e = refl
+some-none f (suc n) e = some-suc f n ∙ rw (some-none f n (λ z h. e z (omega arith)), e n (omega arith))
+
+pub some-one : (f : ℕ → Bool) (n z : ℕ) → z < n → f z ≡ true → some? f (range n) ≡ true
+some-one f zero z h e = absurd (omega arith)
+some-one f (suc n) z h e = some-suc f n ∙ ⊎-elim (λ q. rw (← q, e) (or-true (some? f (range z)))) (λ l. rw (some-one f n z l e)) (eq-or-lt-of-le (omega arith))
+  where
+    or-true : (a : Bool) → a || true ≡ true
+    or-true true = refl
+    or-true false = refl
+
+-- two stretches
+pub some-add : (f : ℕ → Bool) (p k : ℕ) → some? f (range (p + k)) ≡ some? f (range p) || some? (λ i. f (p + i)) (range k)
+some-add f p zero = rw (add-zero p) (sym (or-false (some? f (range p))))
+some-add f p (suc k) =
+    rw (add-suc p k, some-suc f (p + k), some-add f p k, some-suc (λ i. f (p + i)) k) (or-assoc (some? f (range p)) (some? (λ i. f (p + i)) (range k)) (f (p + k)))
+
+-- a stretch where the test fails
+pub some-skip : (f : ℕ → Bool) (p k : ℕ) → ((i : ℕ) → i < k → f (p + i) ≡ false) → some? f (range (p + k)) ≡ some? f (range p)
+some-skip f p k e = some-add f p k ∙ rw (some-none (λ i. f (p + i)) k e) (or-false (some? f (range p)))

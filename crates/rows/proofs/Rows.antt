@@ -1,0 +1,107 @@
+-- Rows of bits: what a loop over words says of the bits, and changes of a row one after another.
+-- Assumes nothing.
+use mathlib.Core.Path.{_≡_, refl, sym, ap, _∙_}
+use mathlib.Core.Bool.{Bool, true, false, _&&_, _||_, or-false}
+use mathlib.Core.List.{List}
+use mathlib.Core.Logic.{_⊎_, inl, inr, ⊎-elim}
+use Prim.Native.Nat.{ℕ, _+_, _*_, _/_, _%_, _^_, _≤_, _<_}
+use native.Mathlib.Omega.{arith}
+use native.Mathlib.Nat.{zero-add, eq-or-lt-of-le}
+use lib.Bits.{bitOr, bitAnd}
+use lib.Dec.{eqb}
+use lib.ListN.{length, getD, set}
+use lib.Seq.{getD-set-same, getD-set-other}
+use borrow.Author.Tests.{eq-eqb, ne-eqb}
+use Rattle.bits.specs.Bit.{bitOf, withBit}
+use Rattle.bits.proofs.Bits.{bit-zero, bit-or, bit-and, bit-with, some-bit}
+use Rattle.theory.specs.Lists.{some?, range}
+use Rattle.rows.specs.Kept.{Kept, Wrote}
+use Rattle.rows.specs.Row.{row-bit, Row, Put}
+use Rattle.rows.proofs.Words.{kept-refl, kept-trans, kept-in, kept-set, le-or-lt}
+use Rattle.rows.proofs.Ranges.{some-none, some-one}
+
+-- a row that lies outside what changed is as it was
+pub kept-bit : {lo hi : ℕ} {xs ys : List ℕ} (r w t : ℕ) → Kept lo hi xs ys → (r + w ≤ lo) ⊎ (hi ≤ r) → t / 64 < w → row-bit ys r t ≡ row-bit xs r t
+unfolding row-bit
+kept-bit r w t p out h = ap (λ (x : ℕ). bitOf x (t % 64)) (⊎-elim (λ l. p .below (r + t / 64) (omega arith)) (λ l. p .above (r + t / 64) (omega arith)) out)
+
+-- ---- one change, and another
+-- the same row, described otherwise
+pub row-is : {d w : ℕ} {g h : ℕ → Bool} {xs ys : List ℕ} → Row d w g xs ys → ((t : ℕ) → t / 64 < w → g t ≡ h t) → Row d w h xs ys
+row-is p e = record { kept = p .kept; bit = λ t l. p .bit t l ∙ e t l }
+
+pub row-same : (d w : ℕ) (xs : List ℕ) → Row d w (row-bit xs d) xs xs
+row-same d w xs = record { kept = kept-refl d (d + w) xs; bit = λ t h. refl }
+
+pub row-then : {d w : ℕ} {g h : ℕ → Bool} {xs ys zs : List ℕ} → Row d w g xs ys → Row d w h ys zs → Row d w h xs zs
+row-then p q = record { kept = kept-trans (p .kept) (q .kept) (omega arith) (omega arith) (omega arith) (omega arith); bit = q .bit }
+
+-- ---- from words to bits
+module _ {d w : ℕ} {xs ys : List ℕ} where
+  pub row-zero : Wrote d w (λ j. 0) xs ys → Row d w (λ t. false) xs ys
+  unfolding row-bit
+  row-zero p = record { kept = p .kept; bit = λ t h. ap (λ (x : ℕ). bitOf x (t % 64)) (p .word (t / 64) h) ∙ bit-zero (t % 64) }
+
+module _ {d w : ℕ} {xs ys : List ℕ} (rs : List ℕ) (s : ℕ) where
+  pub row-copy : Wrote d w (λ j. getD rs (s + j) 0) xs ys → Row d w (row-bit rs s) xs ys
+  unfolding row-bit
+  row-copy p = record { kept = p .kept; bit = λ t h. ap (λ (x : ℕ). bitOf x (t % 64)) (p .word (t / 64) h) }
+
+  pub row-or : Wrote d w (λ j. bitOr (getD xs (d + j) 0) (getD rs (s + j) 0)) xs ys → Row d w (λ t. row-bit xs d t || row-bit rs s t) xs ys
+  unfolding row-bit
+  row-or p = record { kept = p .kept; bit = λ t h. ap (λ (x : ℕ). bitOf x (t % 64)) (p .word (t / 64) h) ∙ bit-or (getD xs (d + t / 64) 0) (getD rs (s + t / 64) 0) (t % 64) }
+
+  pub row-and : Wrote d w (λ j. bitAnd (getD xs (d + j) 0) (getD rs (s + j) 0)) xs ys → Row d w (λ t. row-bit xs d t && row-bit rs s t) xs ys
+  unfolding row-bit
+  row-and p = record { kept = p .kept; bit = λ t h. ap (λ (x : ℕ). bitOf x (t % 64)) (p .word (t / 64) h) ∙ bit-and (getD xs (d + t / 64) 0) (getD rs (s + t / 64) 0) (t % 64) }
+
+  pub row-masked : (ms : List ℕ) → Wrote d w (λ j. bitOr (getD xs (d + j) 0) (bitAnd (getD rs (s + j) 0) (getD ms j 0))) xs ys
+      → Row d w (λ t. row-bit xs d t || (row-bit rs s t && row-bit ms 0 t)) xs ys
+  unfolding row-bit
+  row-masked ms p = record {
+    kept = p .kept;
+    bit = λ t h.
+        ap (λ (x : ℕ). bitOf x (t % 64)) (p .word (t / 64) h)
+        ∙ bit-or (getD xs (d + t / 64) 0) (bitAnd (getD rs (s + t / 64) 0) (getD ms (t / 64) 0)) (t % 64)
+        ∙ ap (λ (b : Bool). bitOf (getD xs (d + t / 64) 0) (t % 64) || b) (bit-and (getD rs (s + t / 64) 0) (getD ms (t / 64) 0) (t % 64) ∙ rw (zero-add (t / 64)));
+  }
+
+-- ---- one bit
+eq-or-ne : (a b : ℕ) → (a ≡ b) ⊎ (a ≡ b → ⊥)
+eq-or-ne a b = ⊎-elim (λ l. ⊎-elim inl (λ m. inr (omega arith)) (eq-or-lt-of-le l)) (λ l. inr (omega arith)) (le-or-lt a b)
+
+-- two tests that hold together
+eqb-same : (a b c d : ℕ) → (a ≡ b → c ≡ d) → (c ≡ d → a ≡ b) → eqb a b ≡ eqb c d
+eqb-same a b c d f g = ⊎-elim (λ e. eq-eqb a b e ∙ sym (eq-eqb c d (f e))) (λ n. ne-eqb a b n ∙ sym (ne-eqb c d (λ e. n (g e)))) (eq-or-ne a b)
+
+-- word t / 64 of the row at d has bit t % 64 too
+pub put-bit : (xs : List ℕ) (d t v : ℕ) → d + t / 64 < length xs → v ≡ withBit (getD xs (d + t / 64) 0) (t % 64) → Put d t (λ j. row-bit xs d j || eqb j t) xs (set xs (d + t / 64) v)
+unfolding row-bit
+put-bit xs d t v l e w h =
+    record {
+      kept = kept-in (kept-set xs (d + t / 64) v) (omega arith) (omega arith);
+      bit = λ j k. ⊎-elim
+          (λ q. rw (q, getD-set-same xs (d + t / 64) v 0 l, eqb-same j t (j % 64) (t % 64) (λ p. ap (λ (x : ℕ). x % 64) p) (λ p. omega arith), e) (bit-with (getD xs (d + t / 64) 0) (t % 64) (j % 64)))
+          (λ n. rw (getD-set-other xs (d + t / 64) (d + j / 64) v 0 (λ p. n (omega arith)), ne-eqb j t (λ p. n (ap (λ (x : ℕ). x / 64) p))) (sym (or-false _)))
+          (eq-or-ne (j / 64) (t / 64));
+    }
+
+pub put-yes : {b : Bool} {xs ys : List ℕ} (t : ℕ) → Put 0 t (λ j. row-bit xs 0 j || eqb j t) xs ys → b ≡ true → Put 0 t (λ j. row-bit xs 0 j || (b && eqb j t)) xs ys
+put-yes t p e w h = rw e (p w h)
+
+pub put-no : {b : Bool} (t : ℕ) (xs : List ℕ) → b ≡ false → Put 0 t (λ j. row-bit xs 0 j || (b && eqb j t)) xs xs
+put-no t xs e w h = rw e (row-is (row-same 0 w xs) (λ j l. sym (or-false (row-bit xs 0 j))))
+
+-- ---- whether a row has a bit: no, if its words are 0; yes, if one is not
+pub row-none : (xs : List ℕ) (r w : ℕ) → ((j : ℕ) → j < w → getD xs (r + j) 0 ≡ 0) → some? (row-bit xs r) (range (64 * w)) ≡ false
+unfolding row-bit
+row-none xs r w e = some-none _ (64 * w) (λ t h. ap (λ (x : ℕ). bitOf x (t % 64)) (e (t / 64) (omega arith)) ∙ bit-zero (t % 64))
+
+pub row-some : (xs : List ℕ) (r w j : ℕ) → j < w → getD xs (r + j) 0 < 2 ^ 64 → (getD xs (r + j) 0 ≡ 0 → ⊥) → some? (row-bit xs r) (range (64 * w)) ≡ true
+unfolding row-bit
+row-some xs r w j h l n =
+    let b = some-bit 64 (getD xs (r + j) 0) l n in
+    let lt = b .1 in
+    let d : (64 * j + b .0) / 64 ≡ j = omega arith in
+    let m : (64 * j + b .0) % 64 ≡ b .0 = omega arith in
+    some-one _ (64 * w) (64 * j + b .0) (omega arith) (rw (d, m) (b .2))

@@ -1,0 +1,27 @@
+-- A row of bits in a list of words.
+-- Assumes nothing.
+use mathlib.Core.Path.{_≡_}
+use mathlib.Core.Bool.{Bool, _&&_}
+use mathlib.Core.List.{List}
+use Prim.Native.Nat.{ℕ, _+_, _/_, _%_, _<_}
+use lib.Dec.{ltb}
+use lib.ListN.{getD}
+use Rattle.bits.specs.Bit.{bitOf}
+use Rattle.rows.specs.Kept.{Kept}
+
+-- bit t of the row that starts at word r
+unfoldable pub row-bit : List ℕ → ℕ → ℕ → Bool
+row-bit xs r t = bitOf (getD xs (r + t / 64) 0) (t % 64)
+
+-- the row of w words at d has become the one with the bits g, and nothing else changed
+pub record Row (d w : ℕ) (g : ℕ → Bool) (xs ys : List ℕ) : Type 0 where
+  pub kept : Kept d (d + w) xs ys
+  pub bit : (t : ℕ) → t / 64 < w → row-bit ys d t ≡ g t
+
+-- the same of every row at d that is long enough for bit t
+abbrev pub Put : ℕ → ℕ → (ℕ → Bool) → List ℕ → List ℕ → Type 0
+Put d t g xs ys = (w : ℕ) → t / 64 < w → Row d w g xs ys
+
+-- the bits below n that pass a test
+unfoldable pub mask-of : (ℕ → Bool) → ℕ → ℕ → Bool
+mask-of f n j = ltb j n && f j

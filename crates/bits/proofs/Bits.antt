@@ -1,14 +1,14 @@
 -- The laws of a bit, over any width.
 -- Assumes nothing.
-use mathlib.Core.Path.{_≡_, refl, sym, _∙_}
+use mathlib.Core.Path.{_≡_, refl, sym, ap, _∙_}
 use mathlib.Core.Bool.{true, false, _&&_, _||_, true≢false, false≢true}
-use Prim.Native.Nat.{ℕ, zero, suc, _+_, _*_, _/_, _%_, _^_, _<_, _≤_}
+use Prim.Native.Nat.{ℕ, zero, suc, _+_, _*_, _/_, _%_, _^_, _<_, _≤_, _-_}
 use native.Mathlib.Nat.{zero-div, div-one, pow-suc, one-mul, div-eq-of-lt, lt-of-lt-of-le}
 use native.Mathlib.Omega.{arith}
 use native.Mathlib.Numerals.{one-add}
 use lib.Dec.{eqb, eqb·suc-zero, eqb·zero-suc, eqb·suc-suc}
 use lib.Bits.{bitOr, bitAnd, or-shr, or-mod, and-shr, and-mod, shifted-half, shifted-even}
-use lib.Pow.{pow-mono, shl-exact, shr-shr}
+use lib.Pow.{pow-pos, pow-mono, shl-exact, shr-shr}
 use Rattle.bits.specs.Bit.{bitOf, withBit}
 
 -- what holds of 0 and of 1 holds of each digit
@@ -59,6 +59,16 @@ bit-shr x p k = rw (shr-shr x p k)
 pub bit-high : (w x k : ℕ) → x < 2 ^ w → w ≤ k → bitOf x k ≡ false
 unfolding bitOf
 bit-high w x k h l = rw (div-eq-of-lt (lt-of-lt-of-le h (pow-mono l)))
+
+-- a word of ones
+pub bit-full : (w k : ℕ) → k < w → bitOf (2 ^ w - 1) k ≡ true
+bit-full zero k h = absurd (omega arith)
+bit-full (suc w) zero h = let p = pow-suc 2 w in let q = pow-pos w in bit-low-one (2 ^ suc w - 1) (omega arith)
+bit-full (suc w) (suc k) h =
+    let p = pow-suc 2 w in
+    let q = pow-pos w in
+    let e : (2 ^ suc w - 1) / 2 ≡ 2 ^ w - 1 = omega arith in
+    bit-suc (2 ^ suc w - 1) k ∙ ap (λ (x : ℕ). bitOf x k) e ∙ bit-full w k (omega arith)
 
 -- a word that is not 0 has a bit
 pub some-bit : (w x : ℕ) → x < 2 ^ w → (x ≡ 0 → ⊥) → (k : ℕ) × (k < w) × (bitOf x k ≡ true)

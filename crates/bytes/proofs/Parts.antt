@@ -9,7 +9,8 @@ use borrow.Author.Tests.{lt-ltb, le-ltb, eq-eqb, ne-eqb}
 use Rattle.narrowed.specs.declared.Members.{Members}
 use Rattle.narrowed.specs.Form.{Flat, flat}
 use Rattle.narrowed.specs.Writing.{two-bytes, eight-bytes, field-bytes, symbol-bytes, symbols-bytes, member-bytes, members-bytes, encode}
-use Rattle.narrowed.specs.Given.{symbol-given, symbols-given, members-given, given}
+use Rattle.fields.specs.Symbols.{symbol-given, symbols-given}
+use Rattle.narrowed.specs.Given.{members-given, given}
 use Rattle.bytes.specs.Wrote.{Wrote}
 use Rattle.bytes.proofs.Along.{wrote-more}
 

@@ -7,7 +7,8 @@ ghost use lib.ListN.{length};
 ghost use lib.Seq.{sets};
 ghost use Rattle.narrowed.specs.Form.{flat};
 ghost use Rattle.narrowed.specs.Writing.{two-bytes, eight-bytes, field-bytes, symbol-bytes, symbols-bytes, member-bytes, encode};
-ghost use Rattle.narrowed.specs.Given.{symbol-given, symbols-given, given};
+ghost use Rattle.fields.specs.Symbols.{symbol-given, symbols-given};
+ghost use Rattle.narrowed.specs.Given.{given};
 ghost use Rattle.bytes.specs.Wrote.{Wrote, Few};
 
 fn put_byte(out: &mut [u8], at: usize, b: u8) -> usize

@@ -17,7 +17,7 @@ use Rattle.fields.specs.Answer.{Answer, got, refused}
 use Rattle.fields.specs.Reading.{eight}
 
 -- ---- a symbol as a number: its code, and 255 for a join through the set beside it
-abbrev operator-numbered : ℕ → Symbol
+abbrev pub operator-numbered : ℕ → Symbol
 operator-numbered zero = s-join any
 operator-numbered (suc zero) = s-op union
 operator-numbered (suc (suc zero)) = s-op conjunction
@@ -82,6 +82,16 @@ number-symbol (s-join any) = numbered 128 0
 number-symbol (s-join (through m)) = numbered 255 m
 number-symbol (s-op o) = numbered (code (s-op o)) 0
 number-symbol s-closure = numbered 133 0
+
+-- ---- symbols in two arrays: their numbers, and their sets
+-- a symbol; only a join through a set has one
+abbrev pub symbol-given : ℕ → ℕ → Numbered
+symbol-given c m = numbered c (cond (eqb c 255) m 0)
+
+-- n symbols from the k-th on
+abbrev pub symbols-given : List ℕ → List ℕ → ℕ → ℕ → List Numbered
+symbols-given numbers masks zero k = []
+symbols-given numbers masks (suc n) k = symbol-given (getD numbers k 0) (getD masks k 0) ∷ symbols-given numbers masks n (suc k)
 
 -- ---- symbols that make a path
 -- a step or an operator, without a set

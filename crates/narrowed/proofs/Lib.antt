@@ -14,4 +14,5 @@ pub mod Forth
 -- the members of theory
 pub mod Formed
 pub mod Paths
+pub mod Handed
 pub mod Cases

@@ -1,22 +1,11 @@
 -- The members that the arrays of `Members` hold, whatever their contents.
 -- Assumes nothing.
-use mathlib.Core.Bool.{cond}
 use mathlib.Core.List.{List, [], _∷_}
 use Prim.Native.Nat.{ℕ, zero, suc, _+_}
-use lib.Dec.{eqb}
 use lib.ListN.{getD}
-use Rattle.fields.specs.Symbols.{Numbered, numbered}
+use Rattle.fields.specs.Symbols.{symbols-given}
 use Rattle.narrowed.specs.declared.Members.{Members}
 use Rattle.narrowed.specs.Form.{Flat, flat}
-
--- a symbol; only a join through a set has one
-abbrev pub symbol-given : ℕ → ℕ → Numbered
-symbol-given c m = numbered c (cond (eqb c 255) m 0)
-
--- n symbols from the k-th on
-abbrev pub symbols-given : List ℕ → List ℕ → ℕ → ℕ → List Numbered
-symbols-given numbers masks zero k = []
-symbols-given numbers masks (suc n) k = symbol-given (getD numbers k 0) (getD masks k 0) ∷ symbols-given numbers masks n (suc k)
 
 -- n members from the i-th on, whose symbols begin with the k-th
 abbrev pub members-given : Members → ℕ → ℕ → ℕ → List Flat

@@ -5,4 +5,5 @@ pub mod Loop
 -- what an accepted file holds, and where
 pub mod AcceptedRegister
 pub mod Places
+pub mod Walk
 pub mod Cases

@@ -1,10 +1,10 @@
 -- Whether some number below n passes a test.
 -- Assumes nothing.
-use mathlib.Core.Path.{_≡_, refl, sym, ap, ap₂, _∙_}
-use mathlib.Core.Bool.{Bool, true, false, _||_, or-false, or-assoc}
+use mathlib.Core.Path.{_≡_, refl, sym, ap, ap₂, _∙_, subst}
+use mathlib.Core.Bool.{Bool, true, false, _||_, or-false, or-assoc, true≢false}
 use mathlib.Core.List.{List, [], _∷_, _++_}
 use mathlib.Core.Logic.{⊎-elim}
-use Prim.Native.Nat.{ℕ, zero, suc, _+_, _<_}
+use Prim.Native.Nat.{ℕ, zero, suc, _+_, _-_, _≤_, _<_}
 use native.Mathlib.Nat.{add-zero, zero-add, add-suc, suc-add, eq-or-lt-of-le}
 use native.Mathlib.Omega.{arith}
 use Rattle.theory.specs.Lists.{some?, tabulate, range}
@@ -49,3 +49,17 @@ some-add f p (suc k) =
 -- a stretch where the test fails
 pub some-skip : (f : ℕ → Bool) (p k : ℕ) → ((i : ℕ) → i < k → f (p + i) ≡ false) → some? f (range (p + k)) ≡ some? f (range p)
 some-skip f p k e = some-add f p k ∙ rw (some-none (λ i. f (p + i)) k e) (or-false (some? f (range p)))
+
+-- numbers from n on that fail the test do not count
+pub some-cut : (f : ℕ → Bool) (n m : ℕ) → n ≤ m → ((z : ℕ) → n ≤ z → z < m → f z ≡ false) → some? f (range m) ≡ some? f (range n)
+some-cut f n m h e =
+    let s : n + (m - n) ≡ m = omega arith in
+    subst (λ (k : ℕ). some? f (range k) ≡ some? f (range n)) s (some-skip f n (m - n) (λ i l. e (n + i) (omega arith) (omega arith)))
+
+-- none passes it
+pub some-no : (f : ℕ → Bool) (n z : ℕ) → some? f (range n) ≡ false → z < n → f z ≡ false
+some-no f n z e h = go (f z) refl
+  where
+    go : (b : Bool) → f z ≡ b → f z ≡ false
+    go true q = absurd (true≢false (sym (some-one f n z h q) ∙ e))
+    go false q = q

@@ -36,6 +36,10 @@ row-same d w xs = record { kept = kept-refl d (d + w) xs; bit = λ t h. refl }
 pub row-then : {d w : ℕ} {g h : ℕ → Bool} {xs ys zs : List ℕ} → Row d w g xs ys → Row d w h ys zs → Row d w h xs zs
 row-then p q = record { kept = kept-trans (p .kept) (q .kept) (omega arith) (omega arith) (omega arith) (omega arith); bit = q .bit }
 
+-- the row as it stands after a change
+pub row-now : {d w : ℕ} {g : ℕ → Bool} {xs ys : List ℕ} → Row d w g xs ys → Row d w g ys ys
+row-now {d} {w} {ys = ys} p = record { kept = kept-refl d (d + w) ys; bit = p .bit }
+
 -- ---- from words to bits
 module _ {d w : ℕ} {xs ys : List ℕ} where
   pub row-zero : Wrote d w (λ j. 0) xs ys → Row d w (λ t. false) xs ys

@@ -2,9 +2,9 @@
 -- Assumes nothing.
 use mathlib.Core.Path.{_≡_, sym, ap, _∙_, subst}
 use mathlib.Core.Logic.{_⊎_, inl, inr}
-use mathlib.Core.Bool.{Bool, false, _&&_, _||_, not}
+use mathlib.Core.Bool.{Bool, false, _&&_, _||_, not, and-false}
 use mathlib.Core.List.{List, []}
-use Prim.Native.Nat.{ℕ, zero, suc, _+_, _<_}
+use Prim.Native.Nat.{ℕ, zero, suc, _+_, _<_, _≤_}
 use native.Mathlib.Nat.{zero-add, le-of-suc-le-suc, not-suc-le-zero, eq-or-lt-of-le, le-of-eq, le-trans}
 use lib.Dec.{T, ltb, ltb→lt, nltb→le}
 use lib.ListN.{getD, List·getD-eq-default}
@@ -30,6 +30,19 @@ module _ (n : ℕ) (f : ℕ → ℕ → Bool) where
       ap (λ r. getD r b false) (tabulate-at (λ x. tabulate (f x) 0 n) 0 n a [] h ∙ ap (λ x. tabulate (f x) 0 n) (zero-add a))
       ∙ tabulate-at (f a) 0 n b false k ∙ ap (f a) (zero-add b)
 
+  look-past : (a b : ℕ) → a < n → n ≤ b → look (table n f) a b ≡ false
+  look-past a b h k =
+      ap (λ r. getD r b false) (tabulate-at (λ x. tabulate (f x) 0 n) 0 n a [] h)
+      ∙ List·getD-eq-default (tabulate (f (0 + a)) 0 n) false (le-trans (le-of-eq (length-tabulate (f (0 + a)) 0 n)) k)
+
+  -- where f has nothing past n
+  pub look-all : (a b : ℕ) → a < n → (n ≤ b → f a b ≡ false) → look (table n f) a b ≡ f a b
+  look-all a b h e = go (test (ltb b n))
+    where
+      go : T (ltb b n) ⊎ T (not (ltb b n)) → look (table n f) a b ≡ f a b
+      go (inl k) = look-at a b h (ltb→lt b n k)
+      go (inr k) = look-past a b h (nltb→le b n k) ∙ sym (e (nltb→le b n k))
+
   pub look-make : {a b : ℕ} → a < n → b < n → T (f a b) → T (look (table n f) a b)
   look-make {a} {b} h k t = subst T (sym (look-at a b h k)) t
 
@@ -38,10 +51,7 @@ module _ (n : ℕ) (f : ℕ → ℕ → Bool) where
     where
       go : T (ltb a n) ⊎ T (not (ltb a n)) → T (ltb b n) ⊎ T (not (ltb b n)) → (a < n) × (b < n) × T (f a b)
       go (inl h) (inl k) = (ltb→lt a n h, ltb→lt b n k, subst T (look-at a b (ltb→lt a n h) (ltb→lt b n k)) t)
-      go (inl h) (inr k) =
-          absurd (subst T
-          (ap (λ r. getD r b false) (tabulate-at (λ x. tabulate (f x) 0 n) 0 n a [] (ltb→lt a n h))
-          ∙ List·getD-eq-default (tabulate (f (0 + a)) 0 n) false (le-trans (le-of-eq (length-tabulate (f (0 + a)) 0 n)) (nltb→le b n k))) t)
+      go (inl h) (inr k) = absurd (subst T (look-past a b (ltb→lt a n h) (nltb→le b n k)) t)
       go (inr h) k =
           absurd (subst T
           (ap (λ r. getD r b false) (List·getD-eq-default (tabulate (λ x. tabulate (f x) 0 n) 0 n) [] (le-trans (le-of-eq (length-tabulate (λ x. tabulate (f x) 0 n) 0 n)) (nltb→le a n h)))) t)
@@ -57,6 +67,15 @@ module _ (n : ℕ) (f : ℕ → ℕ → Bool) where
 
   abbrev next : ℕ → ℕ → ℕ → Bool
   next k a b = let t = warshall n f k in look t a b || (look t a k && look t k b)
+
+  warshall-past : (k a b : ℕ) → a < n → n ≤ b → look (warshall n f k) a b ≡ false
+  warshall-past zero a b h l = look-past n f a b h l
+  warshall-past (suc k) a b h l = look-past n (next k) a b h l
+
+  -- a round, as an equation
+  pub warshall-round : (k a b : ℕ) → k < n → a < n → look (warshall n f (suc k)) a b ≡ next k a b
+  warshall-round k a b hk h =
+      look-all n (next k) a b h (λ l. rw (warshall-past k a b h l, warshall-past k k b hk l) (and-false (look (warshall n f k) a k)))
 
   split : (k a b : ℕ) → W (suc k) a b → W k a b ⊎ (W k a k × W k k b)
   split k a b w = go (or-cases (look t a b) (look t a k && look t k b) (look-true n (next k) a b w .2))

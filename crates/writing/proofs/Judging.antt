@@ -12,12 +12,12 @@ use borrow.Author.Tests.{leb-true, lt-leb, le-leb}
 use Rattle.theory.specs.PathExpr.{before?}
 use Rattle.fields.specs.declared.Stack.{Stack}
 use Rattle.fields.specs.Answer.{Answer, got, refused, onward}
-use Rattle.fields.specs.Symbols.{Numbered, arity, order-code}
+use Rattle.fields.specs.Symbols.{Numbered, arity, order-code, symbols-given}
 use Rattle.fields.proofs.Bools.{cond-then, not-got, onward-got, and-right}
 use Rattle.fields.proofs.Symbols.{push-got}
 use Rattle.narrowed.specs.declared.Members.{Members}
 use Rattle.narrowed.specs.Form.{order-codes, numbers}
-use Rattle.narrowed.specs.Given.{symbols-given, members-given, given}
+use Rattle.narrowed.specs.Given.{members-given, given}
 use Rattle.narrowed.specs.Said.{segment-codes}
 use Rattle.narrowed.proofs.Filled.{codes-numbers}
 use Rattle.bytes.proofs.Parts.{symbols-many, members-many}

@@ -13,13 +13,13 @@ use Rattle.fields.specs.declared.File.the-variants as file
 use Rattle.fields.specs.declared.Stack.{Stack}
 use Rattle.fields.specs.Answer.{Answer, got, refused, onward}
 use Rattle.fields.specs.Reading.{read}
-use Rattle.fields.specs.Symbols.{Numbered, numbered, operator-of, symbol-in, arity, push, due-symbols}
+use Rattle.fields.specs.Symbols.{Numbered, numbered, operator-of, symbol-in, arity, push, due-symbols, symbols-given}
 use Rattle.fields.proofs.Bools.{and-left}
 use Rattle.fields.proofs.Going.{Going, going-start, going-ends, going-more, going-refused}
 use Rattle.narrowed.specs.declared.Members.{Members}
 use Rattle.narrowed.specs.Form.{Flat, flat, numbers, State, Open, open-as, between, within, head, due, grown, judge, narrowed-form, order-codes}
 use Rattle.narrowed.specs.Writing.{two-bytes, eight-bytes, symbol-tag, symbol-body, symbol-bytes, symbols-bytes, head-bytes, member-bytes, members-bytes, encode}
-use Rattle.narrowed.specs.Given.{symbols-given, members-given, given}
+use Rattle.narrowed.specs.Given.{members-given, given}
 use Rattle.narrowed.proofs.Ahead.{one-more}
 use Rattle.narrowed.proofs.Bytes.{word-back, eight-back}
 use Rattle.narrowed.proofs.Lies.{Lies, field-lies, ends-lie}

@@ -1,6 +1,6 @@
 use borrow.Author.Needs.{needs}
 use Rattle.register.specs.Ahead.{SomeAhead}
-use Rattle.vectors.proofs.Walk.{fewer, still-ahead}
+use Rattle.register.proofs.Walk.{fewer, still-ahead}
 use Rattle.vectors.proofs.digest.mix_links.Statement.{statement}
 use Rattle.vectors.proofs.digest.mix_links.Tie as tie
 

@@ -1,0 +1,96 @@
+-- What the check yields, from what the readers and the search say.
+-- Assumes nothing.
+use mathlib.Core.Path.{_≡_, sym, ap, _∙_}
+use mathlib.Core.List.{List}
+use mathlib.Core.Option.{some}
+use Prim.Native.Nat.{ℕ}
+use lib.Dec.{T}
+use Rattle.theory.specs.Register.{Edge, Register, records, kind}
+use Rattle.theory.specs.Sheet.{Sheet, sheet?, link-permitted?, breach, or-else}
+use Rattle.fields.specs.declared.Refusal.{Refusal}
+use Rattle.fields.specs.declared.Source.the-variants as source
+use Rattle.fields.specs.Answer.{Answer, got, refused, onward}
+use Rattle.fields.specs.Call.{accepts, refuses}
+use Rattle.fields.specs.Said.{number-of, place-of}
+use Rattle.fields.specs.Reading.{read}
+use Rattle.fields.proofs.Bools.{onward-got, not-refused}
+use Rattle.sheet.specs.declared.Outcome as sheet·Outcome
+use Rattle.sheet.specs.declared.Outcome.the-variants as sheet·outcome
+use Rattle.sheet.specs.Form.{sheet-form}
+use Rattle.sheet.specs.Table.{table-of, table-in}
+use Rattle.sheet.specs.Said.{Reads, Sizes, outcome-said as sheet-said}
+use Rattle.sheet.proofs.Ranges.{accepted-sheet}
+use Rattle.sheet.proofs.Tables.{table-permits}
+use Rattle.register.specs.declared.Outcome as register·Outcome
+use Rattle.register.specs.declared.Outcome.the-variants as register·outcome
+use Rattle.register.specs.Form.{register-form, register-in}
+use Rattle.register.specs.Said.{outcome-said as register-said, sized as register-sizes}
+use Rattle.register.specs.Ahead.{Accepted}
+use Rattle.register.proofs.AcceptedRegister.{accepted-sizes, accepted-register, Limits}
+use Rattle.conform.specs.declared.Failing.{Failing}
+use Rattle.conform.specs.declared.Failing.the-variants.{At, Nowhere}
+use Rattle.conform.specs.Check.{obeying, check-of}
+use Rattle.conform.specs.Said.{failing-said, tabled?, link-tabled?, first-unknown, first-forbidden, first-breach}
+use Rattle.conform.proofs.Search.{same-failing}
+
+-- the search over the kinds, then over the links
+module _ (K : ℕ) (t : List ℕ) (r : Register) (u : Failing) (h : failing-said u ≡ first-unknown K r) where
+  pub breach-of-kind : (i : ℕ) → u ≡ At i → some i ≡ first-breach K t r
+  breach-of-kind i e = rw (← h, e)
+
+  pub breach-of-link : (f : Failing) → u ≡ Nowhere → failing-said f ≡ first-forbidden t r → failing-said f ≡ first-breach K t r
+  breach-of-link f e g = rw (← h, e) g
+
+-- the search by the sheet's numbers and table is the search by the sheet
+breach-is : (S : Sheet) (r : Register) → T (sheet? S) → Limits r → first-breach (S .kinds) (table-of (S .permitted)) r ≡ breach S r
+unfolding breach first-unknown first-forbidden tabled?
+breach-is S r ok l =
+    ap (or-else (first-unknown (S .kinds) r))
+    (same-failing (link-tabled? (table-of (S .permitted)) r) (link-permitted? S r) (records r) (r .links)
+    (λ (e : Edge) m. table-permits S ok (kind r (e .from)) (e .label) (kind r (e .to)) (l .kinds (e .from))))
+
+-- an answer of whose value a part is told is refused where that is
+told-refused : {A B : Type 0} (f : A → B) (a : Answer A) (n p : ℕ) → refused n p ≡ onward (λ x. got (f x)) a → a ≡ refused n p
+told-refused f (got x) n p e = not-refused (f x) n p (sym e)
+told-refused f (refused m q) n p e = cc
+
+-- the register's file is accepted
+module _ (g : List ℕ) (q : register·Outcome.Outcome) (z : register-said q ≡ register-sizes (read register-form g)) (n l : ℕ) (u : q ≡ register·outcome.Accepted n l) where
+  pub register-accepted : Accepted g
+  register-accepted = accepted-sizes g n l (sym (ap register-said u) ∙ z) .0
+
+  pub register-records : n ≡ records (register-in g)
+  register-records = sym (accepted-sizes g n l (sym (ap register-said u) ∙ z) .1)
+
+module _ (s g : List ℕ) (o : sheet·Outcome.Outcome) (t : List ℕ) (h : Reads (read sheet-form s) o t) where
+  pub sheet-refused : (x : Refusal) → o ≡ sheet·outcome.Refused x → refuses source.Sheet (number-of x) (place-of x) ≡ check-of s g
+  unfolding check-of
+  sheet-refused x w = rw (told-refused _ (read sheet-form s) (number-of x) (place-of x) (sym (ap sheet-said w) ∙ h .outcome))
+
+  module _ (k e : ℕ) (w : o ≡ sheet·outcome.Accepted k e) (q : register·Outcome.Outcome) (z : register-said q ≡ register-sizes (read register-form g)) where
+    sheet-accepted : (S : Sheet) × (read sheet-form s ≡ got S) × (S .kinds ≡ k)
+    sheet-accepted =
+        let (S, a, b) = onward-got (λ S. got (record { kinds = S .kinds; links = S .link-names })) (read sheet-form s) _ (sym (h .outcome) ∙ ap sheet-said w) in
+        let c : _≡_ {A = Sizes} (record { kinds = S .kinds; links = S .link-names }) (record { kinds = k; links = e }) = cc b in
+        (S, a, ap (λ (p : Sizes). p .kinds) c)
+
+    pub register-refused : (x : Refusal) → q ≡ register·outcome.Refused x → refuses source.Register (number-of x) (place-of x) ≡ check-of s g
+    unfolding check-of
+    register-refused x u =
+        rw (sheet-accepted .1, told-refused _ (read register-form g) (number-of x) (place-of x) (sym (ap register-said u) ∙ z))
+
+    module _ (n l : ℕ) (u : q ≡ register·outcome.Accepted n l) (f : Failing) (y : failing-said f ≡ first-breach k t (register-in g)) where
+      obeyed : obeying (failing-said f) ≡ check-of s g
+      unfolding check-of
+      obeyed =
+          let (S, a, b) = sheet-accepted in
+          let r = register-accepted g q z n l u in
+          let i : t ≡ table-of (S .permitted) = h .table ∙ ap table-in a in
+          let j = breach-is S (register-in g) (accepted-sheet s S a) (accepted-register g (register-in g) r) in
+          rw (a, r, ← j, b, ← i) (ap obeying y)
+
+      pub breach-at : (i : ℕ) → f ≡ At i → refuses source.Work 16 i ≡ check-of s g
+      breach-at i w = rw w at obeyed
+
+      pub no-breach : f ≡ Nowhere → accepts tt ≡ check-of s g
+      no-breach w = rw w at obeyed

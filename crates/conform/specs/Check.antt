@@ -1,0 +1,21 @@
+-- The check: does a register obey a sheet.
+-- 01-scope.md, "What the work covers"; refusal 16; the order of refusals: sheet, register, 16.
+-- Assumes nothing.
+use mathlib.Core.List.{List}
+use mathlib.Core.Option.{Option, none, some}
+use Prim.Native.Nat.{ℕ}
+use Rattle.theory.specs.Sheet.{breach}
+use Rattle.fields.specs.declared.Source.the-variants as source
+use Rattle.fields.specs.Call.{Outcome, accepts, refuses, reading}
+use Rattle.fields.specs.Reading.{read}
+use Rattle.sheet.specs.Form.{sheet-form}
+use Rattle.register.specs.Form.{register-form}
+
+abbrev pub obeying : Option ℕ → Outcome (Unit {0})
+obeying none = accepts tt
+obeying (some i) = refuses source.Work 16 i
+
+unfoldable pub check-of : List ℕ → List ℕ → Outcome (Unit {0})
+check-of sheet register =
+    reading (read sheet-form sheet) (refuses source.Sheet)
+    (λ S. reading (read register-form register) (refuses source.Register) (λ r. obeying (breach S r)))

@@ -1,0 +1,25 @@
+-- A register's file in rows: what is known of its sizes.
+-- Assumes nothing.
+use mathlib.Core.List.{List}
+use Prim.Native.Nat.{ℕ, _*_, _≤_}
+use native.Mathlib.Nat.{mul-le-mul}
+use native.Mathlib.Omega.{arith}
+use Rattle.register.specs.Form.{register-in}
+use Rattle.register.proofs.AcceptedRegister.{Limits, accepted-register}
+use Rattle.evaluation.specs.Ground.{Ground}
+
+module _ {s : List ℕ} {n w : ℕ} (g : Ground s n w) where
+  pub limits : Limits (register-in s)
+  limits = accepted-register s (register-in s) (g .accepted)
+
+  pub few : n ≤ 1024
+  few = omega (arith, g .count, limits .few-records)
+
+  pub rows-hold : n ≤ 64 * w
+  rows-hold = omega (arith, g .wide)
+
+  pub narrow : w ≤ 16
+  narrow = omega (arith, g .wide, few)
+
+  pub small : n * w ≤ 16384
+  small = omega (arith, mul-le-mul few narrow)

@@ -1,0 +1,118 @@
+-- `evaluation::apply` meets its contract.
+-- Assumes nothing.
+use Rattle.evaluation.proofs.Applying.{fits-operator}
+use mathlib.Core.Path.{sym, _∙_}
+use Prim.Native.Nat.{_-_}
+use Rattle.evaluation.proofs.Applying.{fits-step, fits-one, fits-two, applied-step, applied-closure, applied-binary}
+use Rattle.evaluation.proofs.Numbers.{forward-number, reverse-number, closure-number, binary-number}
+use Rattle.evaluation.proofs.Grounds.{small, rows-hold, narrow}
+use Rattle.fields.specs.Symbols.{symbol-numbered}
+use Rattle.theory.specs.PathExpr.{forward, reverse}
+use native.Mathlib.Omega.{arith}
+use borrow.Author.Needs.{needs}
+use Rattle.evaluation.proofs.apply.Statement.{statement}
+use Rattle.evaluation.proofs.apply.Tie as tie
+use Rattle.evaluation.proofs.apply.Reads as reads
+use Rattle.evaluation.proofs.apply.Lts as lts
+use Rattle.evaluation.proofs.closes.Reads as closes-reads
+use Rattle.evaluation.proofs.combine.Reads as combine-reads
+use Rattle.evaluation.proofs.step.Reads as step-reads
+use Rattle.relation.proofs.closure.Reads as closure-reads
+
+mul-z : tie.Need-mul-z
+mul-z c = omega (arith, small (c .before .before .pre .0))
+
+step-requires : tie.Need-step-requires
+step-requires c κs = let a = c .before .before .before .before .args in let r = c .before .before .before .before .pre in (fits-step (r .0) forward (a .number) (forward-number (a .number) (a .set) (c .before .if1 .taken)) (r .1), r .0)
+
+add-result : tie.Need-add-result
+add-result c = let a = c .before .before .before .before .before .before .before .args in let r = c .before .before .before .before .before .before .before .pre in omega (arith, fits-step (r .0) forward (a .number) (forward-number (a .number) (a .set) (c .before .before .before .before .if1 .taken)) (r .1))
+
+same-length : tie.Need-same-length
+same-length c = search needs
+
+returns : tie.Need-returns
+returns c = let a = c .before .before .before .before .before .before .before .args in let r = c .before .before .before .before .before .before .before .pre in applied-step (r .0) (a .b) (symbol-numbered (a .number) (a .set)) forward (a .number) (forward-number (a .number) (a .set) (c .before .before .before .before .if1 .taken)) (c .before .before .step .ensures)
+
+step-requires-2 : tie.Need-step-requires-2
+step-requires-2 c κs = let a = c .before .before .before .before .before .args in let r = c .before .before .before .before .before .pre in (fits-step (r .0) reverse (a .number - 64) (reverse-number (a .number) (a .set) (c .before .before .if1 .left) (c .before .if2 .taken)) (r .1), r .0)
+
+add-result-2 : tie.Need-add-result-2
+add-result-2 c = let a = c .before .before .before .before .before .before .before .before .args in let r = c .before .before .before .before .before .before .before .before .pre in omega (arith, fits-step (r .0) reverse (a .number - 64) (reverse-number (a .number) (a .set) (c .before .before .before .before .before .if1 .left) (c .before .before .before .before .if2 .taken)) (r .1))
+
+same-length-2 : tie.Need-same-length-2
+same-length-2 c = search needs
+
+returns-2 : tie.Need-returns-2
+returns-2 c = let a = c .before .before .before .before .before .before .before .before .args in let r = c .before .before .before .before .before .before .before .before .pre in applied-step (r .0) (a .b) (symbol-numbered (a .number) (a .set)) reverse (a .number - 64) (reverse-number (a .number) (a .set) (c .before .before .before .before .before .if1 .left) (c .before .before .before .before .if2 .taken)) (c .before .before .step2 .ensures)
+
+sub-a : tie.Need-sub-a
+sub-a c = let a = c .before .before .before .before .args in let r = c .before .before .before .before .pre in fits-operator (r .0) (a .number) (a .set) (c .if2 .left) (r .1)
+
+closes-requires : tie.Need-closes-requires
+closes-requires c κs = search needs
+
+closure-requires : tie.Need-closure-requires
+closure-requires c κs =
+    let a = c .before .before .before .before .before .before .before .args in
+    let r = c .before .before .before .before .before .before .before .pre in
+    let o = fits-one (r .0) (closure-number (a .number) (a .set) (c .before .before .before .if2 .left) (sym (c .before .before .closes .ensures) ∙ c .before .if3 .taken)) (r .1) in
+    (omega (arith, o .below, o .ends), rows-hold (r .0), narrow (r .0), o .top)
+
+same-length-3 : tie.Need-same-length-3
+same-length-3 c = search needs
+
+returns-3 : tie.Need-returns-3
+returns-3 c =
+    let a = c .before .before .before .before .before .before .before .before .before .before .args in
+    let r = c .before .before .before .before .before .before .before .before .before .before .pre in
+    let x = closure-number (a .number) (a .set) (c .before .before .before .before .before .before .if2 .left) (sym (c .before .before .before .before .before .closes .ensures) ∙ c .before .before .before .before .if3 .taken) in
+    applied-closure (r .0) (a .b) _ x (fits-one (r .0) x (r .1) .below) (c .before .before .closure .ensures)
+
+sub-combine : tie.Need-sub-combine
+sub-combine c =
+    let a = c .before .before .before .before .before .before .before .args in
+    let r = c .before .before .before .before .before .before .before .pre in
+    fits-two (r .0) _ (binary-number (a .number) (a .set) (c .before .before .before .if2 .left) (sym (c .before .before .closes .ensures) ∙ c .before .if3 .left)) (r .1) .under
+
+combine-requires : tie.Need-combine-requires
+combine-requires c κs =
+    let a = c .before .before .before .before .before .before .before .args in
+    let r = c .before .before .before .before .before .before .before .pre in
+    let e = sym (c .before .before .closes .ensures) ∙ c .before .if3 .left in
+    let t = fits-two (r .0) _ (binary-number (a .number) (a .set) (c .before .before .before .if2 .left) e) (r .1) in
+    ((omega (arith, t .under), omega (arith, t .below, t .ends), r .0, t .next, t .top), (c .before .before .before .if2 .left, e))
+
+same-length-4 : tie.Need-same-length-4
+same-length-4 c = search needs
+
+returns-4 : tie.Need-returns-4
+returns-4 c =
+    let a = c .before .before .before .before .before .before .before .before .before .before .args in
+    let r = c .before .before .before .before .before .before .before .before .before .before .pre in
+    let k = binary-number (a .number) (a .set) (c .before .before .before .before .before .before .if2 .left) (sym (c .before .before .before .before .before .closes .ensures) ∙ c .before .before .before .before .if3 .left) in
+    let t = fits-two (r .0) _ k (r .1) in
+    applied-binary (r .0) (a .b) _ k (t .below) (t .under) (c .before .before .combine .ensures)
+
+pub apply-spec : {M : Type 1} → statement M
+apply-spec =
+    tie.close
+    (tie.spec
+    mul-z
+    step-requires
+    add-result
+    same-length
+    returns
+    step-requires-2
+    add-result-2
+    same-length-2
+    returns-2
+    sub-a
+    closes-requires
+    closure-requires
+    same-length-3
+    returns-3
+    sub-combine
+    combine-requires
+    same-length-4
+    returns-4)

@@ -1,0 +1,208 @@
+// The pairs of a path on a register's file, evaluated symbol by symbol on a stack of relations in the work words.
+use fields::Kind;
+use fields::Link;
+use register::Links;
+use register::NextLink;
+ghost use mathlib.Core.Path.{_≡_};
+ghost use mathlib.Core.Bool.{true, false, _||_};
+ghost use mathlib.Core.Option.{some};
+ghost use Prim.Native.Nat.{ℕ, _+_, _*_, _<_, _≤_};
+ghost use lib.ListN.{length};
+ghost use Rattle.theory.specs.KindSet.{has};
+ghost use Rattle.theory.specs.PathExpr.{PathExpr, any, through, s-join};
+ghost use Rattle.theory.specs.Postfix.{path-of};
+ghost use Rattle.theory.specs.Register.{edge, kind};
+ghost use Rattle.theory.specs.TransitiveClosure.{look, table};
+ghost use Rattle.theory.specs.Evaluation.{step?, passes?};
+ghost use Rattle.fields.specs.Symbols.{symbol-numbered};
+ghost use Rattle.register.specs.Form.{register-in};
+ghost use Rattle.rows.specs.Row.{row-bit, Row, mask-of};
+ghost use Rattle.relation.specs.Pairs.{pair-at, Made, Clean};
+ghost use Rattle.evaluation.specs.Ground.{Ground, direction, leads?, closes?, symbols-in, MakePath};
+ghost use Rattle.evaluation.specs.Stack.{binary?, Fits, Applied, Evaluated};
+
+fn wide(k: Kind) -> usize
+    ensures { λ r. ⌜ r ≡ k .0 ⌝ }
+{
+    k.0 as usize
+}
+
+// The mask becomes the records whose kind is in the set.
+pub fn kind_mask(mask: &mut [u64], register: &[u8], n: usize, w: usize, set: u64)
+    requires { ⌜ (w ≤ length (now mask)) × Ground (now register) n w ⌝ }
+    ensures { λ _. ⌜ Row 0 w (mask-of (λ t. has set (kind (register-in (now (register .entry))) t)) n) (now (mask .entry)) (now (mask .exit)) ⌝ }
+{
+    rows::clear(mask, 0, w);
+    for t in 0..n {
+        let b = bits::bit(set, wide(register::kind_at(register, t)));
+        rows::set_if(mask, t, b);
+    }
+}
+
+// The relation at b takes in the pair of one link, if that is named l.
+fn add_link(
+    work: &mut [u64],
+    b: usize,
+    n: usize,
+    w: usize,
+    from: usize,
+    label: Link,
+    to: usize,
+    l: Link,
+    forward: bool,
+)
+    requires { ⌜ (b + n * w ≤ length (now work)) × (n ≤ 64 * w) × (from < n) × (to < n) ⌝ }
+    ensures { λ _. ⌜ Made b n w (λ i j. pair-at (now (work .entry)) b w i j || leads? (direction forward) (l .0) (edge from (label .0) to) i j) (now (work .entry)) (now (work .exit)) ⌝ }
+{
+    if label.0 == l.0 {
+        if forward {
+            relation::set_pair(work, b, n, w, from, to);
+            return;
+        }
+        relation::set_pair(work, b, n, w, to, from);
+    }
+}
+
+// The relation at b takes in the pairs of a step, in one pass over the links.
+fn add_links(
+    work: &mut [u64],
+    b: usize,
+    n: usize,
+    w: usize,
+    register: &[u8],
+    l: Link,
+    forward: bool,
+)
+    requires { ⌜ (b + n * w ≤ length (now work)) × Ground (now register) n w ⌝ }
+    ensures { λ _. ⌜ Made b n w (λ i j. pair-at (now (work .entry)) b w i j || step? (register-in (now (register .entry))) (direction forward) (l .0) i j) (now (work .entry)) (now (work .exit)) ⌝ }
+{
+    let mut c = register::links_of(register);
+    loop {
+        match register::next_link(register, c) {
+            NextLink::Done => {
+                return;
+            }
+            NextLink::Link(from, label, to, rest) => {
+                add_link(work, b, n, w, from, label, to, l, forward);
+                c = rest;
+            }
+        }
+    }
+}
+
+// The relation at b becomes the pairs of a step.
+fn step(work: &mut [u64], b: usize, n: usize, w: usize, register: &[u8], l: Link, forward: bool)
+    requires { ⌜ (b + n * w ≤ length (now work)) × Ground (now register) n w ⌝ }
+    ensures { λ _. ⌜ Made b n w (step? (register-in (now (register .entry))) (direction forward) (l .0)) (now (work .entry)) (now (work .exit)) ⌝ }
+{
+    rows::clear(work, b, n * w);
+    add_links(work, b, n, w, register, l, forward);
+}
+
+// The relation at p becomes its plain join with the one at q.
+fn join(work: &mut [u64], p: usize, q: usize, n: usize, w: usize, register: &[u8])
+    requires { ⌜ (p + n * w ≤ q) × (q + n * w ≤ length (now work)) × Ground (now register) n w × Clean (now work) p n w ⌝ }
+    ensures { λ _. ⌜ Made p n w (binary? (register-in (now (register .entry))) (s-join any) (pair-at (now (work .entry)) p w) (pair-at (now (work .entry)) q w)) (now (work .entry)) (now (work .exit)) ⌝ }
+{
+    let mask = [18446744073709551615u64; 16];
+    relation::join(work, p, q, n, w, &mask);
+}
+
+// The relation at p becomes its join with the one at q through the records whose kind is in the set.
+fn join_through(work: &mut [u64], p: usize, q: usize, n: usize, w: usize, register: &[u8], set: u64)
+    requires { ⌜ (p + n * w ≤ q) × (q + n * w ≤ length (now work)) × Ground (now register) n w × Clean (now work) p n w ⌝ }
+    ensures { λ _. ⌜ Made p n w (binary? (register-in (now (register .entry))) (s-join (through set)) (pair-at (now (work .entry)) p w) (pair-at (now (work .entry)) q w)) (now (work .entry)) (now (work .exit)) ⌝ }
+{
+    let mut mask = [0u64; 16];
+    kind_mask(&mut mask, register, n, w, set);
+    relation::join(work, p, q, n, w, &mask);
+}
+
+// The relation at p becomes what an operator of two operands makes of it and the one at q.
+fn combine(
+    work: &mut [u64],
+    p: usize,
+    q: usize,
+    n: usize,
+    w: usize,
+    register: &[u8],
+    number: u8,
+    set: u64,
+)
+    requires { ⌜ (p + n * w ≤ q) × (q + n * w ≤ length (now work)) × Ground (now register) n w × Clean (now work) p n w × Clean (now work) q n w ⌝ }
+    requires { ⌜ (128 ≤ number) × (closes? number ≡ false) ⌝ }
+    ensures { λ _. ⌜ Made p n w (binary? (register-in (now (register .entry))) (symbol-numbered number set) (pair-at (now (work .entry)) p w) (pair-at (now (work .entry)) q w)) (now (work .entry)) (now (work .exit)) ⌝ }
+{
+    match number {
+        128 => join(work, p, q, n, w, register),
+        129 => relation::union(work, p, q, n, w),
+        130 => relation::intersection(work, p, q, n, w),
+        131 => relation::branch_right(work, p, q, n, w),
+        132 => relation::branch_left(work, p, q, n, w),
+        _ => join_through(work, p, q, n, w, register, set),
+    }
+}
+
+// The symbol is a closure.
+fn closes(number: u8) -> bool
+    ensures { λ r. ⌜ r ≡ closes? number ⌝ }
+{
+    if number == 255 {
+        return false;
+    }
+    133 <= number
+}
+
+// One symbol more. The stack ends at word b; where it ends after it.
+fn apply(
+    work: &mut [u64],
+    b: usize,
+    n: usize,
+    w: usize,
+    register: &[u8],
+    number: u8,
+    set: u64,
+) -> usize
+    requires { ⌜ Ground (now register) n w × Fits (register-in (now register)) (now work) n w b (symbol-numbered number set) ⌝ }
+    ensures { λ c. ⌜ Applied (register-in (now (register .entry))) n w b (symbol-numbered number set) c (now (work .entry)) (now (work .exit)) ⌝ }
+{
+    let z = n * w;
+    if number < 64 {
+        step(work, b, n, w, register, Link(number), true);
+        return b + z;
+    }
+    if number < 128 {
+        step(work, b, n, w, register, Link(number - 64), false);
+        return b + z;
+    }
+    let a = b - z;
+    if closes(number) {
+        relation::closure(work, a, n, w);
+        return b;
+    }
+    combine(work, a - z, a, n, w, register, number, set);
+    a
+}
+
+// The relation at 0 becomes the pairs of the path that the `count` symbols from the first on make.
+pub fn evaluate(
+    work: &mut [u64],
+    n: usize,
+    w: usize,
+    register: &[u8],
+    numbers: &[u8],
+    sets: &[u64],
+    first: usize,
+    count: usize,
+)
+    requires { ⌜ Ground (now register) n w × (24 * (n * w) ≤ length (now work)) × (first + count ≤ length (now numbers)) × (first + count ≤ length (now sets)) × (count ≤ 48) ⌝ }
+    requires { ⌜ MakePath (now numbers) (now sets) count first ⌝ }
+    ensures { λ _. ⌜ ((p : PathExpr) → path-of (symbols-in (now (numbers .entry)) (now (sets .entry)) count first) ≡ some p
+        → Evaluated (register-in (now (register .entry))) n w (now (work .entry)) (now (work .exit)) p) ⌝ }
+{
+    let mut b = 0;
+    for i in 0..count {
+        let k = first + i;
+        b = apply(work, b, n, w, register, numbers[k], sets[k]);
+    }
+}

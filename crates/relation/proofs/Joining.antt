@@ -1,0 +1,189 @@
+-- The join, row by row: a row takes in the rows that another row and the mask name, word by word, and bit by bit of a word.
+-- Assumes nothing.
+use mathlib.Core.Path.{_≡_, refl, sym, ap, ap₂, _∙_, subst}
+use mathlib.Core.Bool.{Bool, true, false, _&&_, _||_, or-false, or-assoc, false≢true}
+use mathlib.Core.List.{List}
+use mathlib.Core.Logic.{inr, ⊎-elim}
+use Prim.Native.Nat.{ℕ, _+_, _-_, _*_, _/_, _%_, _^_, _≤_, _<_}
+use native.Mathlib.Nat.{zero-add, add-assoc, not-le-of-lt}
+use native.Mathlib.Numerals.{add-one}
+use native.Mathlib.Omega.{arith}
+use lib.Bits.{bitAnd}
+use lib.ListN.{getD, replicate, getD-replicate}
+use lib.Pow.{shr-shr}
+use Rattle.bits.specs.Bit.{bitOf, Lowest}
+use Rattle.bits.proofs.Bits.{bit-zero, bit-shr, bit-high, bit-and}
+use Rattle.theory.specs.Lists.{some?, range}
+use Rattle.theory.specs.Evaluation.{join?}
+use Rattle.rows.specs.Row.{row-bit, Row}
+use Rattle.rows.proofs.Words.{le-or-lt}
+use Rattle.rows.proofs.Ranges.{some-suc, some-same, some-add, some-skip, some-cut}
+use Rattle.rows.proofs.Rows.{kept-bit, row-is, row-then, row-same}
+use Rattle.relation.specs.Pairs.{pair-at, Made, CleanRow, taken, taken-row}
+use Rattle.relation.proofs.Making.{row-le, made-more}
+
+-- t is reached through g + i, for a bit i of v; through z, which the row at d and the mask have
+abbrev by-bit : List ℕ → ℕ → ℕ → ℕ → ℕ → ℕ → ℕ → Bool
+by-bit xs q w g v t i = bitOf v i && pair-at xs q w (g + i) t
+
+abbrev by-row : List ℕ → List ℕ → ℕ → ℕ → ℕ → ℕ → ℕ → Bool
+by-row xs ms d q w t z = row-bit xs d z && (pair-at xs q w z t && row-bit ms 0 z)
+
+-- ---- the bits of one word v, which stand for the records from g on
+-- what a turn at the lowest bit k of the bits of v from p on knows
+pub record Turn (v g p k n w : ℕ) : Type 0 where
+  pub low : Lowest 64 (v / 2 ^ p) k
+  pub bit : p + k < 64
+  pub node : g + p + k < n
+  pub room : (g + p + k) * w + w ≤ n * w
+
+-- a bit that is set lies below the width
+bit-below : (w v i : ℕ) → v < 2 ^ w → bitOf v i ≡ true → i < w
+bit-below w v i h e = ⊎-elim (λ (l : w ≤ i). absurd (false≢true (sym (bit-high w v i h l) ∙ e))) (λ (l : i < w). l) (le-or-lt w i)
+
+pub turn : {v g y p k n : ℕ} (w : ℕ) → y ≡ v / 2 ^ p → Lowest 64 y k → v < 2 ^ 64 → ((i : ℕ) → bitOf v i ≡ true → g + i < n) → Turn v g p k n w
+turn {v} {g} {y} {p} {k} {n} w e l h c =
+    let m : Lowest 64 (v / 2 ^ p) k = subst (λ (x : ℕ). Lowest 64 x k) e l in
+    let b = sym (bit-shr v p k) ∙ m .here in
+    let z : g + p + k < n = omega (arith, c (p + k) b) in
+    record { low = m; bit = bit-below 64 v (p + k) h b; node = z; room = row-le w z }
+
+-- the bits that are left after it
+pub next-word : (v y p k : ℕ) → y ≡ v / 2 ^ p → y / 2 ^ k / 2 ≡ v / 2 ^ (p + k + 1)
+next-word v y p k e = rw e (ap (λ (x : ℕ). x / 2) (shr-shr v p k) ∙ shr-shr v (p + k) 1)
+
+pub word-none : (rs xs : List ℕ) (q w g v : ℕ) → Row 0 w (taken rs xs q w g v 0) rs rs
+unfolding taken
+word-none rs xs q w g v = row-is (row-same 0 w rs) (λ t h. sym (or-false (row-bit rs 0 t)))
+
+-- the row took in row g + p + k
+pub word-more : {rs ys zs : List ℕ} (xs : List ℕ) (q w g v p k : ℕ) → Row 0 w (taken rs xs q w g v p) rs ys → Lowest 64 (v / 2 ^ p) k
+    → Row 0 w (λ t. row-bit ys 0 t || pair-at xs q w (g + p + k) t) ys zs → Row 0 w (taken rs xs q w g v (p + k + 1)) rs zs
+unfolding taken
+word-more {rs} xs q w g v p k r l o =
+    row-is (row-then r o) (λ t h.
+    ap (λ (b : Bool). b || pair-at xs q w (g + p + k) t) (r .bit t h)
+    ∙ or-assoc (row-bit rs 0 t) (some? (by-bit xs q w g v t) (range p)) (pair-at xs q w (g + p + k) t)
+    ∙ ap (λ (b : Bool). row-bit rs 0 t || b) (sym (grown t)))
+  where
+    skipped : (t i : ℕ) → i < k → by-bit xs q w g v t (p + i) ≡ false
+    skipped t i h = ap (λ (b : Bool). b && pair-at xs q w (g + (p + i)) t) (sym (bit-shr v p i) ∙ l .below i h)
+
+    here : (t : ℕ) → by-bit xs q w g v t (p + k) ≡ pair-at xs q w (g + p + k) t
+    here t = ap (λ (b : Bool). b && pair-at xs q w (g + (p + k)) t) (sym (bit-shr v p k) ∙ l .here) ∙ ap (λ (z : ℕ). pair-at xs q w z t) (sym (add-assoc g p k))
+
+    grown : (t : ℕ) → some? (by-bit xs q w g v t) (range (p + k + 1)) ≡ some? (by-bit xs q w g v t) (range p) || pair-at xs q w (g + p + k) t
+    grown t =
+        ap (λ (m : ℕ). some? (by-bit xs q w g v t) (range m)) (add-one (p + k))
+        ∙ some-suc (by-bit xs q w g v t) (p + k)
+        ∙ ap₂ _||_ (some-skip (by-bit xs q w g v t) p k (skipped t)) (here t)
+
+-- no bit is left
+pub word-all : {rs ys : List ℕ} (xs : List ℕ) (q w g v p : ℕ) → Row 0 w (taken rs xs q w g v p) rs ys → v / 2 ^ p ≡ 0 → p ≤ 64 → Row 0 w (taken rs xs q w g v 64) rs ys
+unfolding taken
+word-all {rs} xs q w g v p r e h = row-is r (λ t l. ap (λ (b : Bool). row-bit rs 0 t || b) (sym (some-cut (by-bit xs q w g v t) p 64 h (none t))))
+  where
+    none : (t i : ℕ) → p ≤ i → i < 64 → by-bit xs q w g v t i ≡ false
+    none t i h l =
+        let s : p + (i - p) ≡ i = omega arith in
+        ap (λ (b : Bool). b && pair-at xs q w (g + i) t) (ap (bitOf v) (sym s) ∙ sym (bit-shr v p (i - p)) ∙ ap (λ (x : ℕ). bitOf x (i - p)) e ∙ bit-zero (i - p))
+
+-- ---- the words of the row at d, under the mask
+row-word : (xs : List ℕ) (r i j : ℕ) → j < 64 → row-bit xs r (64 * i + j) ≡ bitOf (getD xs (r + i) 0) j
+unfolding row-bit
+row-word xs r i j h =
+    let d : (64 * i + j) / 64 ≡ i = omega arith in
+    let m : (64 * i + j) % 64 ≡ j = omega arith in
+    rw (d, m)
+
+masked-word : (xs ms : List ℕ) (d i j : ℕ) → j < 64 → bitOf (bitAnd (getD xs (d + i) 0) (getD ms i 0)) j ≡ row-bit xs d (64 * i + j) && row-bit ms 0 (64 * i + j)
+masked-word xs ms d i j h =
+    bit-and (getD xs (d + i) 0) (getD ms i 0) j
+    ∙ ap₂ _&&_ (sym (row-word xs d i j h)) (ap (λ (k : ℕ). bitOf (getD ms k 0) j) (sym (zero-add i)) ∙ sym (row-word ms 0 i j h))
+
+and-left : (a b : Bool) → a && b ≡ true → a ≡ true
+and-left true b e = refl
+and-left false b e = e
+
+-- a bit of such a word stands for a record
+pub word-clean : (xs ms : List ℕ) (d n w i : ℕ) → CleanRow xs d n w → i < w → getD xs (d + i) 0 < 2 ^ 64 → (j : ℕ) → bitOf (bitAnd (getD xs (d + i) 0) (getD ms i 0)) j ≡ true → 64 * i + j < n
+word-clean xs ms d n w i c h l j e =
+    let b : bitOf (getD xs (d + i) 0) j ≡ true = and-left _ (bitOf (getD ms i 0) j) (sym (bit-and (getD xs (d + i) 0) (getD ms i 0) j) ∙ e) in
+    let k = bit-below 64 (getD xs (d + i) 0) j l b in
+    c (64 * i + j) (omega arith) (row-word xs d i j k ∙ b)
+
+pub words-none : (rs xs ms : List ℕ) (d q w : ℕ) → Row 0 w (taken-row rs xs ms d q w 0) rs rs
+unfolding taken-row
+words-none rs xs ms d q w = row-is (row-same 0 w rs) (λ t h. sym (or-false (row-bit rs 0 t)))
+
+mask-last : (a m x : Bool) → (a && m) && x ≡ a && (x && m)
+mask-last true true true = refl
+mask-last true true false = refl
+mask-last true false true = refl
+mask-last true false false = refl
+mask-last false m x = refl
+
+-- the row took in the rows that word i names
+pub words-more : {rs ys zs : List ℕ} (xs ms : List ℕ) (d q w i : ℕ) → Row 0 w (taken-row rs xs ms d q w (64 * i)) rs ys
+    → Row 0 w (taken ys xs q w (64 * i) (bitAnd (getD xs (d + i) 0) (getD ms i 0)) 64) ys zs → Row 0 w (taken-row rs xs ms d q w (64 * (i + 1))) rs zs
+unfolding taken taken-row
+words-more {rs} xs ms d q w i p b =
+    row-is (row-then p b) (λ t h.
+    ap (λ (x : Bool). x || some? (by-word t) (range 64)) (p .bit t h)
+    ∙ or-assoc (row-bit rs 0 t) (some? (by-row xs ms d q w t) (range (64 * i))) (some? (by-word t) (range 64))
+    ∙ ap (λ (x : Bool). row-bit rs 0 t || x) (sym (grown t)))
+  where
+    by-word : ℕ → ℕ → Bool
+    by-word t j = by-bit xs q w (64 * i) (bitAnd (getD xs (d + i) 0) (getD ms i 0)) t j
+
+    same : (t j : ℕ) → j < 64 → by-row xs ms d q w t (64 * i + j) ≡ by-word t j
+    same t j h =
+        sym (mask-last (row-bit xs d (64 * i + j)) (row-bit ms 0 (64 * i + j)) (pair-at xs q w (64 * i + j) t))
+        ∙ ap (λ (x : Bool). x && pair-at xs q w (64 * i + j) t) (sym (masked-word xs ms d i j h))
+
+    next : 64 * (i + 1) ≡ 64 * i + 64
+    next = omega arith
+
+    grown : (t : ℕ) → some? (by-row xs ms d q w t) (range (64 * (i + 1))) ≡ some? (by-row xs ms d q w t) (range (64 * i)) || some? (by-word t) (range 64)
+    grown t =
+        ap (λ (m : ℕ). some? (by-row xs ms d q w t) (range m)) next
+        ∙ some-add (by-row xs ms d q w t) (64 * i) 64
+        ∙ ap (λ (x : Bool). some? (by-row xs ms d q w t) (range (64 * i)) || x) (some-same (λ j. by-row xs ms d q w t (64 * i + j)) (by-word t) 64 (same t))
+
+-- ---- from zeros, and back into the row at d: a clean row has no bit of n or more
+row-blank : (m t : ℕ) → t / 64 < m → row-bit (replicate m 0) 0 t ≡ false
+unfolding row-bit
+row-blank m t h = ap (λ (x : ℕ). bitOf x (t % 64)) (getD-replicate m (0 + t / 64) 0 0 (omega arith)) ∙ bit-zero (t % 64)
+
+pub words-all : {rs xs ys : List ℕ} (ms : List ℕ) (m d q n w : ℕ) → Row 0 w (taken-row (replicate m 0) xs ms d q w (64 * w)) (replicate m 0) rs → Row d w (row-bit rs 0) xs ys
+    → w ≤ m → n ≤ 64 * w → CleanRow xs d n w → Row d w (λ t. some? (by-row xs ms d q w t) (range n)) xs ys
+unfolding taken-row
+words-all {xs = xs} ms m d q n w p r hm hn c =
+    row-is r (λ t h.
+    p .bit t h
+    ∙ ap (λ (b : Bool). b || some? (by-row xs ms d q w t) (range (64 * w))) (row-blank m t (omega arith))
+    ∙ some-cut (by-row xs ms d q w t) n (64 * w) hn (λ z l k. none t z l (omega arith)))
+  where
+    off : (a b : Bool) → (a ≡ true → ⊥) → a && b ≡ false
+    off true b f = absurd (f refl)
+    off false b f = refl
+
+    none : (t z : ℕ) → n ≤ z → z / 64 < w → by-row xs ms d q w t z ≡ false
+    none t z l h = off (row-bit xs d z) (pair-at xs q w z t && row-bit ms 0 z) (λ e. not-le-of-lt (c z h e) l)
+
+-- ---- the rows of the relation at p, one after another
+-- the next one is as it was, so clean
+pub join-clean : {xs ys : List ℕ} {s : ℕ} {f : ℕ → ℕ → Bool} (p n w : ℕ) → Made p s w f xs ys → CleanRow xs (p + s * w) n w → CleanRow ys (p + s * w) n w
+join-clean {s = s} p n w m c t h e = c t h (sym (kept-bit (p + s * w) w t (m .kept) (inr (omega arith)) h) ∙ e)
+
+pub join-more : {xs ys zs : List ℕ} {s : ℕ} (ms : List ℕ) (p q n w : ℕ) → Made p s w (join? n (row-bit ms 0) (pair-at xs p w) (pair-at xs q w)) xs ys
+    → Row (p + s * w) w (λ t. some? (by-row ys ms (p + s * w) q w t) (range n)) ys zs → s < n → n ≤ 64 * w → p + n * w ≤ q
+    → Made p (s + 1) w (join? n (row-bit ms 0) (pair-at xs p w) (pair-at xs q w)) xs zs
+join-more {xs} {ys} {zs} {s} ms p q n w m r hs hn a =
+    made-more m (row-is r (λ t h. some-same (by-row ys ms (p + s * w) q w t) (by-row xs ms (p + s * w) q w t) n (λ z l. ap₂ _&&_ (first z l) (ap (λ (b : Bool). b && row-bit ms 0 z) (second z t h)))))
+  where
+    first : (z : ℕ) → z < n → row-bit ys (p + s * w) z ≡ row-bit xs (p + s * w) z
+    first z l = kept-bit (p + s * w) w z (m .kept) (inr (omega arith)) (omega arith)
+
+    second : (z t : ℕ) → t / 64 < w → pair-at ys q w z t ≡ pair-at xs q w z t
+    second z t h = kept-bit (q + z * w) w t (m .kept) (inr (omega (arith, row-le w hs))) h

@@ -1,0 +1,39 @@
+-- `relation::branch_right` meets its contract.
+-- Assumes nothing.
+use Rattle.relation.proofs.Branches.{branched}
+use borrow.Author.Needs.{needs}
+use Rattle.relation.proofs.branch_right.Statement.{statement}
+use Rattle.relation.proofs.branch_right.Tie as tie
+use Rattle.relation.proofs.branch_right.Reads as reads
+use Rattle.relation.proofs.branch_right.Lts as lts
+use Rattle.relation.proofs.keep_targets.Reads as keep-targets-reads
+use Rattle.relation.proofs.sources.Reads as sources-reads
+
+slice-aggregate-sources : tie.Need-slice-aggregate-sources
+slice-aggregate-sources c = search needs
+
+sources-requires : tie.Need-sources-requires
+sources-requires c κs = search needs
+
+slice-aggregate-keep-targets : tie.Need-slice-aggregate-keep-targets
+slice-aggregate-keep-targets c = search needs
+
+keep-targets-requires : tie.Need-keep-targets-requires
+keep-targets-requires c κs = search needs
+
+same-length : tie.Need-same-length
+same-length c = search needs
+
+returns : tie.Need-returns
+returns c = branched (c .before .before .before .before .before .before .before .before .before .before .args .q) (c .before .before .before .before .before .before .before .before .before .before .pre .4) (c .before .before .before .before .before .before .sources .ensures) (c .before .before .keep-targets .ensures)
+
+pub branch-right-spec : {M : Type 1} → statement M
+branch-right-spec =
+    tie.close
+    (tie.spec
+    slice-aggregate-sources
+    sources-requires
+    slice-aggregate-keep-targets
+    keep-targets-requires
+    same-length
+    returns)

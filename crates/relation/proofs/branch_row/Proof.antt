@@ -1,0 +1,38 @@
+-- `relation::branch_row` meets its contract.
+-- Assumes nothing.
+use Rattle.relation.proofs.Branches.{branch-yes, branch-no}
+use mathlib.Core.Path.{sym, _∙_}
+use native.Mathlib.Omega.{arith}
+use borrow.Author.Needs.{needs}
+use Rattle.relation.proofs.branch_row.Statement.{statement}
+use Rattle.relation.proofs.branch_row.Tie as tie
+use Rattle.relation.proofs.branch_row.Reads as reads
+use Rattle.relation.proofs.branch_row.Lts as lts
+use Rattle.relation.proofs.copy_row.Reads as copy-row-reads
+use Rattle.rows.proofs.any.Reads as any-reads
+
+any-requires : tie.Need-any-requires
+any-requires c κs = search needs
+
+copy-row-requires : tie.Need-copy-row-requires
+copy-row-requires c κs = search needs
+
+same-length : tie.Need-same-length
+same-length c = search needs
+
+returns : tie.Need-returns
+returns c =
+    let a = c .before .before .before .before .before .before .before .before .args in
+    branch-yes _ (a .d) (a .s) (a .n) _ (c .before .before .before .before .before .before .before .before .pre .4) (omega arith) (sym (c .before .before .before .before .before .any .ensures) ∙ c .before .before .before .before .if1 .taken) (c .before .before .copy-row .ensures)
+
+same-length-2 : tie.Need-same-length-2
+same-length-2 c = search needs
+
+returns-2 : tie.Need-returns-2
+returns-2 c =
+    let a = c .before .before .before .before .args in
+    branch-no _ (a .d) (a .s) (a .n) _ (c .before .before .before .before .pre .4) (omega arith) (sym (c .before .any .ensures) ∙ c .if1 .left)
+
+pub branch-row-spec : {M : Type 1} → statement M
+branch-row-spec =
+    tie.close (tie.spec any-requires copy-row-requires same-length returns same-length-2 returns-2)

@@ -1,0 +1,40 @@
+-- `relation::intersection_row` meets its contract.
+-- Assumes nothing.
+use Rattle.relation.proofs.Combining.{row-copied}
+use mathlib.Core.Bool.{_&&_}
+use borrow.Author.Needs.{needs}
+use Rattle.relation.proofs.intersection_row.Statement.{statement}
+use Rattle.relation.proofs.intersection_row.Tie as tie
+use Rattle.relation.proofs.intersection_row.Reads as reads
+use Rattle.relation.proofs.intersection_row.Lts as lts
+use Rattle.rows.proofs.copy.Reads as copy-reads
+use Rattle.rows.proofs.restrict.Reads as restrict-reads
+
+slice-aggregate-copy : tie.Need-slice-aggregate-copy
+slice-aggregate-copy c = search needs
+
+copy-requires : tie.Need-copy-requires
+copy-requires c κs = search needs
+
+slice-aggregate-restrict : tie.Need-slice-aggregate-restrict
+slice-aggregate-restrict c = search needs
+
+restrict-requires : tie.Need-restrict-requires
+restrict-requires c κs = search needs
+
+same-length : tie.Need-same-length
+same-length c = search needs
+
+returns : tie.Need-returns
+returns c = row-copied _&&_ (c .before .before .before .before .before .before .before .before .before .before .args .s) (c .before .before .before .before .before .before .copy .ensures) (c .before .before .restrict .ensures)
+
+pub intersection-row-spec : {M : Type 1} → statement M
+intersection-row-spec =
+    tie.close
+    (tie.spec
+    slice-aggregate-copy
+    copy-requires
+    slice-aggregate-restrict
+    restrict-requires
+    same-length
+    returns)

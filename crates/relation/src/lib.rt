@@ -1,0 +1,230 @@
+// Relations on up to 1,024 records in words that are lent: n rows of w words, the relation at word b.
+// An operation of two relations leaves its result in the first one's place and changes no other word.
+ghost use mathlib.Core.Path.{_≡_};
+ghost use mathlib.Core.Bool.{true, _&&_, _||_};
+ghost use Prim.Native.Nat.{ℕ, _+_, _*_, _/_, _<_, _≤_};
+ghost use lib.Dec.{eqb};
+ghost use lib.ListN.{length};
+ghost use Rattle.bits.specs.Bit.{bitOf};
+ghost use Rattle.theory.specs.Lists.{some?, range};
+ghost use Rattle.theory.specs.TransitiveClosure.{look, closure?};
+ghost use Rattle.theory.specs.PathExpr.{union, conjunction, branch-right, branch-left};
+ghost use Rattle.theory.specs.Evaluation.{join?, op?};
+ghost use Rattle.rows.specs.Row.{row-bit, Row, mask-of};
+ghost use Rattle.relation.specs.Pairs.{pair-at, Made, Clean, CleanRow, taken, taken-row, through};
+
+// The relation at b has the pair (s, t) too.
+pub fn set_pair(work: &mut [u64], b: usize, n: usize, w: usize, s: usize, t: usize)
+    requires { ⌜ (b + n * w ≤ length (now work)) × (n ≤ 64 * w) × (s < n) × (t < n) ⌝ }
+    ensures { λ _. ⌜ Made b n w (λ i j. pair-at (now (work .entry)) b w i j || (eqb i s && eqb j t)) (now (work .entry)) (now (work .exit)) ⌝ }
+{
+    rows::set(work, b + s * w, t);
+}
+
+// The row takes in row g + i of the relation at q, for each bit i of v.
+fn take_word(row: &mut [u64], work: &[u64], q: usize, n: usize, w: usize, g: usize, v: u64)
+    requires { ⌜ (w ≤ length (now row)) × (q + n * w ≤ length (now work)) × ((i : ℕ) → bitOf v i ≡ true → g + i < n) ⌝ }
+    ensures { λ _. ⌜ Row 0 w (taken (now (row .entry)) (now (work .entry)) q w g v 64) (now (row .entry)) (now (row .exit)) ⌝ }
+{
+    let mut y = v;
+    let mut p = 0;
+    while y != 0 {
+        let k = bits::lowest(y);
+        let z = g + p + k;
+        rows::unite(row, 0, work, q + z * w, w);
+        p = p + k + 1;
+        y = (y >> k) >> 1;
+    }
+}
+
+// The row takes in row z of the relation at q, for each z that the row at d and the mask have.
+fn take_row(row: &mut [u64], work: &[u64], d: usize, q: usize, n: usize, w: usize, mask: &[u64])
+    requires { ⌜ (w ≤ length (now row)) × (d + w ≤ length (now work)) × (q + n * w ≤ length (now work)) × (w ≤ 16) × (w ≤ length (now mask)) × CleanRow (now work) d n w ⌝ }
+    ensures { λ _. ⌜ Row 0 w (taken-row (now (row .entry)) (now (work .entry)) (now (mask .entry)) d q w (64 * w)) (now (row .entry)) (now (row .exit)) ⌝ }
+{
+    for i in 0..w {
+        let v = work[d + i] & mask[i];
+        take_word(row, work, q, n, w, 64 * i, v);
+    }
+}
+
+// The row at d becomes the union of the rows z of the relation at q, for each z that the row at d and the mask have.
+fn join_row(work: &mut [u64], d: usize, q: usize, n: usize, w: usize, mask: &[u64])
+    requires { ⌜ (d + w ≤ q) × (q + n * w ≤ length (now work)) × (w ≤ 16) × (n ≤ 64 * w) × (w ≤ length (now mask)) × CleanRow (now work) d n w ⌝ }
+    ensures { λ _. ⌜ Row d w (λ t. some? (λ z. row-bit (now (work .entry)) d z && (pair-at (now (work .entry)) q w z t && row-bit (now (mask .entry)) 0 z)) (range n)) (now (work .entry)) (now (work .exit)) ⌝ }
+{
+    let mut row = [0u64; 16];
+    take_row(&mut row, work, d, q, n, w, mask);
+    rows::copy(work, d, &row, 0, w);
+}
+
+// The relation at p becomes its join with the one at q, through the records that the mask has.
+pub fn join(work: &mut [u64], p: usize, q: usize, n: usize, w: usize, mask: &[u64])
+    requires { ⌜ (p + n * w ≤ q) × (q + n * w ≤ length (now work)) × (w ≤ 16) × (n ≤ 64 * w) × (w ≤ length (now mask)) × Clean (now work) p n w ⌝ }
+    ensures { λ _. ⌜ Made p n w (join? n (row-bit (now (mask .entry)) 0) (pair-at (now (work .entry)) p w) (pair-at (now (work .entry)) q w)) (now (work .entry)) (now (work .exit)) ⌝ }
+{
+    for s in 0..n {
+        join_row(work, p + s * w, q, n, w, mask);
+    }
+}
+
+fn union_row(work: &mut [u64], d: usize, s: usize, w: usize)
+    requires { ⌜ (d + w ≤ s) × (s + w ≤ length (now work)) × (w ≤ 16) ⌝ }
+    ensures { λ _. ⌜ Row d w (λ t. row-bit (now (work .entry)) d t || row-bit (now (work .entry)) s t) (now (work .entry)) (now (work .exit)) ⌝ }
+{
+    let mut row = [0u64; 16];
+    rows::copy(&mut row, 0, work, s, w);
+    rows::unite(work, d, &row, 0, w);
+}
+
+// The relation at p takes in the pairs of the one at q.
+pub fn union(work: &mut [u64], p: usize, q: usize, n: usize, w: usize)
+    requires { ⌜ (p + n * w ≤ q) × (q + n * w ≤ length (now work)) × (w ≤ 16) ⌝ }
+    ensures { λ _. ⌜ Made p n w (op? n union (pair-at (now (work .entry)) p w) (pair-at (now (work .entry)) q w)) (now (work .entry)) (now (work .exit)) ⌝ }
+{
+    for s in 0..n {
+        union_row(work, p + s * w, q + s * w, w);
+    }
+}
+
+fn intersection_row(work: &mut [u64], d: usize, s: usize, w: usize)
+    requires { ⌜ (d + w ≤ s) × (s + w ≤ length (now work)) × (w ≤ 16) ⌝ }
+    ensures { λ _. ⌜ Row d w (λ t. row-bit (now (work .entry)) d t && row-bit (now (work .entry)) s t) (now (work .entry)) (now (work .exit)) ⌝ }
+{
+    let mut row = [0u64; 16];
+    rows::copy(&mut row, 0, work, s, w);
+    rows::restrict(work, d, &row, 0, w);
+}
+
+// The relation at p loses the pairs that the one at q lacks.
+pub fn intersection(work: &mut [u64], p: usize, q: usize, n: usize, w: usize)
+    requires { ⌜ (p + n * w ≤ q) × (q + n * w ≤ length (now work)) × (w ≤ 16) ⌝ }
+    ensures { λ _. ⌜ Made p n w (op? n conjunction (pair-at (now (work .entry)) p w) (pair-at (now (work .entry)) q w)) (now (work .entry)) (now (work .exit)) ⌝ }
+{
+    for s in 0..n {
+        intersection_row(work, p + s * w, q + s * w, w);
+    }
+}
+
+// The mask becomes the records from which a pair of the relation at q leads.
+fn sources(mask: &mut [u64], work: &[u64], q: usize, n: usize, w: usize)
+    requires { ⌜ (w ≤ length (now mask)) × (q + n * w ≤ length (now work)) × (n ≤ 64 * w) × Clean (now work) q n w ⌝ }
+    ensures { λ _. ⌜ Row 0 w (mask-of (λ t. some? (pair-at (now (work .entry)) q w t) (range n)) n) (now (mask .entry)) (now (mask .exit)) ⌝ }
+{
+    rows::clear(mask, 0, w);
+    for t in 0..n {
+        let b = rows::any(work, q + t * w, w);
+        rows::set_if(mask, t, b);
+    }
+}
+
+// The relation at b loses the pairs that lead to a record that the mask lacks.
+fn keep_targets(work: &mut [u64], b: usize, n: usize, w: usize, mask: &[u64])
+    requires { ⌜ (b + n * w ≤ length (now work)) × (w ≤ length (now mask)) ⌝ }
+    ensures { λ _. ⌜ Made b n w (λ s t. pair-at (now (work .entry)) b w s t && row-bit (now (mask .entry)) 0 t) (now (work .entry)) (now (work .exit)) ⌝ }
+{
+    for s in 0..n {
+        rows::restrict(work, b + s * w, mask, 0, w);
+    }
+}
+
+// The relation at p loses the pairs (s, t) where no pair of the one at q leads from t.
+pub fn branch_right(work: &mut [u64], p: usize, q: usize, n: usize, w: usize)
+    requires { ⌜ (p + n * w ≤ q) × (q + n * w ≤ length (now work)) × (w ≤ 16) × (n ≤ 64 * w) × Clean (now work) p n w × Clean (now work) q n w ⌝ }
+    ensures { λ _. ⌜ Made p n w (op? n branch-right (pair-at (now (work .entry)) p w) (pair-at (now (work .entry)) q w)) (now (work .entry)) (now (work .exit)) ⌝ }
+{
+    let mut mask = [0u64; 16];
+    sources(&mut mask, work, q, n, w);
+    keep_targets(work, p, n, w, &mask);
+}
+
+fn copy_row(work: &mut [u64], d: usize, s: usize, w: usize)
+    requires { ⌜ (d + w ≤ s) × (s + w ≤ length (now work)) × (w ≤ 16) ⌝ }
+    ensures { λ _. ⌜ Row d w (row-bit (now (work .entry)) s) (now (work .entry)) (now (work .exit)) ⌝ }
+{
+    let mut row = [0u64; 16];
+    rows::copy(&mut row, 0, work, s, w);
+    rows::copy(work, d, &row, 0, w);
+}
+
+// The row at d becomes the one at s, unless it is empty.
+fn branch_row(work: &mut [u64], d: usize, s: usize, n: usize, w: usize)
+    requires { ⌜ (d + w ≤ s) × (s + w ≤ length (now work)) × (w ≤ 16) × (n ≤ 64 * w) × CleanRow (now work) d n w ⌝ }
+    ensures { λ _. ⌜ Row d w (λ t. row-bit (now (work .entry)) s t && some? (row-bit (now (work .entry)) d) (range n)) (now (work .entry)) (now (work .exit)) ⌝ }
+{
+    if rows::any(work, d, w) {
+        copy_row(work, d, s, w);
+    }
+}
+
+// The relation at p becomes the pairs (s, t) of the one at q where some pair of its own led from s.
+pub fn branch_left(work: &mut [u64], p: usize, q: usize, n: usize, w: usize)
+    requires { ⌜ (p + n * w ≤ q) × (q + n * w ≤ length (now work)) × (w ≤ 16) × (n ≤ 64 * w) × Clean (now work) p n w ⌝ }
+    ensures { λ _. ⌜ Made p n w (op? n branch-left (pair-at (now (work .entry)) p w) (pair-at (now (work .entry)) q w)) (now (work .entry)) (now (work .exit)) ⌝ }
+{
+    for s in 0..n {
+        branch_row(work, p + s * w, q + s * w, n, w);
+    }
+}
+
+// Where the row at d has k, it takes in row k, which lies in `row`.
+fn close_row(work: &mut [u64], d: usize, w: usize, k: usize, row: &[u64])
+    requires { ⌜ (d + w ≤ length (now work)) × (w ≤ length (now row)) × (k / 64 < w) ⌝ }
+    ensures { λ _. ⌜ Row d w (λ t. row-bit (now (work .entry)) d t || (row-bit (now (work .entry)) d k && row-bit (now (row .entry)) 0 t)) (now (work .entry)) (now (work .exit)) ⌝ }
+{
+    if rows::has(work, d, k) {
+        rows::unite(work, d, row, 0, w);
+    }
+}
+
+fn close_rows(work: &mut [u64], b: usize, n: usize, w: usize, k: usize, row: &[u64])
+    requires { ⌜ (b + n * w ≤ length (now work)) × (n ≤ 64 * w) × (k < n) × (w ≤ length (now row)) ⌝ }
+    requires { ⌜ ((t : ℕ) → t / 64 < w → row-bit (now row) 0 t ≡ pair-at (now work) b w k t) ⌝ }
+    ensures { λ _. ⌜ Made b n w (through k (pair-at (now (work .entry)) b w)) (now (work .entry)) (now (work .exit)) ⌝ }
+{
+    for s in 0..n {
+        close_row(work, b + s * w, w, k, row);
+    }
+}
+
+// One round of Warshall's. Row k is copied first, so that no word of it lies where the round writes; an empty one adds nothing.
+fn close_through(work: &mut [u64], b: usize, n: usize, w: usize, k: usize)
+    requires { ⌜ (b + n * w ≤ length (now work)) × (n ≤ 64 * w) × (k < n) × (w ≤ 16) ⌝ }
+    ensures { λ _. ⌜ Made b n w (through k (pair-at (now (work .entry)) b w)) (now (work .entry)) (now (work .exit)) ⌝ }
+{
+    let mut row = [0u64; 16];
+    rows::copy(&mut row, 0, work, b + k * w, w);
+    if rows::any(&row, 0, w) {
+        close_rows(work, b, n, w, k, &row);
+    }
+}
+
+// The relation at b becomes its transitive closure.
+pub fn closure(work: &mut [u64], b: usize, n: usize, w: usize)
+    requires { ⌜ (b + n * w ≤ length (now work)) × (n ≤ 64 * w) × (w ≤ 16) × Clean (now work) b n w ⌝ }
+    ensures { λ _. ⌜ Made b n w (look (closure? n (pair-at (now (work .entry)) b w))) (now (work .entry)) (now (work .exit)) ⌝ }
+{
+    for k in 0..n {
+        close_through(work, b, n, w, k);
+    }
+}
+
+// Where the mask `from` has s, the row at d of the answer takes in those bits of the row at d of the work that the mask `to` has.
+fn add_row(answer: &mut [u64], work: &[u64], d: usize, w: usize, s: usize, from: &[u64], to: &[u64])
+    requires { ⌜ (d + w ≤ length (now answer)) × (d + w ≤ length (now work)) × (s / 64 < length (now from)) × (w ≤ length (now to)) ⌝ }
+    ensures { λ _. ⌜ Row d w (λ t. row-bit (now (answer .entry)) d t || (row-bit (now (work .entry)) d t && (row-bit (now (from .entry)) 0 s && row-bit (now (to .entry)) 0 t))) (now (answer .entry)) (now (answer .exit)) ⌝ }
+{
+    if rows::has(from, 0, s) {
+        rows::unite_masked(answer, d, work, d, to, w);
+    }
+}
+
+// The relation at the start of the answer takes in the pairs of the one at the start of the work whose ends the two masks have.
+pub fn add_between(answer: &mut [u64], work: &[u64], n: usize, w: usize, from: &[u64], to: &[u64])
+    requires { ⌜ (n * w ≤ length (now answer)) × (n * w ≤ length (now work)) × (n ≤ 64 * w) × (w ≤ length (now from)) × (w ≤ length (now to)) ⌝ }
+    ensures { λ _. ⌜ Made 0 n w (λ s t. pair-at (now (answer .entry)) 0 w s t || (pair-at (now (work .entry)) 0 w s t && (row-bit (now (from .entry)) 0 s && row-bit (now (to .entry)) 0 t))) (now (answer .entry)) (now (answer .exit)) ⌝ }
+{
+    for s in 0..n {
+        add_row(answer, work, s * w, w, s, from, to);
+    }
+}

@@ -9,11 +9,11 @@ use Rattle.theory.specs.Register.{Edge, Register, records, kind}
 use Rattle.theory.specs.Sheet.{Sheet, sheet?, link-permitted?, breach, or-else}
 use Rattle.fields.specs.declared.Refusal.{Refusal}
 use Rattle.fields.specs.declared.Source.the-variants as source
-use Rattle.fields.specs.Answer.{Answer, got, refused, onward}
+use Rattle.fields.specs.Answer.{got}
 use Rattle.fields.specs.Call.{accepts, refuses}
 use Rattle.fields.specs.Said.{number-of, place-of}
 use Rattle.fields.specs.Reading.{read}
-use Rattle.fields.proofs.Bools.{onward-got, not-refused}
+use Rattle.fields.proofs.Bools.{onward-got, told-refused}
 use Rattle.sheet.specs.declared.Outcome as sheet·Outcome
 use Rattle.sheet.specs.declared.Outcome.the-variants as sheet·outcome
 use Rattle.sheet.specs.Form.{sheet-form}
@@ -26,7 +26,8 @@ use Rattle.register.specs.declared.Outcome.the-variants as register·outcome
 use Rattle.register.specs.Form.{register-form, register-in}
 use Rattle.register.specs.Said.{outcome-said as register-said, sized as register-sizes}
 use Rattle.register.specs.Ahead.{Accepted}
-use Rattle.register.proofs.AcceptedRegister.{accepted-sizes, accepted-register, Limits}
+use Rattle.register.proofs.AcceptedRegister.{accepted-register, Limits}
+use Rattle.register.proofs.Told.{refused-file, accepted-file}
 use Rattle.conform.specs.declared.Failing.{Failing}
 use Rattle.conform.specs.declared.Failing.the-variants.{At, Nowhere}
 use Rattle.conform.specs.Check.{obeying, check-of}
@@ -49,19 +50,6 @@ breach-is S r ok l =
     (same-failing (link-tabled? (table-of (S .permitted)) r) (link-permitted? S r) (records r) (r .links)
     (λ (e : Edge) m. table-permits S ok (kind r (e .from)) (e .label) (kind r (e .to)) (l .kinds (e .from))))
 
--- an answer of whose value a part is told is refused where that is
-told-refused : {A B : Type 0} (f : A → B) (a : Answer A) (n p : ℕ) → refused n p ≡ onward (λ x. got (f x)) a → a ≡ refused n p
-told-refused f (got x) n p e = not-refused (f x) n p (sym e)
-told-refused f (refused m q) n p e = cc
-
--- the register's file is accepted
-module _ (g : List ℕ) (q : register·Outcome.Outcome) (z : register-said q ≡ register-sizes (read register-form g)) (n l : ℕ) (u : q ≡ register·outcome.Accepted n l) where
-  pub register-accepted : Accepted g
-  register-accepted = accepted-sizes g n l (sym (ap register-said u) ∙ z) .0
-
-  pub register-records : n ≡ records (register-in g)
-  register-records = sym (accepted-sizes g n l (sym (ap register-said u) ∙ z) .1)
-
 module _ (s g : List ℕ) (o : sheet·Outcome.Outcome) (t : List ℕ) (h : Reads (read sheet-form s) o t) where
   pub sheet-refused : (x : Refusal) → o ≡ sheet·outcome.Refused x → refuses source.Sheet (number-of x) (place-of x) ≡ check-of s g
   unfolding check-of
@@ -77,14 +65,14 @@ module _ (s g : List ℕ) (o : sheet·Outcome.Outcome) (t : List ℕ) (h : Reads
     pub register-refused : (x : Refusal) → q ≡ register·outcome.Refused x → refuses source.Register (number-of x) (place-of x) ≡ check-of s g
     unfolding check-of
     register-refused x u =
-        rw (sheet-accepted .1, told-refused _ (read register-form g) (number-of x) (place-of x) (sym (ap register-said u) ∙ z))
+        rw (sheet-accepted .1, refused-file g q z x u)
 
     module _ (n l : ℕ) (u : q ≡ register·outcome.Accepted n l) (f : Failing) (y : failing-said f ≡ first-breach k t (register-in g)) where
       obeyed : obeying (failing-said f) ≡ check-of s g
       unfolding check-of
       obeyed =
           let (S, a, b) = sheet-accepted in
-          let r = register-accepted g q z n l u in
+          let r = accepted-file g q z n l u in
           let i : t ≡ table-of (S .permitted) = h .table ∙ ap table-in a in
           let j = breach-is S (register-in g) (accepted-sheet s S a) (accepted-register g (register-in g) r) in
           rw (a, r, ← j, b, ← i) (ap obeying y)

@@ -1,9 +1,13 @@
 -- A register's file in rows: what is known of its sizes.
 -- Assumes nothing.
+use mathlib.Core.Path.{_≡_, sym}
 use mathlib.Core.List.{List}
 use Prim.Native.Nat.{ℕ, _*_, _≤_}
 use native.Mathlib.Nat.{mul-le-mul}
 use native.Mathlib.Omega.{arith}
+use Rattle.theory.specs.Register.{records}
+use Rattle.theory.specs.Words.{row-words}
+use Rattle.register.specs.Ahead.{Accepted}
 use Rattle.register.specs.Form.{register-in}
 use Rattle.register.proofs.AcceptedRegister.{Limits, accepted-register}
 use Rattle.evaluation.specs.Ground.{Ground}
@@ -23,3 +27,6 @@ module _ {s : List ℕ} {n w : ℕ} (g : Ground s n w) where
 
   pub small : n * w ≤ 16384
   small = omega (arith, mul-le-mul few narrow)
+
+pub stands : {s : List ℕ} {n w : ℕ} → Accepted s → records (register-in s) ≡ n → w ≡ row-words n → Ground s n w
+stands a c w = record { accepted = a; count = c; wide = sym w }

@@ -1,6 +1,6 @@
 -- Tests that came out one way, taken apart; and answers that were got.
 -- Assumes nothing.
-use mathlib.Core.Path.{_≡_, refl}
+use mathlib.Core.Path.{_≡_, refl, sym}
 use mathlib.Core.Bool.{Bool, true, false, cond, _&&_, false≢true}
 use Prim.Native.Nat.{ℕ}
 use native.Mathlib.Omega.{arith}
@@ -39,3 +39,8 @@ refused-too f g i j (refused n p) k e = cc
 
 pub not-refused : {A B : Type 0} (x : A) (i j : ℕ) → got x ≡ refused i j → B
 not-refused x i j e = let z : _≡_ {A = ℕ} 0 1 = cc in absurd (omega arith)
+
+-- an answer of whose value a part is told is refused where that is
+pub told-refused : {A B : Type 0} (f : A → B) (a : Answer A) (n p : ℕ) → refused n p ≡ onward (λ x. got (f x)) a → a ≡ refused n p
+told-refused f (got x) n p e = not-refused (f x) n p (sym e)
+told-refused f (refused m q) n p e = cc

@@ -17,7 +17,8 @@ use Rattle.narrowed.specs.Formed.{InOrder, WellFormed}
 use Rattle.narrowed.specs.Given.{members-given, given}
 use Rattle.narrowed.specs.Said.{Packed, sizes-of, from-of, to-of, numbers-of, sets-of}
 
-heads : (l : List ℕ) (k x : ℕ) (r : List ℕ) → drop k l ≡ x ∷ r → (getD l k 0 ≡ x) × (drop (suc k) l ≡ r)
+-- the next element of an array
+pub heads : (l : List ℕ) (k x : ℕ) (r : List ℕ) → drop k l ≡ x ∷ r → (getD l k 0 ≡ x) × (drop (suc k) l ≡ r)
 heads l k x r e =
     let i : k + 0 ≡ k = omega arith in
     let j : k + 1 ≡ suc k = omega arith in
@@ -27,7 +28,7 @@ symbol-back : (x : Numbered) → Fine x → symbol-given (x .number) (x .set) �
 symbol-back x (inl (h, z)) = simp (ne-eqb (x .number) 255 (omega arith)) (ap (numbered (x .number)) (sym z))
 symbol-back x (inr (e, h)) = simp (eq-eqb (x .number) 255 e)
 
-pub symbols-back : (ns ms : List ℕ) (xs : List Numbered) (q : Stack) (k : ℕ) (r r′ : List ℕ) → Runs q xs → drop k ns ≡ numbers xs ++ r → drop k ms ≡ set-numbers xs ++ r′
+symbols-back : (ns ms : List ℕ) (xs : List Numbered) (q : Stack) (k : ℕ) (r r′ : List ℕ) → Runs q xs → drop k ns ≡ numbers xs ++ r → drop k ms ≡ set-numbers xs ++ r′
     → symbols-given ns ms (length xs) k ≡ xs
 symbols-back ns ms [] q k r r′ u e e′ = refl
 symbols-back ns ms (x ∷ xs) q k r r′ u e e′ =

@@ -4,6 +4,7 @@ pub mod Sound
 pub mod Loop
 -- what an accepted file holds, and where
 pub mod AcceptedRegister
+pub mod Told
 pub mod Places
 pub mod Walk
 pub mod Cases

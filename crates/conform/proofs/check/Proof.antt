@@ -1,7 +1,8 @@
 -- `conform::check` meets its contract.
 -- Assumes nothing.
 use borrow.Author.Needs.{needs}
-use Rattle.conform.proofs.Checked.{sheet-refused, register-accepted, register-records, register-refused, breach-at, no-breach}
+use Rattle.conform.proofs.Checked.{sheet-refused, register-refused, breach-at, no-breach}
+use Rattle.register.proofs.Told.{accepted-file, accepted-records}
 use Rattle.conform.proofs.check.Statement.{statement}
 use Rattle.conform.proofs.check.Tie as tie
 
@@ -24,7 +25,7 @@ enum-known-n : tie.Need-enum-known-n
 enum-known-n c = search needs
 
 first-breach-requires : tie.Need-first-breach-requires
-first-breach-requires c κs = search (register-accepted, register-records)
+first-breach-requires c κs = search (accepted-file, accepted-records)
 
 enum-known-i : tie.Need-enum-known-i
 enum-known-i c = search needs

@@ -1,0 +1,110 @@
+-- The words of the areas: from pairs and kept words to lists.
+-- Assumes nothing.
+use mathlib.Core.Path.{_≡_, sym, ap, subst, _∙_}
+use mathlib.Core.Bool.{Bool, false, _&&_, _||_}
+use mathlib.Core.List.{List, _++_}
+use mathlib.Core.Logic.{⊎-elim}
+use Prim.Native.Nat.{ℕ, zero, suc, _+_, _-_, _*_, _/_, _%_, _^_, _<_, _≤_}
+use native.Mathlib.Nat.{suc-mul, zero-add}
+use native.Mathlib.Omega.{arith}
+use lib.Dec.{ltb}
+use lib.ListN.{length, getD, drop, replicate, length-replicate, getD-replicate, List·getD-append}
+use lib.Seq.{sets, length-sets, sets-eq, ext-getD, getD-append-add, getD-drop}
+use borrow.Author.Tests.{lt-ltb, le-ltb}
+use Rattle.bits.proofs.Bits.{bit-ext}
+use Rattle.theory.specs.Words.{row-words, answer-words}
+use Rattle.theory.proofs.Words.{words-length, word-fits, answer-bit}
+use Rattle.rows.specs.Kept.{Kept, Wrote}
+use Rattle.rows.specs.Row.{row-bit, Row}
+use Rattle.rows.proofs.Words.{kept-trans, le-or-lt}
+use Rattle.relation.specs.Pairs.{pair-at, Made}
+use Rattle.relation.proofs.Making.{row-le, made-clear}
+use Rattle.evaluation.specs.Stack.{Stored}
+
+-- a list whose first words are us, and that is xs past them
+pub written-over : (us xs ys : List ℕ) → Kept 0 (length us) xs ys → ((j : ℕ) → j < length us → getD ys j 0 ≡ getD us j 0) → length us ≤ length xs → ys ≡ sets xs 0 us
+written-over us xs ys k e l = ext-getD 0 ys (sets xs 0 us) (k .len ∙ sym (length-sets xs 0 us)) (λ i h. ⊎-elim (λ (m : length us ≤ i). past i m) (λ (m : i < length us). within i m) (le-or-lt (length us) i))
+  where
+    parts : sets xs 0 us ≡ us ++ drop (length us) xs
+    parts = sets-eq us xs 0 (omega arith) ∙ ap (λ (n : ℕ). us ++ drop n xs) (zero-add (length us))
+
+    within : (i : ℕ) → i < length us → getD ys i 0 ≡ getD (sets xs 0 us) i 0
+    within i h = e i h ∙ sym (ap (λ (l : List ℕ). getD l i 0) parts ∙ List·getD-append us (drop (length us) xs) 0 i h)
+
+    past : (i : ℕ) → length us ≤ i → getD ys i 0 ≡ getD (sets xs 0 us) i 0
+    past i h =
+        let z : length us + (i - length us) ≡ i = omega arith in
+        k .above i h
+        ∙ sym (ap (λ (l : List ℕ). getD l i 0) parts
+        ∙ ap (λ (n : ℕ). getD (us ++ drop (length us) xs) n 0) (sym z)
+        ∙ getD-append-add us (drop (length us) xs) (i - length us) 0
+        ∙ getD-drop (length us) xs (i - length us) 0
+        ∙ ap (λ (n : ℕ). getD xs n 0) z)
+
+-- the first n words were changed, and then cleared
+pub zero-words : {xs ys zs : List ℕ} (n : ℕ) → Kept 0 n xs ys → Wrote 0 n (λ j. 0) ys zs → n ≤ length xs → zs ≡ sets xs 0 (replicate n 0)
+zero-words {xs} {ys} {zs} n k c l =
+    let m : length {A = ℕ} (replicate n 0) ≡ n = length-replicate {A = ℕ} n 0 in
+    written-over (replicate n 0) xs zs
+    (subst (λ (i : ℕ). Kept 0 i xs zs) (sym m) (kept-trans k (c .kept) (omega arith) (omega arith) (omega arith) (omega arith)))
+    (λ j h. ap (λ (i : ℕ). getD zs i 0) (sym (zero-add j)) ∙ c .word j (omega arith) ∙ sym (getD-replicate n j 0 0 (omega arith)))
+    (omega arith)
+
+-- word j lies in row s
+record Place (n w j : ℕ) : Type 0 where
+  s : ℕ
+  m : ℕ
+  row : s < n
+  word : m < w
+  is : j ≡ s * w + m
+
+place : (n w j : ℕ) → j < n * w → Place n w j
+place zero w j h = absurd (omega arith)
+place (suc n) w j h = ⊎-elim (λ (l : n * w ≤ j). last l) (λ (l : j < n * w). before (place n w j l)) (le-or-lt (n * w) j)
+  where
+    last : n * w ≤ j → Place (suc n) w j
+    last l = record { s = n; m = j - n * w; row = omega arith; word = omega (arith, suc-mul n w); is = omega arith }
+
+    before : Place n w j → Place (suc n) w j
+    before p = record { s = p .s; m = p .m; row = omega (arith, p .row); word = p .word; is = p .is }
+
+-- the words of an answer are those that hold its pairs
+pub stored-words : {xs ys : List ℕ} (n : ℕ) (f : ℕ → ℕ → Bool) → Kept 0 (n * row-words n) xs ys → Stored ys 0 n (row-words n) f → ((s t : ℕ) → n ≤ t → f s t ≡ false)
+    → ((i : ℕ) → getD ys i 0 < 2 ^ 64) → n * row-words n ≤ length xs → ys ≡ sets xs 0 (answer-words n f)
+unfolding row-bit
+stored-words {xs} {ys} n f k h past fits l =
+    written-over (answer-words n f) xs ys (subst (λ (i : ℕ). Kept 0 i xs ys) (sym (words-length n f)) k) (λ j b. word j (omega (arith, words-length n f))) (omega (arith, words-length n f))
+  where
+    same : (s t : ℕ) → ltb t n && f s t ≡ f s t
+    same s t = ⊎-elim (λ (m : n ≤ t). rw (le-ltb t n m) (sym (past s t m))) (λ (m : t < n). rw (lt-ltb t n m)) (le-or-lt n t)
+
+    at-place : (s m : ℕ) → s < n → m < row-words n → getD ys (s * row-words n + m) 0 ≡ getD (answer-words n f) (s * row-words n + m) 0
+    at-place s m hs hm =
+        bit-ext 64 (getD ys (s * row-words n + m) 0) (getD (answer-words n f) (s * row-words n + m) 0) (fits _) (word-fits n f s m hs hm) (λ b hb.
+        let t = 64 * m + b in
+        let d : t / 64 ≡ m = omega arith in
+        let e : t % 64 ≡ b = omega arith in
+        let p = rw (d, e, zero-add (s * row-words n)) at (h .pair s t hs (omega arith)) in
+        let q = rw (d, e) at (answer-bit n f s t hs (omega arith)) in
+        p ∙ sym (same s t) ∙ sym q)
+
+    word : (j : ℕ) → j < n * row-words n → getD ys j 0 ≡ getD (answer-words n f) j 0
+    word j b = let p = place n (row-words n) j b in rw (p .is) (at-place (p .s) (p .m) (p .row) (p .word))
+
+-- ---- a relation copied as one row of all its words
+shift : (xs : List ℕ) (k t : ℕ) → row-bit xs (0 + k) t ≡ row-bit xs 0 (64 * k + t)
+unfolding row-bit
+shift xs k t =
+    let d : (64 * k + t) / 64 ≡ k + t / 64 = omega arith in
+    let e : (64 * k + t) % 64 ≡ t % 64 = omega arith in
+    rw (d, e, zero-add k, zero-add (k + t / 64))
+
+pub stored-copied : {ws xs ys : List ℕ} {n w : ℕ} {f : ℕ → ℕ → Bool} → Row 0 (n * w) (row-bit ws 0) xs ys → Stored ws 0 n w f → Stored ys 0 n w f
+stored-copied {ws} {xs} {ys} {n} {w} r h = record {
+  pair = λ s t hs ht.
+      shift ys (s * w) t ∙ r .bit (64 * (s * w) + t) (let e = row-le w hs in omega arith) ∙ sym (shift ws (s * w) t) ∙ h .pair s t hs ht;
+}
+
+-- a relation that was cleared, and then took in the pairs f
+pub stored-added : {xs ys zs : List ℕ} {n w : ℕ} (f : ℕ → ℕ → Bool) → Wrote 0 (n * w) (λ j. 0) xs ys → Made 0 n w (λ s t. pair-at ys 0 w s t || f s t) ys zs → Stored zs 0 n w f
+stored-added f c m = record { pair = λ s t hs ht. m .pair s t hs ht ∙ ap (λ (b : Bool). b || f s t) (made-clear c .pair s t hs ht) }

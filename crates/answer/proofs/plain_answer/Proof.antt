@@ -1,0 +1,74 @@
+-- `answer::plain_answer` meets its contract.
+-- Assumes nothing.
+use Rattle.answer.proofs.Whole.{plain-refused, plain-register, plain-accepted}
+use Rattle.answer.proofs.Files.{question-refused, question-accepted}
+use Rattle.register.proofs.Told.{refused-file, accepted-file, accepted-records}
+use mathlib.Core.Path.{sym}
+use borrow.Author.Needs.{needs}
+use Rattle.answer.proofs.plain_answer.Statement.{statement}
+use Rattle.answer.proofs.plain_answer.Tie as tie
+use Rattle.answer.proofs.plain_answer.Reads as reads
+use Rattle.answer.proofs.plain_answer.Lts as lts
+use Rattle.answer.proofs.plain_in.Reads as plain-in-reads
+use Rattle.question.proofs.read.Reads as read-reads
+use Rattle.register.proofs.read.Reads as read-reads′
+
+read-requires : tie.Need-read-requires
+read-requires c κs = search needs
+
+enum-known-outcome : tie.Need-enum-known-outcome
+enum-known-outcome c = search needs
+
+enum-known-outcome-2 : tie.Need-enum-known-outcome-2
+enum-known-outcome-2 c = search needs
+
+read-requires-2 : tie.Need-read-requires-2
+read-requires-2 c κs = search needs
+
+enum-known-r : tie.Need-enum-known-r
+enum-known-r c = search needs
+
+enum-known-n : tie.Need-enum-known-n
+enum-known-n c = search needs
+
+plain-in-requires : tie.Need-plain-in-requires
+plain-in-requires c κs =
+    let q = question-accepted _ _ _ (c .before .before .before .before .before .before .before .before .before .before .before .before .read .ensures) _ (c .before .before .before .before .before .before .before .before .before .before .outcome2 .given .1) .1 in
+    let e = c .before .before .before .before .before .before .n .given .1 in
+    (accepted-file _ _ (c .before .before .before .before .before .before .before .before .read2 .ensures) _ _ e, sym (accepted-records _ _ (c .before .before .before .before .before .before .before .before .read2 .ensures) _ _ e), q .few, q .full, q .makes)
+
+returns : tie.Need-returns
+returns c = plain-refused _ _ _ _ _ (question-refused _ _ _ (c .before .before .before .read .ensures) _ (c .before .outcome .given .1))
+
+returns-2 : tie.Need-returns-2
+returns-2 c =
+    let q = question-accepted _ _ _ (c .before .before .before .before .before .before .before .read .ensures) _ (c .before .before .before .before .before .outcome2 .given .1) in
+    plain-register _ _ _ _ (q .0) (q .1 .reads) _ (refused-file _ _ (c .before .before .before .read2 .ensures) _ (c .before .r .given .1))
+
+same-length : tie.Need-same-length
+same-length c = search needs
+
+same-length-2 : tie.Need-same-length-2
+same-length-2 c = search needs
+
+returns-3 : tie.Need-returns-3
+returns-3 c =
+    let q = question-accepted _ _ _ (c .before .before .before .before .before .before .before .before .before .before .before .before .before .before .before .before .before .read .ensures) _ (c .before .before .before .before .before .before .before .before .before .before .before .before .before .before .before .outcome2 .given .1) in
+    plain-accepted _ _ _ _ (q .0) (q .1 .reads) _ _ _ (accepted-file _ _ (c .before .before .before .before .before .before .before .before .before .before .before .before .before .read2 .ensures) _ _ (c .before .before .before .before .before .before .before .before .before .before .before .n .given .1)) _ (q .1 .symbols) (c .before .before .before .before .plain-in .ensures)
+
+pub plain-answer-spec : {M : Type 1} → statement M
+plain-answer-spec =
+    tie.close
+    (tie.spec
+    read-requires
+    enum-known-outcome
+    enum-known-outcome-2
+    read-requires-2
+    enum-known-r
+    enum-known-n
+    plain-in-requires
+    returns
+    returns-2
+    same-length
+    same-length-2
+    returns-3)

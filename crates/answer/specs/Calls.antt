@@ -1,0 +1,80 @@
+-- The plain and the narrowed answer: what each call yields, and what it leaves in the areas that are lent to it.
+-- 01-scope.md, "Refused on the state's account": the words of an answer, 14, 15, the order of refusals, the work words.
+-- Assumes nothing.
+use mathlib.Core.Bool.{Bool, false, cond}
+use mathlib.Core.List.{List, [], _∷_}
+use mathlib.Core.Option.{Option, none, some}
+use Prim.Native.Nat.{ℕ, _*_}
+use lib.Dec.{ltb}
+use lib.ListN.{length, replicate}
+use lib.Seq.{sets}
+use Rattle.theory.specs.PathExpr.{PathExpr}
+use Rattle.theory.specs.Postfix.{path-of}
+use Rattle.theory.specs.Register.{Register, records}
+use Rattle.theory.specs.Merging.{Member, member}
+use Rattle.theory.specs.Evaluation.{plain-answer, narrowed-answer}
+use Rattle.theory.specs.Words.{row-words, answer-words}
+use Rattle.fields.specs.declared.Source.{Source}
+use Rattle.fields.specs.declared.Source.the-variants as source
+use Rattle.fields.specs.Call.{Outcome, accepts, refuses, reading}
+use Rattle.fields.specs.Reading.{read}
+use Rattle.question.specs.Form.{question-form, question-symbols}
+use Rattle.register.specs.Form.{register-form}
+use Rattle.narrowed.specs.Form.{Flat, narrowed-form}
+use Rattle.narrowed.specs.Members.{flat-path}
+
+-- the outcome, and the lent areas after the call
+pub record Result : Type 0 where
+  pub outcome : Outcome (Unit {0})
+  pub work : List ℕ
+  pub answer : List ℕ
+
+abbrev pub result : Outcome (Unit {0}) → List ℕ → List ℕ → Result
+result o work answer = record { outcome = o; work = work; answer = answer }
+
+-- ---- the areas
+-- N × W words of an answer; 28 × N × W words of work
+abbrev pub answer-need : Register → ℕ
+answer-need r = records r * row-words (records r)
+
+abbrev pub work-need : Register → ℕ
+work-need r = 28 * answer-need r
+
+-- the first n words are 0
+abbrev pub zeroed : ℕ → List ℕ → List ℕ
+zeroed n xs = sets xs 0 (replicate n 0)
+
+-- 15, then 14, then the words of the pairs f
+unfoldable pub answered : Register → (ℕ → ℕ → Bool) → List ℕ → List ℕ → Result
+answered r f work answer =
+    cond (ltb (length work) (work-need r)) (result (refuses source.Work 15 (work-need r)) work answer)
+    (cond (ltb (length answer) (answer-need r)) (result (refuses source.Work 14 (answer-need r)) (zeroed (work-need r) work) answer)
+    (result (accepts tt) (zeroed (work-need r) work) (sets answer 0 (answer-words (records r) f))))
+
+-- ---- what was asked
+-- the pairs of a question's path; one that was read has one
+abbrev pub asked : Register → Option PathExpr → ℕ → ℕ → Bool
+asked r none s t = false
+asked r (some p) s t = plain-answer r p s t
+
+-- the members of a narrowed question with their paths; each that was read has one
+abbrev pub with-path : Flat → Option PathExpr → List Member → List Member
+with-path m none ms = ms
+with-path m (some p) ms = member (m .from) p (m .to) ∷ ms
+
+abbrev pub members-of : List Flat → List Member
+members-of [] = []
+members-of (m ∷ ms) = with-path m (flat-path m) (members-of ms)
+
+-- ---- the calls: the files' refusals leave the areas as they came
+unfoldable pub plain-call : List ℕ → List ℕ → List ℕ → List ℕ → Result
+plain-call question register work answer =
+    reading (read question-form question) (λ n p. result (refuses source.Question n p) work answer)
+    (λ cs. reading (read register-form register) (λ n p. result (refuses source.Register n p) work answer)
+    (λ r. answered r (asked r (path-of (question-symbols cs))) work answer))
+
+unfoldable pub narrowed-call : List ℕ → List ℕ → List ℕ → List ℕ → Result
+narrowed-call narrowed register work answer =
+    reading (read narrowed-form narrowed) (λ n p. result (refuses source.Narrowed n p) work answer)
+    (λ ms. reading (read register-form register) (λ n p. result (refuses source.Register n p) work answer)
+    (λ r. answered r (narrowed-answer r (members-of ms)) work answer))

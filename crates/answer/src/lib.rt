@@ -1,0 +1,242 @@
+// The plain answer and the narrowed answer: the pairs of a question on a register, as words in an area that is lent.
+use fields::Outcome;
+use fields::Refusal;
+use fields::Source;
+use narrowed::Members;
+ghost use mathlib.Core.Path.{_≡_};
+ghost use mathlib.Core.List.{map};
+ghost use mathlib.Core.Option.{some};
+ghost use Prim.Native.Nat.{ℕ, _+_, _*_, _<_, _≤_};
+ghost use lib.ListN.{length, replicate};
+ghost use Rattle.theory.specs.PathExpr.{PathExpr};
+ghost use Rattle.theory.specs.Postfix.{path-of};
+ghost use Rattle.theory.specs.Register.{records};
+ghost use Rattle.theory.specs.Merging.{member};
+ghost use Rattle.theory.specs.Evaluation.{plain-answer, narrowed-answer, member-answer};
+ghost use Rattle.theory.specs.Words.{row-words};
+ghost use Rattle.narrowed.specs.Given.{given};
+ghost use Rattle.register.specs.Form.{register-in};
+ghost use Rattle.register.specs.Ahead.{Accepted};
+ghost use Rattle.evaluation.specs.Ground.{Ground, symbols-in, MakePath};
+ghost use Rattle.answer.specs.Calls.{answered, asked, members-of, plain-call, narrowed-call};
+ghost use Rattle.answer.specs.Said.{Answers, Fills, Adds, Readable};
+
+// The words of a row of n records.
+fn row_words(n: usize) -> usize
+    requires { ⌜ n ≤ 1024 ⌝ }
+    ensures { λ w. ⌜ w ≡ row-words n ⌝ }
+{
+    (n + 63) / 64
+}
+
+// 14; or the pairs of the path of `count` codes, as the answer's words.
+fn plain_words(
+    codes: &[u8],
+    count: usize,
+    register: &[u8],
+    n: usize,
+    w: usize,
+    work: &mut [u64],
+    answer: &mut [u64],
+) -> Outcome
+    requires { ⌜ Ground (now register) n w × (28 * (n * w) ≤ length (now work)) × (count ≤ 32) × (length (now codes) ≡ 32) × MakePath (now codes) (replicate 32 0) count 0 ⌝ }
+    ensures { λ o. ⌜ Fills n w (asked (register-in (now (register .entry))) (path-of (symbols-in (now (codes .entry)) (replicate 32 0) count 0))) o
+        (now (work .entry)) (now (work .exit)) (now (answer .entry)) (now (answer .exit)) ⌝ }
+{
+    let need = n * w;
+    if answer.len() < need {
+        return Outcome::Refused(Source::Work, Refusal::AreaShort(need));
+    }
+    let sets = [0u64; 32];
+    evaluation::evaluate(work, n, w, register, codes, &sets, 0, count);
+    rows::copy(answer, 0, work, 0, need);
+    Outcome::Accepted
+}
+
+// 15; or what comes of it, after which the work words are zero.
+fn plain_in(
+    codes: &[u8],
+    count: usize,
+    register: &[u8],
+    n: usize,
+    work: &mut [u64],
+    answer: &mut [u64],
+) -> Outcome
+    requires { ⌜ Accepted (now register) × (records (register-in (now register)) ≡ n) × (count ≤ 32) × (length (now codes) ≡ 32) × MakePath (now codes) (replicate 32 0) count 0 ⌝ }
+    ensures { λ o. ⌜ Answers (answered (register-in (now (register .entry))) (asked (register-in (now (register .entry))) (path-of (symbols-in (now (codes .entry)) (replicate 32 0) count 0)))
+        (now (work .entry)) (now (answer .entry))) o (now (work .exit)) (now (answer .exit)) ⌝ }
+{
+    let w = row_words(n);
+    let need = 28 * (n * w);
+    if work.len() < need {
+        return Outcome::Refused(Source::Work, Refusal::WorkShort(need));
+    }
+    let o = plain_words(codes, count, register, n, w, work, answer);
+    rows::clear(work, 0, need);
+    o
+}
+
+// The pairs of a question on a register.
+pub fn plain_answer(
+    question: &[u8],
+    register: &[u8],
+    work: &mut [u64],
+    answer: &mut [u64],
+) -> Outcome
+    ensures { λ o. ⌜ Answers (plain-call (now (question .entry)) (now (register .entry)) (now (work .entry)) (now (answer .entry))) o (now (work .exit)) (now (answer .exit)) ⌝ }
+{
+    let q = question::read(question);
+    let outcome = q.outcome;
+    match outcome {
+        question::Outcome::Refused(r) => Outcome::Refused(Source::Question, r),
+        question::Outcome::Accepted(count) => match register::read(register) {
+            register::Outcome::Refused(r) => Outcome::Refused(Source::Register, r),
+            register::Outcome::Accepted(n, _) => plain_in(
+                &q.codes,
+                count,
+                register,
+                n,
+                work,
+                answer,
+            ),
+        },
+    }
+}
+
+// The answer takes in the pairs of a member whose `size` symbols begin with the first.
+fn add_member(
+    numbers: &[u8],
+    sets: &[u64],
+    first: usize,
+    size: usize,
+    from: u64,
+    to: u64,
+    register: &[u8],
+    n: usize,
+    w: usize,
+    work: &mut [u64],
+    answer: &mut [u64],
+)
+    requires { ⌜ Ground (now register) n w × (28 * (n * w) ≤ length (now work)) × (n * w ≤ length (now answer)) × (first + size ≤ length (now numbers)) × (first + size ≤ length (now sets)) × (size ≤ 48) ⌝ }
+    requires { ⌜ MakePath (now numbers) (now sets) size first ⌝ }
+    ensures { λ _. ⌜ ((p : PathExpr) → path-of (symbols-in (now (numbers .entry)) (now (sets .entry)) size first) ≡ some p
+        → Adds (register-in (now (register .entry))) n w (λ s t. member-answer (register-in (now (register .entry))) s t (member from p to))
+        (now (work .entry)) (now (work .exit)) (now (answer .entry)) (now (answer .exit))) ⌝ }
+{
+    evaluation::evaluate(work, n, w, register, numbers, sets, first, size);
+    let mut sources = [0u64; 16];
+    let mut targets = [0u64; 16];
+    evaluation::kind_mask(&mut sources, register, n, w, from);
+    evaluation::kind_mask(&mut targets, register, n, w, to);
+    relation::add_between(answer, work, n, w, &sources, &targets);
+}
+
+fn wide(x: u8) -> usize
+    ensures { λ r. ⌜ (r ≡ x) × (r < 256) ⌝ }
+{
+    x as usize
+}
+
+// The answer takes in the pairs of each member.
+fn add_members(
+    q: Members,
+    register: &[u8],
+    n: usize,
+    w: usize,
+    work: &mut [u64],
+    answer: &mut [u64],
+)
+    requires { ⌜ Readable q × Ground (now register) n w × (28 * (n * w) ≤ length (now work)) × (n * w ≤ length (now answer)) ⌝ }
+    ensures { λ _. ⌜ Adds (register-in (now (register .entry))) n w (narrowed-answer (register-in (now (register .entry))) (members-of (given q)))
+        (now (work .entry)) (now (work .exit)) (now (answer .entry)) (now (answer .exit)) ⌝ }
+{
+    let count = q.count;
+    let sizes = q.sizes;
+    let from = q.from;
+    let to = q.to;
+    let numbers = q.numbers;
+    let sets = q.sets;
+    let mut first = 0;
+    for i in 0..count {
+        let size = wide(sizes[i]);
+        add_member(
+            &numbers,
+            &sets,
+            first,
+            size,
+            from[i],
+            to[i],
+            register,
+            n,
+            w,
+            work,
+            answer,
+        );
+        first = first + size;
+    }
+}
+
+// 14; or the pairs of the members, as the answer's words.
+fn narrowed_words(
+    q: Members,
+    register: &[u8],
+    n: usize,
+    w: usize,
+    work: &mut [u64],
+    answer: &mut [u64],
+) -> Outcome
+    requires { ⌜ Readable q × Ground (now register) n w × (28 * (n * w) ≤ length (now work)) ⌝ }
+    ensures { λ o. ⌜ Fills n w (narrowed-answer (register-in (now (register .entry))) (members-of (given q))) o
+        (now (work .entry)) (now (work .exit)) (now (answer .entry)) (now (answer .exit)) ⌝ }
+{
+    let need = n * w;
+    if answer.len() < need {
+        return Outcome::Refused(Source::Work, Refusal::AreaShort(need));
+    }
+    rows::clear(answer, 0, need);
+    add_members(q, register, n, w, work, answer);
+    Outcome::Accepted
+}
+
+// 15; or what comes of it, after which the work words are zero.
+fn narrowed_in(
+    q: Members,
+    register: &[u8],
+    n: usize,
+    work: &mut [u64],
+    answer: &mut [u64],
+) -> Outcome
+    requires { ⌜ Readable q × Accepted (now register) × (records (register-in (now register)) ≡ n) ⌝ }
+    ensures { λ o. ⌜ Answers (answered (register-in (now (register .entry))) (narrowed-answer (register-in (now (register .entry))) (members-of (given q)))
+        (now (work .entry)) (now (answer .entry))) o (now (work .exit)) (now (answer .exit)) ⌝ }
+{
+    let w = row_words(n);
+    let need = 28 * (n * w);
+    if work.len() < need {
+        return Outcome::Refused(Source::Work, Refusal::WorkShort(need));
+    }
+    let o = narrowed_words(q, register, n, w, work, answer);
+    rows::clear(work, 0, need);
+    o
+}
+
+// The pairs of a narrowed question on a register.
+pub fn narrowed_answer(
+    narrowed: &[u8],
+    register: &[u8],
+    work: &mut [u64],
+    answer: &mut [u64],
+) -> Outcome
+    ensures { λ o. ⌜ Answers (narrowed-call (now (narrowed .entry)) (now (register .entry)) (now (work .entry)) (now (answer .entry))) o (now (work .exit)) (now (answer .exit)) ⌝ }
+{
+    let q = narrowed::read(narrowed);
+    let outcome = q.outcome;
+    let members = q.members;
+    match outcome {
+        narrowed::Outcome::Refused(r) => Outcome::Refused(Source::Narrowed, r),
+        narrowed::Outcome::Accepted(_) => match register::read(register) {
+            register::Outcome::Refused(r) => Outcome::Refused(Source::Register, r),
+            register::Outcome::Accepted(n, _) => narrowed_in(members, register, n, work, answer),
+        },
+    }
+}

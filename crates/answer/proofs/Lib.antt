@@ -8,3 +8,5 @@ pub mod Files
 -- the outcome
 pub mod Answered
 pub mod Whole
+-- what the answers mean
+pub mod Meaning

@@ -189,11 +189,11 @@ fn narrowed_words(
     ensures { λ o. ⌜ Fills n w (narrowed-answer (register-in (now (register .entry))) (members-of (given q))) o
         (now (work .entry)) (now (work .exit)) (now (answer .entry)) (now (answer .exit)) ⌝ }
 {
-    let need = n * w;
-    if answer.len() < need {
-        return Outcome::Refused(Source::Work, Refusal::AreaShort(need));
+    let room = n * w;
+    if answer.len() < room {
+        return Outcome::Refused(Source::Work, Refusal::AreaShort(room));
     }
-    rows::clear(answer, 0, need);
+    rows::clear(answer, 0, room);
     add_members(q, register, n, w, work, answer);
     Outcome::Accepted
 }
@@ -211,12 +211,12 @@ fn narrowed_in(
         (now (work .entry)) (now (answer .entry))) o (now (work .exit)) (now (answer .exit)) ⌝ }
 {
     let w = row_words(n);
-    let need = 28 * (n * w);
-    if work.len() < need {
-        return Outcome::Refused(Source::Work, Refusal::WorkShort(need));
+    let room = 28 * (n * w);
+    if work.len() < room {
+        return Outcome::Refused(Source::Work, Refusal::WorkShort(room));
     }
     let o = narrowed_words(q, register, n, w, work, answer);
-    rows::clear(work, 0, need);
+    rows::clear(work, 0, room);
     o
 }
 

@@ -16,11 +16,11 @@ use Rattle.rows.proofs.clear.Reads as clear-reads
 row-words-requires : tie.Need-row-words-requires
 row-words-requires c κs = let r = c .before .before .before .pre in omega (arith, r .2, accepted-register _ _ (r .1) .few-records)
 
-mul-need : tie.Need-mul-need
-mul-need c = let r = c .before .before .before .before .pre in omega (arith, small (stands (r .1) (r .2) (c .row-words .ensures)))
+mul-room : tie.Need-mul-room
+mul-room c = let r = c .before .before .before .before .pre in omega (arith, small (stands (r .1) (r .2) (c .row-words .ensures)))
 
-mul-need-2 : tie.Need-mul-need-2
-mul-need-2 c = let r = c .before .before .before .before .pre in omega (arith, small (stands (r .1) (r .2) (c .row-words .ensures)))
+mul-room-2 : tie.Need-mul-room-2
+mul-room-2 c = let r = c .before .before .before .before .pre in omega (arith, small (stands (r .1) (r .2) (c .row-words .ensures)))
 
 returns : tie.Need-returns
 returns c = let r = c .before .before .before .before .before .pre in answers-15 _ _ _ _ (r .2) (c .before .row-words .ensures) (c .if1 .taken)
@@ -45,8 +45,8 @@ narrowed-in-spec =
     tie.close
     (tie.spec
     row-words-requires
-    mul-need
-    mul-need-2
+    mul-room
+    mul-room-2
     returns
     narrowed-words-requires
     clear-requires

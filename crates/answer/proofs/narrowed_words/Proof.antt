@@ -11,8 +11,8 @@ use Rattle.answer.proofs.narrowed_words.Lts as lts
 use Rattle.answer.proofs.add_members.Reads as add-members-reads
 use Rattle.rows.proofs.clear.Reads as clear-reads
 
-mul-need : tie.Need-mul-need
-mul-need c = omega (arith, small (c .before .before .before .pre .1))
+mul-room : tie.Need-mul-room
+mul-room c = omega (arith, small (c .before .before .before .pre .1))
 
 returns : tie.Need-returns
 returns c = fills-short _ _ (c .if1 .taken)
@@ -36,7 +36,7 @@ pub narrowed-words-spec : {M : Type 1} → statement M
 narrowed-words-spec =
     tie.close
     (tie.spec
-    mul-need
+    mul-room
     returns
     clear-requires
     add-members-requires

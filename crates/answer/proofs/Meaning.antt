@@ -1,0 +1,111 @@
+-- The bits of an accepted answer are the pairs of the published meaning, and no others.
+-- Assumes nothing.
+use mathlib.Core.Path.{_≡_, refl, sym, ap, subst, _∙_}
+use mathlib.Core.Bool.{Bool, true, false, cond, _&&_}
+use mathlib.Core.List.{List, _++_}
+use mathlib.Core.Option.{some}
+use Prim.Native.Nat.{ℕ, _+_, _*_, _/_, _%_, _<_, _≤_}
+use native.Mathlib.Nat.{zero-add}
+use native.Mathlib.Omega.{arith}
+use lib.Dec.{T, ltb}
+use lib.ListN.{length, getD, drop, List·getD-append}
+use lib.Seq.{sets, sets-eq}
+use borrow.Author.Tests.{lt-ltb, ltb-false}
+use Rattle.bits.specs.Bit.{bitOf}
+use Rattle.theory.specs.PathExpr.{PathExpr}
+use Rattle.theory.specs.Postfix.{path-of}
+use Rattle.theory.specs.Register.{Register, records, well-formed?, Holds}
+use Rattle.theory.specs.Demand3.{Answer}
+use Rattle.theory.specs.Evaluation.{plain-answer, narrowed-answer}
+use Rattle.theory.specs.Words.{row-words, answer-words}
+use Rattle.theory.proofs.Tests.{and-right, and-both}
+use Rattle.theory.proofs.Evaluation.{holds-bounds, plain-right, narrowed-right}
+use Rattle.theory.proofs.Words.{words-length, answer-bit}
+use Rattle.fields.specs.Answer.{got}
+use Rattle.fields.specs.Call.{Outcome, accepts, refuses}
+use Rattle.fields.specs.declared.Source.the-variants as source
+use Rattle.fields.specs.Reading.{read}
+use Rattle.question.specs.Form.{question-form, question-symbols}
+use Rattle.register.specs.Form.{register-form}
+use Rattle.register.proofs.AcceptedRegister.{accepted-register}
+use Rattle.narrowed.specs.Form.{Flat, narrowed-form}
+use Rattle.relation.proofs.Making.{row-le}
+use Rattle.answer.specs.Calls.{result, answer-need, work-need, zeroed, answered, asked, members-of, plain-call, narrowed-call}
+
+-- bit t mod 64 of word s × W + t div 64
+abbrev pub bit-at : Register → List ℕ → ℕ → ℕ → Bool
+bit-at r ws s t = bitOf (getD ws (s * row-words (records r) + t / 64) 0) (t % 64)
+
+not-accepted : {A : Type 0} (n p : ℕ) → _≡_ {A = Outcome (Unit {0})} (refuses source.Work n p) (accepts tt) → A
+not-accepted n p e = let z : _≡_ {A = ℕ} 0 1 = cc in absurd (omega arith)
+
+-- the area's bit is that of the definition
+module _ (r : Register) (f : ℕ → ℕ → Bool) (work answer : List ℕ) (ok : answered r f work answer .outcome ≡ accepts tt) where
+  written : (answer-need r ≤ length answer) × (answered r f work answer .answer ≡ sets answer 0 (answer-words (records r) f))
+  unfolding answered
+  written = by-tests (ltb (length work) (work-need r)) (ltb (length answer) (answer-need r)) refl refl ok
+    where
+      by-tests : (a b : Bool) → ltb (length work) (work-need r) ≡ a → ltb (length answer) (answer-need r) ≡ b
+          → cond a (result (refuses source.Work 15 (work-need r)) work answer)
+          (cond b (result (refuses source.Work 14 (answer-need r)) (zeroed (work-need r) work) answer)
+          (result (accepts tt) (zeroed (work-need r) work) (sets answer 0 (answer-words (records r) f)))) .outcome ≡ accepts tt
+          → (answer-need r ≤ length answer)
+          × (cond (ltb (length work) (work-need r)) (result (refuses source.Work 15 (work-need r)) work answer)
+          (cond (ltb (length answer) (answer-need r)) (result (refuses source.Work 14 (answer-need r)) (zeroed (work-need r) work) answer)
+          (result (accepts tt) (zeroed (work-need r) work) (sets answer 0 (answer-words (records r) f)))) .answer ≡ sets answer 0 (answer-words (records r) f))
+      by-tests true b p q e = not-accepted 15 (work-need r) e
+      by-tests false true p q e = not-accepted 14 (answer-need r) e
+      by-tests false false p q e = (ltb-false (length answer) (answer-need r) q, rw (p, q))
+
+  pub bit-answered : (s t : ℕ) → s < records r → t / 64 < row-words (records r) → bit-at r (answered r f work answer .answer) s t ≡ ltb t (records r) && f s t
+  bit-answered s t h l =
+      let us = answer-words (records r) f in
+      let k = words-length (records r) f in
+      let i : s * row-words (records r) + t / 64 < length us = omega (arith, k, row-le (row-words (records r)) h) in
+      let room = written .0 in
+      let e : sets answer 0 us ≡ us ++ drop (length us) answer = sets-eq us answer 0 (omega (arith, k)) ∙ ap (λ (n : ℕ). us ++ drop n answer) (zero-add (length us)) in
+      ap (λ (ws : List ℕ). bit-at r ws s t) (written .1 ∙ e)
+      ∙ ap (λ (x : ℕ). bitOf x (t % 64)) (List·getD-append us (drop (length us) answer) 0 (s * row-words (records r) + t / 64) i)
+      ∙ answer-bit (records r) f s t h l
+
+module _ (q s work answer : List ℕ) (r : Register) (er : read register-form s ≡ got r) where
+  formed : T (well-formed? r)
+  formed = accepted-register s r er .formed
+
+  -- a plain answer
+  module _ (cs : List ℕ) (p : PathExpr) (eq : read question-form q ≡ got cs) (ep : path-of (question-symbols cs) ≡ some p) (ok : plain-call q s work answer .outcome ≡ accepts tt) where
+    same : plain-call q s work answer ≡ answered r (asked r (some p)) work answer
+    unfolding plain-call
+    same = rw (eq, er, ep)
+
+    bit : (i t : ℕ) → i < records r → t / 64 < row-words (records r) → bit-at r (plain-call q s work answer .answer) i t ≡ ltb t (records r) && plain-answer r p i t
+    bit i t h l = ap (λ x. bit-at r (x .answer) i t) same ∙ bit-answered r (asked r (some p)) work answer (sym (ap (λ x. x .outcome) same) ∙ ok) i t h l
+
+    pub plain-pairs : (i t : ℕ) → i < records r → t / 64 < row-words (records r)
+        → (T (bit-at r (plain-call q s work answer .answer) i t) → Holds r p i t) × (Holds r p i t → T (bit-at r (plain-call q s work answer .answer) i t))
+    plain-pairs i t h l = (
+      λ b. plain-right r formed p i t .0 (and-right (ltb t (records r)) (plain-answer r p i t) (subst T (bit i t h l) b)),
+      λ x. subst T (sym (bit i t h l)) (and-both (ltb t (records r)) (plain-answer r p i t) (subst T (sym (lt-ltb t (records r) (holds-bounds r formed p i t x .1))) tt) (plain-right r formed p i t .1 x)),
+    )
+
+  -- a narrowed answer
+  module _ (ms : List Flat) (eq : read narrowed-form q ≡ got ms) (ok : narrowed-call q s work answer .outcome ≡ accepts tt) where
+    same-narrowed : narrowed-call q s work answer ≡ answered r (narrowed-answer r (members-of ms)) work answer
+    unfolding narrowed-call
+    same-narrowed = rw (eq, er)
+
+    bit-narrowed : (i t : ℕ) → i < records r → t / 64 < row-words (records r)
+        → bit-at r (narrowed-call q s work answer .answer) i t ≡ ltb t (records r) && narrowed-answer r (members-of ms) i t
+    bit-narrowed i t h l =
+        ap (λ x. bit-at r (x .answer) i t) same-narrowed
+        ∙ bit-answered r (narrowed-answer r (members-of ms)) work answer (sym (ap (λ x. x .outcome) same-narrowed) ∙ ok) i t h l
+
+    pub narrowed-pairs : (i t : ℕ) → i < records r → t / 64 < row-words (records r)
+        → (T (bit-at r (narrowed-call q s work answer .answer) i t) → Answer r (members-of ms) i t)
+        × (Answer r (members-of ms) i t → T (bit-at r (narrowed-call q s work answer .answer) i t))
+    narrowed-pairs i t h l = (
+      λ b. narrowed-right r formed (members-of ms) i t .0 (and-right (ltb t (records r)) (narrowed-answer r (members-of ms) i t) (subst T (bit-narrowed i t h l) b)),
+      λ x. subst T (sym (bit-narrowed i t h l))
+          (and-both (ltb t (records r)) (narrowed-answer r (members-of ms) i t)
+          (subst T (sym (lt-ltb t (records r) (holds-bounds r formed (x .0 .path) i t (x .2 .holds) .1))) tt) (narrowed-right r formed (members-of ms) i t .1 x)),
+    )

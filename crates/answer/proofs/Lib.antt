@@ -10,3 +10,4 @@ pub mod Answered
 pub mod Whole
 -- what the answers mean
 pub mod Meaning
+pub mod TwoAnswers

@@ -57,16 +57,17 @@ module _ (r : Register) (f : ℕ → ℕ → Bool) (work answer : List ℕ) (ok 
       by-tests false true p q e = not-accepted 14 (answer-need r) e
       by-tests false false p q e = (ltb-false (length answer) (answer-need r) q, rw (p, q))
 
-  pub bit-answered : (s t : ℕ) → s < records r → t / 64 < row-words (records r) → bit-at r (answered r f work answer .answer) s t ≡ ltb t (records r) && f s t
-  bit-answered s t h l =
+  pub word-answered : (k : ℕ) → k < answer-need r → getD (answered r f work answer .answer) k 0 ≡ getD (answer-words (records r) f) k 0
+  word-answered k h =
       let us = answer-words (records r) f in
-      let k = words-length (records r) f in
-      let i : s * row-words (records r) + t / 64 < length us = omega (arith, k, row-le (row-words (records r)) h) in
+      let n = words-length (records r) f in
       let room = written .0 in
-      let e : sets answer 0 us ≡ us ++ drop (length us) answer = sets-eq us answer 0 (omega (arith, k)) ∙ ap (λ (n : ℕ). us ++ drop n answer) (zero-add (length us)) in
-      ap (λ (ws : List ℕ). bit-at r ws s t) (written .1 ∙ e)
-      ∙ ap (λ (x : ℕ). bitOf x (t % 64)) (List·getD-append us (drop (length us) answer) 0 (s * row-words (records r) + t / 64) i)
-      ∙ answer-bit (records r) f s t h l
+      let e : sets answer 0 us ≡ us ++ drop (length us) answer = sets-eq us answer 0 (omega (arith, n)) ∙ ap (λ (n : ℕ). us ++ drop n answer) (zero-add (length us)) in
+      ap (λ (ws : List ℕ). getD ws k 0) (written .1 ∙ e) ∙ List·getD-append us (drop (length us) answer) 0 k (omega (arith, n))
+
+  bit-answered : (s t : ℕ) → s < records r → t / 64 < row-words (records r) → bit-at r (answered r f work answer .answer) s t ≡ ltb t (records r) && f s t
+  bit-answered s t h l =
+      ap (λ (x : ℕ). bitOf x (t % 64)) (word-answered (s * row-words (records r) + t / 64) (omega (arith, row-le (row-words (records r)) h))) ∙ answer-bit (records r) f s t h l
 
 module _ (q s work answer : List ℕ) (r : Register) (er : read register-form s ≡ got r) where
   formed : T (well-formed? r)
@@ -74,7 +75,7 @@ module _ (q s work answer : List ℕ) (r : Register) (er : read register-form s 
 
   -- a plain answer
   module _ (cs : List ℕ) (p : PathExpr) (eq : read question-form q ≡ got cs) (ep : path-of (question-symbols cs) ≡ some p) (ok : plain-call q s work answer .outcome ≡ accepts tt) where
-    same : plain-call q s work answer ≡ answered r (asked r (some p)) work answer
+    pub same : plain-call q s work answer ≡ answered r (asked r (some p)) work answer
     unfolding plain-call
     same = rw (eq, er, ep)
 
@@ -90,7 +91,7 @@ module _ (q s work answer : List ℕ) (r : Register) (er : read register-form s 
 
   -- a narrowed answer
   module _ (ms : List Flat) (eq : read narrowed-form q ≡ got ms) (ok : narrowed-call q s work answer .outcome ≡ accepts tt) where
-    same-narrowed : narrowed-call q s work answer ≡ answered r (narrowed-answer r (members-of ms)) work answer
+    pub same-narrowed : narrowed-call q s work answer ≡ answered r (narrowed-answer r (members-of ms)) work answer
     unfolding narrowed-call
     same-narrowed = rw (eq, er)
 

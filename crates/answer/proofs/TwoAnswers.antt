@@ -1,7 +1,7 @@
 -- Demand 3 on a register's file: a plain answer of a question and a narrowed answer of the file of its members, neither refused.
 -- 01-scope.md, "How far a contract reaches", point 5.
 -- Assumes nothing.
-use mathlib.Core.Path.{_≡_, refl, sym, ap, ap₂, subst, _∙_}
+use mathlib.Core.Path.{_≡_, refl, sym, ap, subst, _∙_}
 use mathlib.Core.List.{List, [], _∷_, map, List·Memᴰ as In, List·Memᴰ·head as here, List·Memᴰ·tail as there}
 use mathlib.Core.Option.{Option, some}
 use Prim.Native.Nat.{ℕ, _<_}
@@ -24,11 +24,10 @@ use Rattle.fields.specs.Reading.{read}
 use Rattle.question.specs.Form.{question-form, question-symbols}
 use Rattle.register.specs.Form.{register-form}
 use Rattle.register.proofs.AcceptedRegister.{accepted-register}
-use Rattle.narrowed.specs.Form.{narrowed-form}
 use Rattle.narrowed.specs.Members.{flat-of, narrowed-file}
 use Rattle.narrowed.proofs.Formed.{narrowed-back}
 use Rattle.narrowed.proofs.Paths.{path-back}
-use Rattle.answer.specs.Calls.{answer-need, answered, asked, with-path, members-of, plain-call, narrowed-call}
+use Rattle.answer.specs.Calls.{answer-need, answered, with-path, members-of, plain-call, narrowed-call}
 use Rattle.answer.proofs.Meaning.{word-answered, same, same-narrowed}
 
 -- the members come back from their file

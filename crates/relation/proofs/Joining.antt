@@ -3,9 +3,9 @@
 use mathlib.Core.Path.{_≡_, refl, sym, ap, ap₂, _∙_, subst}
 use mathlib.Core.Bool.{Bool, true, false, _&&_, _||_, or-false, or-assoc, false≢true}
 use mathlib.Core.List.{List}
-use mathlib.Core.Logic.{inr, ⊎-elim}
+use mathlib.Core.Logic.{⊎-elim}
 use Prim.Native.Nat.{ℕ, _+_, _-_, _*_, _/_, _%_, _^_, _≤_, _<_}
-use native.Mathlib.Nat.{zero-add, add-assoc, not-le-of-lt}
+use native.Mathlib.Nat.{zero-add, add-assoc}
 use native.Mathlib.Numerals.{add-one}
 use native.Mathlib.Omega.{arith}
 use lib.Bits.{bitAnd}
@@ -18,8 +18,10 @@ use Rattle.theory.specs.Evaluation.{join?}
 use Rattle.rows.specs.Row.{row-bit, Row}
 use Rattle.rows.proofs.Words.{le-or-lt}
 use Rattle.rows.proofs.Ranges.{some-suc, some-same, some-add, some-skip, some-cut}
-use Rattle.rows.proofs.Rows.{kept-bit, row-is, row-then, row-same}
+use Rattle.rows.proofs.Rows.{row-is, row-then, row-same}
 use Rattle.relation.specs.Pairs.{pair-at, Made, CleanRow, taken, taken-row}
+use Rattle.relation.proofs.Combining.{row-ahead}
+use Rattle.relation.proofs.Clean.{clean-past}
 use Rattle.relation.proofs.Making.{row-le, made-more}
 
 -- t is reached through g + i, for a bit i of v; through z, which the row at d and the mask have
@@ -164,18 +166,10 @@ words-all {xs = xs} ms m d q n w p r hm hn c =
     ∙ ap (λ (b : Bool). b || some? (by-row xs ms d q w t) (range (64 * w))) (row-blank m t (omega arith))
     ∙ some-cut (by-row xs ms d q w t) n (64 * w) hn (λ z l k. none t z l (omega arith)))
   where
-    off : (a b : Bool) → (a ≡ true → ⊥) → a && b ≡ false
-    off true b f = absurd (f refl)
-    off false b f = refl
-
     none : (t z : ℕ) → n ≤ z → z / 64 < w → by-row xs ms d q w t z ≡ false
-    none t z l h = off (row-bit xs d z) (pair-at xs q w z t && row-bit ms 0 z) (λ e. not-le-of-lt (c z h e) l)
+    none t z l h = ap (λ (b : Bool). b && (pair-at xs q w z t && row-bit ms 0 z)) (clean-past xs d n w z c h l)
 
 -- ---- the rows of the relation at p, one after another
--- the next one is as it was, so clean
-pub join-clean : {xs ys : List ℕ} {s : ℕ} {f : ℕ → ℕ → Bool} (p n w : ℕ) → Made p s w f xs ys → CleanRow xs (p + s * w) n w → CleanRow ys (p + s * w) n w
-join-clean {s = s} p n w m c t h e = c t h (sym (kept-bit (p + s * w) w t (m .kept) (inr (omega arith)) h) ∙ e)
-
 pub join-more : {xs ys zs : List ℕ} {s : ℕ} (ms : List ℕ) (p q n w : ℕ) → Made p s w (join? n (row-bit ms 0) (pair-at xs p w) (pair-at xs q w)) xs ys
     → Row (p + s * w) w (λ t. some? (by-row ys ms (p + s * w) q w t) (range n)) ys zs → s < n → n ≤ 64 * w → p + n * w ≤ q
     → Made p (s + 1) w (join? n (row-bit ms 0) (pair-at xs p w) (pair-at xs q w)) xs zs
@@ -183,7 +177,7 @@ join-more {xs} {ys} {zs} {s} ms p q n w m r hs hn a =
     made-more m (row-is r (λ t h. some-same (by-row ys ms (p + s * w) q w t) (by-row xs ms (p + s * w) q w t) n (λ z l. ap₂ _&&_ (first z l) (ap (λ (b : Bool). b && row-bit ms 0 z) (second z t h)))))
   where
     first : (z : ℕ) → z < n → row-bit ys (p + s * w) z ≡ row-bit xs (p + s * w) z
-    first z l = kept-bit (p + s * w) w z (m .kept) (inr (omega arith)) (omega arith)
+    first z l = row-ahead (p + s * w) z m (omega arith) (omega arith)
 
     second : (z t : ℕ) → t / 64 < w → pair-at ys q w z t ≡ pair-at xs q w z t
-    second z t h = kept-bit (q + z * w) w t (m .kept) (inr (omega (arith, row-le w hs))) h
+    second z t h = row-ahead (q + z * w) t m (omega (arith, row-le w hs)) h

@@ -1,13 +1,14 @@
 -- relations made row by row
 pub mod Making
+-- rows combined with other rows
+pub mod Combining
 -- rows with no bit of n or more
 pub mod Clean
 -- one pair more
 pub mod Pair
 -- joins
 pub mod Joining
--- rows combined with other rows
-pub mod Combining
+-- branches
 pub mod Branches
 -- the transitive closure
 pub mod Closing

@@ -14,7 +14,7 @@ use Rattle.theory.proofs.Lists.{some-in, in-some}
 
 module _ {A : Type 0} where
   module _ (eq : A → A → Bool) where
-    in-adjoin : {x y : A} (xs : List A) → In y (adjoin eq xs x) → In y xs ⊎ (y ≡ x)
+    pub in-adjoin : {x y : A} (xs : List A) → In y (adjoin eq xs x) → In y xs ⊎ (y ≡ x)
     unfolding adjoin
     in-adjoin {x} {y} xs m =
         cond-case (λ zs. In y zs → In y xs ⊎ (y ≡ x)) (some? (eq x) xs) (λ _ n. inl n)

@@ -11,6 +11,7 @@ pub mod Triples
 pub mod Reach
 pub mod Walks
 pub mod ClosureRule
+pub mod Growth
 pub mod Inside
 pub mod Inference
 -- the meaning of a question and of its triples

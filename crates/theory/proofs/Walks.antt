@@ -38,7 +38,7 @@ module _ (fs : List Triple) where
       go (inl e) rest = (t, subst (λ x. In t (level fs x)) (sym e) m)
       go (inr l) rest = rest (omega arith)
 
-  walks-in : (n i j : ℕ) → j ≤ n → {t : Triple} → In t (level fs (j + i)) → In t (walks n (level fs i) fs)
+  pub walks-in : (n i j : ℕ) → j ≤ n → {t : Triple} → In t (level fs (j + i)) → In t (walks n (level fs i) fs)
   walks-in zero i j h {t} m = let e : j + i ≡ i = omega arith in subst (λ x. In t (level fs x)) e m
   walks-in (suc n) i zero h {t} m = in-left (walks n (level fs (suc i)) fs) (subst (λ x. In t (level fs x)) (zero-add i) m)
   walks-in (suc n) i (suc j) h {t} m =

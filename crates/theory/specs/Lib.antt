@@ -10,6 +10,7 @@ pub mod Register
 pub mod Sheet
 pub mod Derivation
 pub mod Inference
+pub mod Growth
 -- narrowing and answers
 pub mod Merging
 pub mod Narrowing

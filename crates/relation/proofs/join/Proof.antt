@@ -6,7 +6,8 @@ use borrow.Author.Needs.{needs}
 use Rattle.theory.specs.Evaluation.{join?}
 use Rattle.rows.specs.Row.{row-bit}
 use Rattle.relation.specs.Pairs.{pair-at, Made}
-use Rattle.relation.proofs.Joining.{join-clean, join-more}
+use Rattle.relation.proofs.Joining.{join-more}
+use Rattle.relation.proofs.Clean.{clean-ahead}
 use Rattle.relation.proofs.Making.{row-le, made-none, made-all}
 use Rattle.relation.proofs.join.Statement.{statement}
 use Rattle.relation.proofs.join.Tie as tie
@@ -34,7 +35,7 @@ join-row-requires c κs =
     let m = c .before .before .loop .inv .1 in
     let e = row-le (a .w) h in
     let k = m .kept .len in
-    (omega arith, omega arith, omega arith, omega arith, omega arith, join-clean (a .p) (a .n) (a .w) m (s .pre .5 (c .before .before .loop .s) h))
+    (omega arith, omega arith, omega arith, omega arith, omega arith, clean-ahead _ _ m (omega arith) (s .pre .5 (c .before .before .loop .s) h))
 
 add-s : tie.Need-add-s Inv-loop μ-loop
 add-s c = search needs

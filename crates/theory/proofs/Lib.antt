@@ -23,6 +23,7 @@ pub mod Evaluation
 pub mod Postfix
 pub mod Merging
 pub mod Order
+pub mod Sorting
 pub mod First
 pub mod Conformance
 pub mod Refusals

@@ -15,6 +15,10 @@ use Rattle.theory.proofs.Tests.{of-decided, cond-case}
 use Rattle.theory.proofs.KindSet.{singleton-has, has-union-left, has-union-right, has-union}
 use Rattle.theory.proofs.TransitiveClosure.{closure-map}
 
+-- constructors that differ are never equal
+pub apart : {A : Type 0} → _≡_ {A = ℕ} 0 1 → A
+apart e = absurd (omega arith)
+
 pub same-shape : (p q : PathExpr) → T (same-shape? p q) → erase p ≡ erase q
 unfolding same-shape? same?
 same-shape p q t = of-decided (path-discrete (erase p) (erase q)) t
@@ -71,10 +75,6 @@ module _ (r : Register) where
   merge-left (closure p) (join w p′ q′) s t h = h
   merge-left (closure p) (op o′ p′ q′) s t h = h
   merge-left (closure p) (closure p′) s t h = closure-map (merge-left p p′) h
-
-  -- constructors that differ are never equal
-  apart : {A : Type 0} → _≡_ {A = ℕ} 0 1 → A
-  apart e = absurd (omega arith)
 
   pub merge-right : (p q : PathExpr) → erase p ≡ erase q → Within q (merge p q)
   merge-right (step d l) (step d′ l′) e s t h = subst (λ x. Holds r x s t) (sym e) h

@@ -60,7 +60,7 @@ abbrev decode : List ℕ → List PathExpr → List PathExpr
 decode [] st = st
 decode (c ∷ cs) st = decode cs (act c st)
 
-to-false : (b : Bool) → T (not b) → b ≡ false
+pub to-false : (b : Bool) → T (not b) → b ≡ false
 to-false true t = absurd t
 to-false false t = refl
 
@@ -131,7 +131,7 @@ before-head x y xs ys h = or-left (ltb x y) (eqb x y && before? xs ys) (lt→ltb
 before-tail : (x y : ℕ) (xs ys : List ℕ) → x ≡ y → T (before? xs ys) → T (before? (x ∷ xs) (y ∷ ys))
 before-tail x y xs ys e t = or-right (ltb x y) (eqb x y && before? xs ys) (and-both (eqb x y) (before? xs ys) (eq→eqb x y e) t)
 
-before-cases : (x y : ℕ) (xs ys : List ℕ) → T (before? (x ∷ xs) (y ∷ ys)) → (x < y) ⊎ ((x ≡ y) × T (before? xs ys))
+pub before-cases : (x y : ℕ) (xs ys : List ℕ) → T (before? (x ∷ xs) (y ∷ ys)) → (x < y) ⊎ ((x ≡ y) × T (before? xs ys))
 before-cases x y xs ys t =
     elim (or-cases (ltb x y) (eqb x y && before? xs ys) t)
     [ inl u ↦ inl (ltb→lt x y u) | inr u ↦ inr (eqb→eq x y (and-left (eqb x y) (before? xs ys) u), and-right (eqb x y) (before? xs ys) u) ]
@@ -177,7 +177,7 @@ links-erase n (join v p q) = ap₂ (λ x y. x && y) (links-erase n p) (links-era
 links-erase n (op o p q) = ap₂ (λ x y. x && y) (links-erase n p) (links-erase n q)
 links-erase n (closure p) = links-erase n p
 
-codes-merge : (p q : PathExpr) → codes (merge p q) ≡ codes p
+pub codes-merge : (p q : PathExpr) → codes (merge p q) ≡ codes p
 codes-merge p q = sym (codes-erase (merge p q)) ∙ ap codes (merge-erase p q) ∙ codes-erase p
 
 links-merge : (n : ℕ) (p q : PathExpr) → links? n (merge p q) ≡ links? n p
@@ -186,7 +186,7 @@ links-merge n p q = sym (links-erase n (merge p q)) ∙ ap (links? n) (merge-era
 abbrev pub Linked : Member → Type 0
 Linked m = T (links? 64 (m .path))
 
-merged-linked : (m n : Member) → Linked m → Linked n → Linked (merged m n)
+pub merged-linked : (m n : Member) → Linked m → Linked n → Linked (merged m n)
 merged-linked m n h k = subst T (sym (links-merge 64 (m .path) (n .path))) h
 
 -- paths that are not alike have different codes

@@ -13,6 +13,7 @@ pub mod Inference
 pub mod Growth
 -- narrowing and answers
 pub mod Merging
+pub mod Sorting
 pub mod Narrowing
 pub mod Evaluation
 pub mod Words

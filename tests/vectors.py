@@ -9,34 +9,20 @@ that is handed on, or of the writer's area.
 """
 from __future__ import annotations
 
-import sys
 from itertools import chain, islice, product, repeat
-from pathlib import Path
 from random import Random
 from typing import Iterator, NamedTuple
 
 from reference import cases, files, generate
 from reference.files import CHAIN, JOIN, TAGS, JoinThrough, Member, Operator, Refusal, Register, Sheet, Step
+from tests.stored import digest, keep, packed, said
 
-CRATE = Path(__file__).resolve().parent.parent / "crates" / "vectors"
-ROOM = 1 << 20  # the bytes that the program reads
 FILES = ("sheet", "question", "register", "narrowed")
 BYTES = {"sheet": files.sheet_bytes, "question": files.question_bytes,
          "register": files.register_bytes, "narrowed": files.narrowed_bytes}
 
 
-# Digests, as crates/vectors makes them.
-
-MODULUS, FACTOR = 4294967311, 1000003
-
-
-def digest(numbers, room: int = 0, before: int = 0) -> int:
-    """Of an array of `room` numbers that begins with these and is 0 after them."""
-    made = before
-    for number in numbers:
-        made = ((made * FACTOR + (number >> 32)) * FACTOR + number % 2 ** 32) % MODULUS
-    return made * pow(FACTOR, 2 * max(room - len(numbers), 0), MODULUS) % MODULUS
-
+# The line of a file.
 
 def sheet_line(sheet: Sheet) -> list:
     table = [0] * 4096
@@ -74,10 +60,9 @@ LINES = {"sheet": sheet_line, "question": question_line, "register": register_li
 
 def line(file: str, data: bytes) -> str:
     try:
-        said = ["read", *LINES[file](READERS[file](data))]
+        return said("read", *LINES[file](READERS[file](data)))
     except Refusal as refused:
-        said = ["refused", refused.number, refused.place, 0]
-    return " ".join(map(str, said)) + "\n"
+        return said("refused", refused.number, refused.place, 0)
 
 
 # Files of the cases, and every small damage to them.
@@ -279,11 +264,9 @@ def written_line(each: Arrays) -> str:
     area = bytes([165]) * each.room
     try:
         made = written(each)
-        said = ["wrote", len(made)]
-        area = made + area[len(made):]
+        return said("wrote", len(made), digest(made + area[len(made):]))
     except Refusal as refused:
-        said = ["refused", refused.number, refused.place]
-    return " ".join(map(str, [*said, digest(area)])) + "\n"
+        return said("refused", refused.number, refused.place, digest(area))
 
 
 def given_bytes(each: Arrays) -> bytes:
@@ -335,33 +318,11 @@ def readings(rng: Random) -> list:
     return list(dict.fromkeys(empty + case_files() + sizes(rng) + damaged_cases() + random_files(rng)))
 
 
-def packed(tag: int, data: bytes) -> bytes:
-    return bytes([tag]) + len(data).to_bytes(2, "big") + data
-
-
-def stored() -> dict:
+def main() -> None:
     rng = Random(1)
     read, write = readings(rng), writings(rng)
-    handed_in = [packed(1 + FILES.index(file), data) for file, data in read] + [packed(5, given_bytes(each)) for each in write]
-    lines = [line(*each) for each in read] + [written_line(each) for each in write]
-    made = {"stdin": b"".join(handed_in), "stdout": "".join(lines).encode()}
-    assert len(made["stdin"]) < ROOM, "the program has no room for all vectors"
-    return made
-
-
-def same(path: Path, data: bytes) -> bool:
-    return path.is_file() and path.read_bytes() == data
-
-
-def main() -> None:
-    made = stored()
-    if "--check" not in sys.argv:
-        for name, data in made.items():
-            (CRATE / name).write_bytes(data)
-    stale = [name for name, data in made.items() if not same(CRATE / name, data)]
-    lines = made["stdout"].count(b"\n")
-    print("not as tests/vectors.py writes them: crates/vectors/" + ", ".join(stale) if stale else f"{lines} vectors, as written")
-    sys.exit(1 if stale else 0)
+    fields = [packed(1 + FILES.index(file), data) for file, data in read] + [packed(5, given_bytes(each)) for each in write]
+    keep("vectors", fields, [line(*each) for each in read] + [written_line(each) for each in write])
 
 
 if __name__ == "__main__":

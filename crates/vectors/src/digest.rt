@@ -1,40 +1,14 @@
 // A digest of all the numbers that a reader hands on.
 use narrowed::Members;
 use register::NextLink;
+use report::mix;
+use report::mix_bytes;
+use report::mix_words;
+use report::wide;
 ghost use mathlib.Core.Path.{_≡_};
 ghost use Rattle.theory.specs.Register.{records};
 ghost use Rattle.register.specs.Form.{register-in};
 ghost use Rattle.register.specs.Ahead.{Accepted};
-
-// A digest with one number more, by its two halves. The modulus is a prime above 2^32, so a half that differs shows.
-fn mix(d: u64, x: u64) -> u64 {
-    let high = (d % 4294967311 * 1000003 + x / 4294967296) % 4294967311;
-    (high * 1000003 + x % 4294967296) % 4294967311
-}
-
-pub fn mix_words(d: u64, s: &[u64]) -> u64 {
-    let mut e = d;
-    let mut i = 0;
-    while i < s.len() {
-        e = mix(e, s[i]);
-        i += 1;
-    }
-    e
-}
-
-pub fn wide(b: u8) -> u64 {
-    b as u64
-}
-
-pub fn mix_bytes(d: u64, s: &[u8]) -> u64 {
-    let mut e = d;
-    let mut i = 0;
-    while i < s.len() {
-        e = mix(e, wide(s[i]));
-        i += 1;
-    }
-    e
-}
 
 pub fn mix_kinds(d: u64, s: &[u8], n: usize) -> u64
     requires { ⌜ n ≡ records (register-in (now s)) ⌝ }

@@ -19,17 +19,6 @@ fn long_at(s: &[u8], at: usize) -> u64 {
     0
 }
 
-pub fn two_at(s: &[u8], at: usize) -> usize
-    ensures { λ r. ⌜ r < 65536 ⌝ }
-{
-    if at < s.len() {
-        if 1 < s.len() - at {
-            return fields::two(s, at) as usize;
-        }
-    }
-    0
-}
-
 fn empty_members(count: usize) -> Members {
     let sizes = [0u8; 128];
     let from = [0u64; 128];
@@ -75,7 +64,7 @@ fn with_symbols(q: Members, s: &[u8], from: usize) -> Members
 }
 
 pub fn given(s: &[u8]) -> Members {
-    let rows = two_at(s, 10);
+    let rows = report::two_at(s, 10);
     let q = with_rows(empty_members(long_at(s, 2) as usize), s, rows);
     with_symbols(q, s, 12 + 17 * rows)
 }

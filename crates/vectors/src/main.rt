@@ -8,22 +8,20 @@ mod line;
 use fields::Raw;
 use libc::STDIN_FILENO;
 use writing::Written;
-ghost use mathlib.Core.Path.{_≡_};
-ghost use lib.ListN.{length};
 
 fn run_sheet(s: &[u8]) {
     let r = sheet::read(s);
     let outcome = r.outcome;
     match outcome {
         sheet::Outcome::Accepted(k, e) => {
-            line::read(digest::wide(k));
-            line::number(digest::wide(e));
+            line::read(report::wide(k));
+            report::number(report::wide(e));
         }
         sheet::Outcome::Refused(x) => {
             line::refused(x);
         }
     }
-    line::end(digest::mix_words(0, &r.table));
+    report::end(report::mix_words(0, &r.table));
 }
 
 fn run_question(s: &[u8]) {
@@ -37,19 +35,19 @@ fn run_question(s: &[u8]) {
             line::refused(x);
         }
     }
-    line::end(digest::mix_bytes(0, &r.codes));
+    report::end(report::mix_bytes(0, &r.codes));
 }
 
 fn run_register(s: &[u8]) {
     match register::read(s) {
         register::Outcome::Accepted(n, l) => {
             line::read(n as u64);
-            line::number(l as u64);
-            line::end(digest::mix_links(digest::mix_kinds(0, s, n), s));
+            report::number(l as u64);
+            report::end(digest::mix_links(digest::mix_kinds(0, s, n), s));
         }
         register::Outcome::Refused(x) => {
             line::refused(x);
-            line::end(0);
+            report::end(0);
         }
     }
 }
@@ -66,7 +64,7 @@ fn run_narrowed(s: &[u8]) {
         }
     }
     let members = r.members;
-    line::end(digest::mix_members(members));
+    report::end(digest::mix_members(members));
 }
 
 // The area is no longer than the vector says, so that what lies past a file, and an area left untouched, show in its digest.
@@ -79,12 +77,12 @@ fn write_into(area: &mut [u8], s: &[u8]) {
             line::refused(x);
         }
     }
-    line::end(digest::mix_bytes(0, area));
+    report::end(report::mix_bytes(0, area));
 }
 
 fn run_writer(s: &[u8]) {
     let mut space = [165u8; 65536];
-    let n = given::two_at(s, 0);
+    let n = report::two_at(s, 0);
     write_into(&mut space[..n], s);
 }
 
@@ -95,7 +93,7 @@ fn run(tag: u8, s: &[u8]) {
         3 => run_register(s),
         4 => run_narrowed(s),
         5 => run_writer(s),
-        _ => line::end(0),
+        _ => report::end(0),
     }
 }
 
@@ -121,15 +119,8 @@ fn run_all(s: &[u8]) {
     }
 }
 
-// Room for all vectors. Its contract keeps the proof of `main` from unfolding so long a list.
-fn room() -> [u8; 1048576]
-    ensures { λ r. ⌜ 1048576 ≡ length r ⌝ }
-{
-    [0; 1048576]
-}
-
 fn main() {
-    let mut text = room();
+    let mut text = report::room();
     let n = io::read_full(STDIN_FILENO, &mut text);
     run_all(&text[..n]);
 }

@@ -1,10 +1,10 @@
--- `vectors::room` meets its contract, by a law on lists of any length: the list itself is too long to compute.
+-- `report::room` meets its contract, by a law on lists of any length: the list itself is too long to compute.
 -- Assumes nothing.
 use mathlib.Core.Path.{sym}
 use Prim.Native.Nat.{ℕ}
 use lib.ListN.{length-replicate}
-use Rattle.vectors.proofs.room.Statement.{statement}
-use Rattle.vectors.proofs.room.Tie as tie
+use Rattle.report.proofs.room.Statement.{statement}
+use Rattle.report.proofs.room.Tie as tie
 
 returns : tie.Need-returns
 returns c = sym (length-replicate {A = ℕ} 1048576 0)

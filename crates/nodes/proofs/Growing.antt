@@ -1,0 +1,129 @@
+-- A part of the table: looked through, kept, and with a node put at its end.
+-- Assumes nothing.
+use mathlib.Core.Path.{_≡_, refl, ap, ap₂, _∙_}
+use mathlib.Core.Bool.{Bool, true, false}
+use mathlib.Core.Logic.{⊎-elim}
+use mathlib.Core.List.{List, [], _∷_, _++_}
+use Prim.Native.Nat.{ℕ, zero, suc, _+_, _-_, _<_, _≤_}
+use native.Mathlib.Nat.{eq-or-lt-of-le, add-zero, add-suc, suc-add}
+use native.Mathlib.Numerals.{add-one}
+use native.Mathlib.Omega.{arith}
+use lib.ListN.{length, set}
+use Rattle.theory.specs.Lists.{some?, adjoin, tabulate}
+use Rattle.theory.specs.Inference.{Triple, triple?}
+use Rattle.theory.proofs.Lists.{length-tabulate}
+use Rattle.rows.specs.Kept.{Kept}
+use Rattle.rows.proofs.Words.{kept-set}
+use Rattle.nodes.specs.declared.Node.{Node}
+use Rattle.nodes.specs.Table.{word-of}
+use Rattle.nodes.specs.Paths.{triple-of, Good, Sound, Has}
+use Rattle.nodes.specs.Parts.{part-of, Candidate, Added}
+use Rattle.nodes.proofs.Words.{node-kept}
+use Rattle.nodes.proofs.Triples.{triple-kept}
+
+-- ---- rows
+module _ {A : Type 0} where
+  tabulate-same : (f g : ℕ → A) (s n : ℕ) → ((k : ℕ) → s ≤ k → k < s + n → f k ≡ g k) → tabulate f s n ≡ tabulate g s n
+  tabulate-same f g s zero e = refl
+  tabulate-same f g s (suc n) e = ap₂ (λ x xs. x ∷ xs) (e s (omega arith) (omega arith)) (tabulate-same f g (suc s) n (λ k a b. e k (omega arith) (omega arith)))
+
+  tabulate-end : (f : ℕ → A) (s n : ℕ) → tabulate f s (n + 1) ≡ tabulate f s n ++ (f (s + n) ∷ [])
+  tabulate-end f s zero = rw (add-zero s)
+  tabulate-end f s (suc n) = rw (suc-add n 1, add-suc s n, ← suc-add s n) (ap (λ xs. f s ∷ xs) (tabulate-end f (suc s) n))
+
+  -- what is left of a row, from j on
+  tabulate-next : (f : ℕ → A) (j e : ℕ) → j < e → tabulate f j (e - j) ≡ f j ∷ tabulate f (j + 1) (e - (j + 1))
+  tabulate-next f j e h = let q : e - j ≡ suc (e - (j + 1)) = omega arith in rw (q, add-one j)
+
+-- ---- parts
+module _ (qs ws : List ℕ) where
+  pub length-part : (s n : ℕ) → length (part-of qs ws s n) ≡ n
+  unfolding part-of
+  length-part s n = length-tabulate (triple-of qs ws) s n
+
+  part-end : (s n : ℕ) → part-of qs ws s (n + 1) ≡ part-of qs ws s n ++ (triple-of qs ws (s + n) ∷ [])
+  unfolding part-of
+  part-end s n = tabulate-end (triple-of qs ws) s n
+
+  pub part-next : (j e : ℕ) → j < e → part-of qs ws j (e - j) ≡ triple-of qs ws j ∷ part-of qs ws (j + 1) (e - (j + 1))
+  unfolding part-of
+  part-next j e h = tabulate-next (triple-of qs ws) j e h
+
+  pub part-over : (j e : ℕ) → e ≤ j → part-of qs ws j (e - j) ≡ []
+  unfolding part-of
+  part-over j e h = let q : e - j ≡ 0 = omega arith in rw q
+
+  -- a look through a part
+  module _ (f : Triple → Bool) (j e : ℕ) where
+    pub look-yes : j < e → f (triple-of qs ws j) ≡ true → some? f (part-of qs ws j (e - j)) ≡ true
+    look-yes h y = rw (part-next j e h, y)
+
+    pub look-on : j < e → f (triple-of qs ws j) ≡ false → some? f (part-of qs ws j (e - j)) ≡ some? f (part-of qs ws (j + 1) (e - (j + 1)))
+    look-on h y = rw (part-next j e h, y)
+
+    pub look-end : e ≤ j → some? f (part-of qs ws j (e - j)) ≡ false
+    look-end h = rw (part-over j e h)
+
+-- ---- what keeps the words below u
+module _ {u hi : ℕ} {xs ys : List ℕ} (h : Kept u hi xs ys) (qs : List ℕ) where
+  pub part-kept : (s m : ℕ) → s + m ≤ u → part-of qs ys s m ≡ part-of qs xs s m
+  unfolding part-of
+  part-kept s m l = tabulate-same (triple-of qs ys) (triple-of qs xs) s m (λ k a b. triple-kept h qs k (omega arith))
+
+  good-kept : (k : ℕ) → k < u → Good qs xs k → Good qs ys k
+  good-kept k l g =
+      record {
+        known = rw (node-kept h k l) (g .known);
+        sized = rw (triple-kept h qs k l, node-kept h k l) (g .sized);
+        two = rw (node-kept h k l) (λ a b. let t = g .two a b in record { left-below = rw (node-kept h k l) (t .left-below); right-below = rw (node-kept h k l) (t .right-below) });
+        kept = rw (node-kept h k l) (g .kept);
+      }
+
+  pub sound-kept : Sound qs xs u → Sound qs ys u
+  sound-kept s = record { good = λ k l. good-kept k l (s .good k l) }
+
+  sound-more : Sound qs xs u → Good qs ys u → Sound qs ys (u + 1)
+  sound-more s g = record { good = λ k l. ⊎-elim (λ (e : k ≡ u). rw e g) (λ (b : k < u). good-kept k b (s .good k b)) (eq-or-lt-of-le (omega arith)) }
+
+pub added-kept : {qs ws ws′ : List ℕ} {s count r : ℕ} {n : Node} → Added qs ws ws′ s count n r → Kept (s + count) (s + count + 1) ws ws′
+added-kept {ws = ws} {s = s} {count} {n = n} a = rw (a .words-are) (kept-set ws (s + count) (word-of n))
+
+-- ---- a node at the end
+module _ {qs ws ws′ : List ℕ} {s count : ℕ} {n : Node} (h : Candidate qs ws s count n) (e : ws′ ≡ set ws (s + count) (word-of n)) where
+  only-last : Kept (s + count) (s + count + 1) ws ws′
+  only-last = rw e (kept-set ws (s + count) (word-of n))
+
+  sound-new : Sound qs ws′ (s + count + 1)
+  sound-new = sound-more only-last qs (h .sound) (rw e (h .good))
+
+  pub has-new : Has qs ws′ (s + count + 1) (s + count)
+  has-new = record { in-use = omega arith; in-table = omega (arith, h .in-table, only-last .len); sound = sound-new }
+
+  old : part-of qs ws′ s count ≡ part-of qs ws s count
+  old = part-kept only-last qs s count (omega arith)
+
+  pub added-no : some? (triple? (triple-of qs ws′ (s + count))) (part-of qs ws′ s (s + count - s)) ≡ true → Added qs ws ws′ s count n count
+  unfolding adjoin
+  added-no y =
+      let q : s + count - s ≡ count = omega arith in
+      record {
+        words-are = e;
+        part-is = old ∙ rw (← old) (rw (rw q at y));
+        sound = sound-kept only-last qs (h .sound);
+        at-least = omega arith;
+        at-most = omega arith;
+        same-length = only-last .len;
+      }
+
+  pub added-yes : some? (triple? (triple-of qs ws′ (s + count))) (part-of qs ws′ s (s + count - s)) ≡ false → Added qs ws ws′ s count n (count + 1)
+  unfolding adjoin
+  added-yes y =
+      let q : s + count - s ≡ count = omega arith in
+      record {
+        words-are = e;
+        part-is = part-end qs ws′ s count ∙ rw (← old) (rw (rw q at y));
+        sound = let z : s + (count + 1) ≡ s + count + 1 = omega arith in rw z sound-new;
+        at-least = omega arith;
+        at-most = omega arith;
+        same-length = only-last .len;
+      }

@@ -1,18 +1,13 @@
 -- One writing after another.
 -- Assumes nothing.
-use Prim.Native.Nat.{ℕ, suc, _+_, _≤_}
+use Prim.Native.Nat.{ℕ, _+_, _≤_}
 use mathlib.Core.Path.{_≡_, refl, ap, ap₂, _∙_, sym, subst}
-use mathlib.Core.List.{List, [], _∷_, _++_, append-assoc, append-nil}
-use lib.ListN.{length, set, length-append}
+use mathlib.Core.List.{List, [], _++_, append-assoc, append-nil}
+use lib.ListN.{length, length-append}
 use lib.Seq.{sets, length-sets}
 use native.Mathlib.Omega.{arith}
+use Rattle.theory.proofs.Lists.{sets-append}
 use Rattle.bytes.specs.Wrote.{Wrote}
-
-pub sets-append : (u v l : List ℕ) (i : ℕ) → sets (sets l i u) (i + length u) v ≡ sets l i (u ++ v)
-sets-append [] v l i = ap (λ (k : ℕ). sets l k v) (let z : i + 0 ≡ i = omega arith in z)
-sets-append (a ∷ u) v l i =
-    ap (λ (k : ℕ). sets (sets (set l i a) (suc i) u) k v) (let z : i + suc (length u) ≡ suc i + length u = omega arith in z)
-    ∙ sets-append u v (set l i a) (suc i)
 
 pub wrote-length : {a b : List ℕ} {at next : ℕ} {u : List ℕ} → Wrote a b at next u → length b ≡ length a
 wrote-length {a} {b} {at} {next} {u} w = ap length (w .area) ∙ length-sets a at u

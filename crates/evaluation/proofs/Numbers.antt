@@ -5,11 +5,12 @@ use mathlib.Core.Bool.{Bool, true, false, cond, false≢true}
 use Prim.Native.Nat.{ℕ, zero, suc, _-_, _≤_, _<_}
 use native.Mathlib.Omega.{arith}
 use lib.Dec.{ltb, eqb, leb}
-use borrow.Author.Tests.{lt-ltb, le-ltb, eq-eqb, ne-eqb, leb-true, leb-false, eqb-true, eqb-false}
+use borrow.Author.Tests.{leb-true, leb-false, eqb-true, eqb-false}
 use Rattle.bits.specs.Bit.{bitOf}
 use Rattle.theory.specs.KindSet.{has}
-use Rattle.theory.specs.PathExpr.{forward, reverse, any, through, union, conjunction, branch-right, branch-left, Symbol, s-step, s-join, s-op, s-closure}
+use Rattle.theory.specs.PathExpr.{forward, reverse, through, Symbol, s-step, s-join, s-op, s-closure}
 use Rattle.fields.specs.Symbols.{symbol-numbered, operator-numbered}
+use Rattle.fields.proofs.Numbers.{operator-number, through-number}
 use Rattle.evaluation.specs.Ground.{closes?}
 
 -- a bit of a set, by a number that is a kind
@@ -17,45 +18,8 @@ pub kind-tested : {b : Bool} {i j k : ℕ} (m : ℕ) → b ≡ bitOf m i → i �
 unfolding has
 kind-tested m e f g = e ∙ ap (bitOf m) (f ∙ g)
 
--- ---- steps
-pub forward-number : (c m : ℕ) → c < 64 → symbol-numbered c m ≡ s-step forward c
-unfolding symbol-numbered
-forward-number c m h = simp (lt-ltb c 64 h)
-
-pub reverse-number : (c m : ℕ) → 64 ≤ c → c < 128 → symbol-numbered c m ≡ s-step reverse (c - 64)
-unfolding symbol-numbered
-reverse-number c m l h = simp (le-ltb c 64 l, lt-ltb c 128 h)
-
 -- ---- operators
 module _ (c m : ℕ) (l : 128 ≤ c) where
-  operator : (c ≡ 255 → ⊥) → symbol-numbered c m ≡ operator-numbered (c - 128)
-  unfolding symbol-numbered
-  operator n = simp (le-ltb c 64 (omega arith), le-ltb c 128 l, ne-eqb c 255 n)
-
-  pub through-number : c ≡ 255 → symbol-numbered c m ≡ s-join (through m)
-  unfolding symbol-numbered
-  through-number e = simp (le-ltb c 64 (omega arith), le-ltb c 128 l, eq-eqb c 255 e)
-
-  pub join-number : c ≡ 128 → symbol-numbered c m ≡ s-join any
-  unfolding symbol-numbered
-  join-number e = rw e
-
-  pub union-number : c ≡ 129 → symbol-numbered c m ≡ s-op union
-  unfolding symbol-numbered
-  union-number e = rw e
-
-  pub conjunction-number : c ≡ 130 → symbol-numbered c m ≡ s-op conjunction
-  unfolding symbol-numbered
-  conjunction-number e = rw e
-
-  pub right-number : c ≡ 131 → symbol-numbered c m ≡ s-op branch-right
-  unfolding symbol-numbered
-  right-number e = rw e
-
-  pub left-number : c ≡ 132 → symbol-numbered c m ≡ s-op branch-left
-  unfolding symbol-numbered
-  left-number e = rw e
-
   pub closure-number : closes? c ≡ true → symbol-numbered c m ≡ s-closure
   unfolding closes?
   closure-number e = by-test (eqb c 255) refl e
@@ -65,7 +29,7 @@ module _ (c m : ℕ) (l : 128 ≤ c) where
       by-test false q h =
           let k = leb-true 133 c h in
           let z : c - 128 ≡ suc (suc (suc (suc (suc (c - 133))))) = omega arith in
-          operator (eqb-false c 255 q) ∙ ap operator-numbered z
+          operator-number c m l (eqb-false c 255 q) ∙ ap operator-numbered z
 
   -- no closure, and none of the operators before it: a join through a set
   pub last-number : closes? c ≡ false → (c ≡ 128 → ⊥) → (c ≡ 129 → ⊥) → (c ≡ 130 → ⊥) → (c ≡ 131 → ⊥) → (c ≡ 132 → ⊥) → c ≡ 255
@@ -97,7 +61,7 @@ binary-number c m l e = by-test (eqb c 255) refl e
   where
     by-test : (b : Bool) → eqb c 255 ≡ b → cond b false (leb 133 c) ≡ false → Binary (symbol-numbered c m)
     by-test true q h = subst Binary (sym (through-number c m l (eqb-true c 255 q))) tt
-    by-test false q h = let k = leb-false 133 c h in subst Binary (sym (operator c m l (eqb-false c 255 q))) (binary-operator (c - 128) (omega arith))
+    by-test false q h = let k = leb-false 133 c h in subst Binary (sym (operator-number c m l (eqb-false c 255 q))) (binary-operator (c - 128) (omega arith))
 
 -- the set matters to a join through it alone
 pub set-ignored : (c m : ℕ) → symbol-numbered c (cond (eqb c 255) m 0) ≡ symbol-numbered c m

@@ -1,9 +1,8 @@
 -- Equal pairs make equal tables; and no pair of a path leads past the records.
 -- Assumes nothing.
-use mathlib.Core.Path.{_≡_, refl, ap, ap₂}
+use mathlib.Core.Path.{_≡_, ap}
 use mathlib.Core.Bool.{Bool, false, _&&_, _||_}
-use mathlib.Core.List.{List, _∷_}
-use Prim.Native.Nat.{ℕ, zero, suc, _+_, _≤_, _<_}
+use Prim.Native.Nat.{ℕ, zero, suc, _≤_, _<_}
 use native.Mathlib.Omega.{arith}
 use lib.Dec.{T}
 use Rattle.theory.specs.Lists.{tabulate}
@@ -12,12 +11,9 @@ use Rattle.theory.specs.PathExpr.{Direction, forward, reverse, PathExpr, step}
 use Rattle.theory.specs.Register.{edge, Register, records, well-formed?, Holds}
 use Rattle.theory.specs.Evaluation.{step?, evaluate}
 use Rattle.theory.proofs.Tests.{bool-eq}
+use Rattle.theory.proofs.Lists.{tabulate-same}
 use Rattle.theory.proofs.Sheet.{find-edge}
 use Rattle.theory.proofs.Evaluation.{holds-bounds, evaluated}
-
-tabulate-same : {A : Type 0} (f g : ℕ → A) (i n : ℕ) → ((k : ℕ) → i ≤ k → k < i + n → f k ≡ g k) → tabulate f i n ≡ tabulate g i n
-tabulate-same f g i zero e = refl
-tabulate-same {A} f g i (suc n) e = ap₂ (λ (x : A) (l : List A). x ∷ l) (e i (omega arith) (omega arith)) (tabulate-same f g (suc i) n (λ k l h. e k (omega arith) (omega arith)))
 
 module _ (n : ℕ) (f g : ℕ → ℕ → Bool) (same : (a b : ℕ) → a < n → b < n → f a b ≡ g a b) where
   pub table-same : table n f ≡ table n g

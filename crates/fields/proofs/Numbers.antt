@@ -1,19 +1,19 @@
 -- The symbols of a path and their numbers in a file: codes, ranges and operands are the same, and each comes back from the other.
 -- Assumes nothing.
 use Prim.Native.Nat.{ℕ, suc, zero, _+_, _-_, _<_, _≤_}
-use mathlib.Core.Path.{_≡_, refl, sym, ap, ap₂, subst}
+use mathlib.Core.Path.{_≡_, refl, sym, ap, ap₂, _∙_, subst}
 use mathlib.Core.Logic.{inl, inr}
 use mathlib.Core.List.{List, [], _∷_, _++_, map}
 use lib.Dec.{T, ltb→lt}
 use lib.ListN.{length, length-append}
 use native.Mathlib.Decide.{decLe}
 use native.Mathlib.Omega.{arith}
-use borrow.Author.Tests.{lt-ltb, le-ltb, ne-eqb}
+use borrow.Author.Tests.{lt-ltb, le-ltb, eq-eqb, ne-eqb}
 use Rattle.theory.specs.KindSet.{is-set}
 use Rattle.theory.specs.PathExpr.{forward, reverse, any, through, union, conjunction, branch-right, branch-left, PathExpr, step, join, op, closure, Symbol, s-step, s-join, s-op, s-closure, postfix, size, code, links?}
 use Rattle.theory.specs.Narrowing.{via-fits, sets-fit}
 use Rattle.theory.proofs.Tests.{tests}
-use Rattle.fields.specs.Symbols.{Numbered, numbered, order-code, arity, symbol-numbered}
+use Rattle.fields.specs.Symbols.{Numbered, numbered, order-code, arity, operator-numbered, symbol-numbered}
 use Rattle.fields.specs.Symbols.{Fine}
 use Rattle.fields.specs.Symbols.{number-symbol}
 
@@ -96,6 +96,51 @@ symbol-comes x (inl (h, z)) =
 symbol-comes x (inr (n, h)) =
     let e : numbered 255 (x .set) ≡ x = ap (λ (c : ℕ). numbered c (x .set)) (sym n) in
     subst Comes e (via-comes (x .set) h)
+
+-- ---- the symbol of a number
+pub forward-number : (c m : ℕ) → c < 64 → symbol-numbered c m ≡ s-step forward c
+unfolding symbol-numbered
+forward-number c m h = simp (lt-ltb c 64 h)
+
+pub reverse-number : (c m : ℕ) → 64 ≤ c → c < 128 → symbol-numbered c m ≡ s-step reverse (c - 64)
+unfolding symbol-numbered
+reverse-number c m l h = simp (le-ltb c 64 l, lt-ltb c 128 h)
+
+module _ (c m : ℕ) (l : 128 ≤ c) where
+  pub operator-number : (c ≡ 255 → ⊥) → symbol-numbered c m ≡ operator-numbered (c - 128)
+  unfolding symbol-numbered
+  operator-number n = simp (le-ltb c 64 (omega arith), le-ltb c 128 l, ne-eqb c 255 n)
+
+  pub through-number : c ≡ 255 → symbol-numbered c m ≡ s-join (through m)
+  unfolding symbol-numbered
+  through-number e = simp (le-ltb c 64 (omega arith), le-ltb c 128 l, eq-eqb c 255 e)
+
+  pub join-number : c ≡ 128 → symbol-numbered c m ≡ s-join any
+  unfolding symbol-numbered
+  join-number e = rw e
+
+  pub union-number : c ≡ 129 → symbol-numbered c m ≡ s-op union
+  unfolding symbol-numbered
+  union-number e = rw e
+
+  pub conjunction-number : c ≡ 130 → symbol-numbered c m ≡ s-op conjunction
+  unfolding symbol-numbered
+  conjunction-number e = rw e
+
+  pub right-number : c ≡ 131 → symbol-numbered c m ≡ s-op branch-right
+  unfolding symbol-numbered
+  right-number e = rw e
+
+  pub left-number : c ≡ 132 → symbol-numbered c m ≡ s-op branch-left
+  unfolding symbol-numbered
+  left-number e = rw e
+
+pub code-number : (c : ℕ) → c < 134 → code (symbol-numbered c 0) ≡ c
+unfolding order-code
+code-number c h =
+    let k = symbol-comes (numbered c 0) (inl (h, refl)) in
+    let z : order-code c ≡ c = rw (ne-eqb c 255 (omega arith)) in
+    sym (number-of (symbol-numbered c 0) (k .0) .same-code) ∙ ap (λ (x : Numbered). order-code (x .number)) (k .1) ∙ z
 
 -- ---- the symbols of a path
 abbrev pub AllHeld : List Symbol → Type 0

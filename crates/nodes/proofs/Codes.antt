@@ -1,34 +1,21 @@
 -- The symbol of a code below 134, by the tests that the code makes; the code of a path's last symbol.
 -- Assumes nothing.
-use mathlib.Core.Path.{_≡_, refl, sym, ap, _∙_}
-use mathlib.Core.Logic.{inl, ⊎-elim}
+use mathlib.Core.Path.{_≡_, refl}
+use mathlib.Core.Logic.{⊎-elim}
 use mathlib.Core.List.{List}
 use Prim.Native.Nat.{ℕ, zero, suc, _+_, _-_, _<_}
 use native.Mathlib.Omega.{arith}
-use borrow.Author.Tests.{lt-ltb, le-ltb, ne-eqb}
-use Rattle.theory.specs.PathExpr.{Direction, forward, reverse, any, Op, union, conjunction, branch-right, branch-left, PathExpr, step, join, op, closure, Symbol, s-step, s-join, s-op, s-closure, step-code, op-code, code}
+use Rattle.theory.specs.PathExpr.{Direction, forward, reverse, Op, union, conjunction, branch-right, branch-left, PathExpr, step, join, op, closure, Symbol, s-step, s-join, s-op, s-closure, step-code, op-code, code}
 use Rattle.theory.specs.Inference.{Triple}
-use Rattle.fields.specs.Symbols.{Numbered, numbered, symbol-numbered, order-code}
-use Rattle.fields.proofs.Numbers.{symbol-comes, number-of}
+use Rattle.fields.specs.Symbols.{symbol-numbered}
+use Rattle.fields.proofs.Numbers.{forward-number, reverse-number}
 use Rattle.rows.proofs.Words.{le-or-lt}
 use Rattle.nodes.specs.declared.Node.{Node}
 use Rattle.nodes.specs.Paths.{built}
 
-pub code-numbered : (c : ℕ) → c < 134 → code (symbol-numbered c 0) ≡ c
-unfolding order-code
-code-numbered c h =
-    let k = symbol-comes (numbered c 0) (inl (h, refl)) in
-    let z : order-code c ≡ c = rw (ne-eqb c 255 (omega arith)) in
-    sym (number-of (symbol-numbered c 0) (k .0) .same-code) ∙ ap (λ (x : Numbered). order-code (x .number)) (k .1) ∙ z
-
 -- ---- what the tests of a code say
 pub step-numbered : (c : ℕ) → c < 128 → (d : Direction) × (l : ℕ) × (symbol-numbered c 0 ≡ s-step d l)
-unfolding symbol-numbered
-step-numbered c h = ⊎-elim (λ l. (reverse, c - 64, rw (le-ltb c 64 l, lt-ltb c 128 h))) (λ l. (forward, c, rw (lt-ltb c 64 l))) (le-or-lt 64 c)
-
-pub join-numbered : (c : ℕ) → c ≡ 128 → symbol-numbered c 0 ≡ s-join any
-unfolding symbol-numbered
-join-numbered c h = rw h
+step-numbered c h = ⊎-elim (λ l. (reverse, c - 64, reverse-number c 0 l h)) (λ l. (forward, c, forward-number c 0 l)) (le-or-lt 64 c)
 
 pub op-numbered : (c : ℕ) → 128 < c → c < 133 → (o : Op) × (symbol-numbered c 0 ≡ s-op o)
 unfolding symbol-numbered

@@ -10,11 +10,12 @@ use lib.Pow.{shl-exact}
 use lib.ListN.{length, take, drop, replicate, length-replicate}
 use Rattle.theory.specs.KindSet.{singleton}
 use Rattle.theory.specs.PathExpr.{through, Direction, PathExpr, step, codes, code, size, step-code, op-code}
+use Rattle.fields.proofs.Numbers.{code-number}
 use Rattle.nodes.specs.declared.Node.{Node}
 use Rattle.nodes.specs.Table.{node-at}
 use Rattle.nodes.specs.Paths.{original, triple-of, path-sets, Has}
 use Rattle.nodes.specs.Expansion.{Wrote, Expanded, Ready}
-use Rattle.nodes.proofs.Codes.{code-numbered, step-numbered}
+use Rattle.nodes.proofs.Codes.{step-numbered}
 use Rattle.nodes.proofs.Nodes.{known, step-path, kept-path, kept-copied, left-has, right-has, join-path, made-op, op-path}
 use Rattle.nodes.proofs.Writing.{wrote-as, expanded-join, expanded-op, expanded-closure, length-codes, length-path-sets}
 
@@ -35,7 +36,7 @@ module _ {qs ws : List ℕ} {used i at : ℕ} {xs ys : List ℕ} (h : Ready qs w
     leaf : (d : Direction) × (k : ℕ) × (triple-of qs ws i .path ≡ step d k) × (step-code d k ≡ n .made)
     leaf =
         let s = step-numbered (n .made) l in
-        (s .0, s .1, step-path (h .has) n e (s .0) (s .1) (s .2), ap code (sym (s .2)) ∙ code-numbered (n .made) (omega arith))
+        (s .0, s .1, step-path (h .has) n e (s .0) (s .1) (s .2), ap code (sym (s .2)) ∙ code-number (n .made) (omega arith))
 
     pub step-room : (at < length xs) × (at < length ys) × (n .made < 256)
     step-room =
@@ -103,5 +104,5 @@ module _ {qs ws : List ℕ} {used i at : ℕ} {xs ys : List ℕ} (h : Ready qs w
         pub op-done : {xs₃ ys₃ : List ℕ} {r : ℕ} → ¬ (n .made ≡ 128) → Wrote end (n .made ∷ []) (0 ∷ []) xs₂ ys₂ xs₃ ys₃ r → Expanded (triple-of qs ws i .path) at xs ys xs₃ ys₃ r
         op-done {xs₃} {ys₃} {r} j c =
             let o = made-op (h .has) n e l m (omega arith) in
-            let z : n .made ≡ op-code (o .0) = sym (code-numbered (n .made) (known (h .has) n e)) ∙ ap code (o .1) in
+            let z : n .made ≡ op-code (o .0) = sym (code-number (n .made) (known (h .has) n e)) ∙ ap code (o .1) in
             subst (λ (p : PathExpr). Expanded p at xs ys xs₃ ys₃ r) (sym (op-path (h .has) n e l m (o .0) (o .1))) (expanded-op p q (o .0) a b (wrote-as c (ap (λ (x : ℕ). x ∷ []) z) refl))

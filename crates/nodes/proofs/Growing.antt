@@ -1,17 +1,17 @@
 -- A part of the table: looked through, kept, and with a node put at its end.
 -- Assumes nothing.
-use mathlib.Core.Path.{_≡_, refl, ap, ap₂, _∙_}
+use mathlib.Core.Path.{_≡_, _∙_}
 use mathlib.Core.Bool.{Bool, true, false}
 use mathlib.Core.Logic.{⊎-elim}
 use mathlib.Core.List.{List, [], _∷_, _++_}
-use Prim.Native.Nat.{ℕ, zero, suc, _+_, _-_, _<_, _≤_}
-use native.Mathlib.Nat.{eq-or-lt-of-le, add-zero, add-suc, suc-add}
+use Prim.Native.Nat.{ℕ, suc, _+_, _-_, _<_, _≤_}
+use native.Mathlib.Nat.{eq-or-lt-of-le}
 use native.Mathlib.Numerals.{add-one}
 use native.Mathlib.Omega.{arith}
 use lib.ListN.{length, set}
-use Rattle.theory.specs.Lists.{some?, adjoin, tabulate}
+use Rattle.theory.specs.Lists.{some?, adjoin}
 use Rattle.theory.specs.Inference.{Triple, triple?}
-use Rattle.theory.proofs.Lists.{length-tabulate}
+use Rattle.theory.proofs.Lists.{length-tabulate, tabulate-suc, tabulate-same}
 use Rattle.rows.specs.Kept.{Kept}
 use Rattle.rows.proofs.Words.{kept-set}
 use Rattle.nodes.specs.declared.Node.{Node}
@@ -21,20 +21,6 @@ use Rattle.nodes.specs.Parts.{part-of, Candidate, Added}
 use Rattle.nodes.proofs.Words.{node-kept}
 use Rattle.nodes.proofs.Triples.{triple-kept}
 
--- ---- rows
-module _ {A : Type 0} where
-  tabulate-same : (f g : ℕ → A) (s n : ℕ) → ((k : ℕ) → s ≤ k → k < s + n → f k ≡ g k) → tabulate f s n ≡ tabulate g s n
-  tabulate-same f g s zero e = refl
-  tabulate-same f g s (suc n) e = ap₂ (λ x xs. x ∷ xs) (e s (omega arith) (omega arith)) (tabulate-same f g (suc s) n (λ k a b. e k (omega arith) (omega arith)))
-
-  tabulate-end : (f : ℕ → A) (s n : ℕ) → tabulate f s (n + 1) ≡ tabulate f s n ++ (f (s + n) ∷ [])
-  tabulate-end f s zero = rw (add-zero s)
-  tabulate-end f s (suc n) = rw (suc-add n 1, add-suc s n, ← suc-add s n) (ap (λ xs. f s ∷ xs) (tabulate-end f (suc s) n))
-
-  -- what is left of a row, from j on
-  tabulate-next : (f : ℕ → A) (j e : ℕ) → j < e → tabulate f j (e - j) ≡ f j ∷ tabulate f (j + 1) (e - (j + 1))
-  tabulate-next f j e h = let q : e - j ≡ suc (e - (j + 1)) = omega arith in rw (q, add-one j)
-
 -- ---- parts
 module _ (qs ws : List ℕ) where
   pub length-part : (s n : ℕ) → length (part-of qs ws s n) ≡ n
@@ -43,11 +29,11 @@ module _ (qs ws : List ℕ) where
 
   part-end : (s n : ℕ) → part-of qs ws s (n + 1) ≡ part-of qs ws s n ++ (triple-of qs ws (s + n) ∷ [])
   unfolding part-of
-  part-end s n = tabulate-end (triple-of qs ws) s n
+  part-end s n = rw (add-one n) (tabulate-suc (triple-of qs ws) s n)
 
   pub part-next : (j e : ℕ) → j < e → part-of qs ws j (e - j) ≡ triple-of qs ws j ∷ part-of qs ws (j + 1) (e - (j + 1))
   unfolding part-of
-  part-next j e h = tabulate-next (triple-of qs ws) j e h
+  part-next j e h = let q : e - j ≡ suc (e - (j + 1)) = omega arith in rw (q, add-one j)
 
   pub part-over : (j e : ℕ) → e ≤ j → part-of qs ws j (e - j) ≡ []
   unfolding part-of

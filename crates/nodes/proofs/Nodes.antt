@@ -7,11 +7,12 @@ use native.Mathlib.Omega.{arith}
 use Rattle.theory.specs.KindSet.{singleton}
 use Rattle.theory.specs.PathExpr.{Direction, any, through, Op, step, join, op, closure, s-step, s-op}
 use Rattle.fields.specs.Symbols.{symbol-numbered}
+use Rattle.fields.proofs.Numbers.{join-number, code-number}
 use Rattle.nodes.specs.declared.Node.{Node}
 use Rattle.nodes.specs.Table.{node-at}
 use Rattle.nodes.specs.Paths.{original, triple-of, Two, Copied, Good, Has}
 use Rattle.nodes.proofs.Triples.{triple-to, path-built, path-step, path-kept, path-join, path-op}
-use Rattle.nodes.proofs.Codes.{code-numbered, join-numbered, op-numbered, closure-numbered, last-code, last-built}
+use Rattle.nodes.proofs.Codes.{op-numbered, closure-numbered, last-code, last-built}
 
 module _ {qs ws : List ℕ} {used i : ℕ} (h : Has qs ws used i) (n : Node) (e : n ≡ node-at ws i) where
   good : Good qs ws i
@@ -33,7 +34,7 @@ module _ {qs ws : List ℕ} {used i : ℕ} (h : Has qs ws used i) (n : Node) (e 
   last-made =
       let b = path-built qs ws i in
       ap last-code (b .2) ∙ last-built qs (node-at ws i) (b .0) (b .1) (symbol-numbered (node-at ws i .made) 0)
-      ∙ code-numbered (node-at ws i .made) (good .known) ∙ ap (λ (m : Node). m .made) (sym e)
+      ∙ code-number (node-at ws i .made) (good .known) ∙ ap (λ (m : Node). m .made) (sym e)
 
   -- an operator of two operands
   module _ (l : 128 ≤ n .made) (m : ¬ (n .made ≡ 133)) where
@@ -57,7 +58,7 @@ module _ {qs ws : List ℕ} {used i : ℕ} (h : Has qs ws used i) (n : Node) (e 
 
     pub join-path : n .made ≡ 128 → triple-of qs ws i .path ≡ join (through (singleton (node-at ws (n .left) .to))) (triple-of qs ws (n .left) .path) (triple-of qs ws (n .right) .path)
     join-path j =
-        rw (e, ← triple-to qs ws (node-at ws i .left)) (path-join qs ws i (below .left-below) (below .right-below) any (join-numbered (node-at ws i .made) (rw e at j)))
+        rw (e, ← triple-to qs ws (node-at ws i .left)) (path-join qs ws i (below .left-below) (below .right-below) any (join-number (node-at ws i .made) 0 (rw e at l) (rw e at j)))
 
     pub made-op : 128 < n .made → (o : Op) × (symbol-numbered (n .made) 0 ≡ s-op o)
     made-op j = op-numbered (n .made) j small

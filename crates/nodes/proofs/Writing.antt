@@ -2,28 +2,24 @@
 -- Assumes nothing.
 use mathlib.Core.Path.{_≡_, refl, sym, _∙_}
 use mathlib.Core.List.{List, [], _∷_, _++_, map-append}
-use Prim.Native.Nat.{ℕ, suc, _+_, _<_}
-use native.Mathlib.Nat.{add-zero, add-suc, suc-add}
+use Prim.Native.Nat.{ℕ, _+_, _<_}
 use native.Mathlib.Numerals.{add-one}
 use native.Mathlib.Omega.{arith}
 use lib.ListN.{length, getD, set, take, drop, replicate, length-append, length-map, length-set, length-drop, replicate-append-replicate}
-use lib.Seq.{sets, take-suc, getD-drop}
+use lib.Seq.{take-suc, getD-drop}
 use Rattle.theory.specs.PathExpr.{Via, Op, PathExpr, join, op, closure, s-join, postfix, codes, code, op-code, size}
+use Rattle.theory.proofs.Lists.{sets-append}
 use Rattle.fields.specs.Symbols.{number-symbol}
 use Rattle.fields.proofs.Numbers.{length-postfix}
 use Rattle.nodes.specs.Paths.{path-sets}
 use Rattle.nodes.specs.Expansion.{Wrote, Expanded}
 
-sets-append : (l vs ws : List ℕ) (i : ℕ) → sets (sets l i vs) (i + length vs) ws ≡ sets l i (vs ++ ws)
-sets-append l [] ws i = rw (add-zero i)
-sets-append l (v ∷ vs) ws i = rw (add-suc i (length vs), ← suc-add i (length vs)) (sets-append (set l i v) vs ws (suc i))
-
 -- ---- one after the other
 pub wrote-then : {at mid end : ℕ} {cs ss cs₂ ss₂ xs ys xs₁ ys₁ xs₂ ys₂ : List ℕ} → Wrote at cs ss xs ys xs₁ ys₁ mid → Wrote mid cs₂ ss₂ xs₁ ys₁ xs₂ ys₂ end → Wrote at (cs ++ cs₂) (ss ++ ss₂) xs ys xs₂ ys₂ end
 wrote-then {at} {mid} {end} {cs} {ss} {cs₂} {ss₂} {xs} {ys} p q =
     record {
-      codes-are = q .codes-are ∙ rw (p .codes-are, p .ends) (sets-append xs cs cs₂ at);
-      sets-are = q .sets-are ∙ rw (p .sets-are, p .ends, ← p .as-many) (sets-append ys ss ss₂ at);
+      codes-are = q .codes-are ∙ rw (p .codes-are, p .ends) (sets-append cs cs₂ xs at);
+      sets-are = q .sets-are ∙ rw (p .sets-are, p .ends, ← p .as-many) (sets-append ss ss₂ ys at);
       as-many = rw (length-append ss ss₂, length-append cs cs₂, p .as-many, q .as-many);
       ends = omega (arith, p .ends, q .ends, length-append cs cs₂);
       codes-length = q .codes-length ∙ p .codes-length;

@@ -9,7 +9,7 @@ use mathlib.Core.Option.{some}
 use lib.Dec.{T, leb, lt→ltb}
 use lib.ListN.{length, getD, take, drop, length-map}
 use native.Mathlib.Omega.{arith}
-use borrow.Author.Tests.{eqb-true, leb-true, ne-eqb}
+use borrow.Author.Tests.{eqb-true, leb-true}
 use Rattle.theory.specs.PathExpr.{any, through, PathExpr, step, join, op, closure, Symbol, s-step, s-join, s-op, s-closure, postfix, size, code, codes, plain?, links?}
 use Rattle.theory.specs.Postfix.{single-path, path-of}
 use Rattle.theory.proofs.Tests.{and-both}
@@ -19,13 +19,13 @@ use Rattle.fields.specs.declared.Stack.{Stack}
 use Rattle.fields.specs.Answer.{got}
 use Rattle.fields.specs.Table.{rows, among, tag-length}
 use Rattle.fields.specs.Reading.{ends, body, field-at, fitting, read}
-use Rattle.fields.specs.Symbols.{Numbered, numbered, symbol-in, symbol-numbered, number-symbol, order-code, arity, push, due-symbols, Runs}
+use Rattle.fields.specs.Symbols.{Numbered, numbered, symbol-in, symbol-numbered, number-symbol, arity, push, due-symbols, Runs}
 use Rattle.fields.proofs.Bools.{onward-got, cond-then, not-got, and-left, and-right}
 use Rattle.fields.proofs.Rows.{own-length}
 use Rattle.fields.proofs.Fields.{found, ended, in-path}
 use Rattle.fields.proofs.Accepted.{accepted-ind}
 use Rattle.fields.proofs.Symbols.{symbol-plain, push-got, push-anywhere}
-use Rattle.fields.proofs.Numbers.{Held, symbol-of, symbol-comes, number-of, length-postfix}
+use Rattle.fields.proofs.Numbers.{Held, symbol-of, symbol-comes, code-number, length-postfix}
 use Rattle.fields.proofs.Counting.{runs-read}
 use Rattle.question.specs.Form.{State, head, within, question-form, due, judge, head-of, fresh, one-more, question-symbols}
 
@@ -152,13 +152,8 @@ symbols-are [] = refl
 symbols-are (c ∷ cs) = ap (λ (l : List Symbol). symbol-numbered c 0 ∷ l) (symbols-are cs)
 
 small-codes : (cs : List ℕ) → Small cs → map code (question-symbols cs) ≡ cs
-unfolding order-code
 small-codes [] h = refl
-small-codes (c ∷ cs) h =
-    let (k, e) = symbol-comes (numbered c 0) (inl (h .0, refl)) in
-    let z : order-code c ≡ c = rw (ne-eqb c 255 (omega (arith, h .0))) in
-    let w : code (symbol-numbered c 0) ≡ c = sym (number-of (symbol-numbered c 0) k .same-code) ∙ ap (λ (x : Numbered). order-code (x .number)) e ∙ z in
-    ap₂ (λ (x : ℕ) (l : List ℕ). x ∷ l) w (small-codes cs (h .1))
+small-codes (c ∷ cs) h = ap₂ (λ (x : ℕ) (l : List ℕ). x ∷ l) (code-number c (h .0)) (small-codes cs (h .1))
 
 -- a question of codes cs asks for path p
 pub record Asks (cs : List ℕ) (p : PathExpr) : Type 0 where

@@ -5,22 +5,19 @@ use mathlib.Core.Bool.{Bool, true, false, _||_, or-false, or-assoc, true≢false
 use mathlib.Core.List.{List, [], _∷_, _++_}
 use mathlib.Core.Logic.{⊎-elim}
 use Prim.Native.Nat.{ℕ, zero, suc, _+_, _-_, _≤_, _<_}
-use native.Mathlib.Nat.{add-zero, zero-add, add-suc, suc-add, eq-or-lt-of-le}
+use native.Mathlib.Nat.{add-zero, zero-add, add-suc, eq-or-lt-of-le}
 use native.Mathlib.Omega.{arith}
-use Rattle.theory.specs.Lists.{some?, tabulate, range}
+use Rattle.theory.specs.Lists.{some?, range}
+use Rattle.theory.proofs.Lists.{tabulate-suc}
 
 some-append : (f : ℕ → Bool) (xs ys : List ℕ) → some? f (xs ++ ys) ≡ some? f xs || some? f ys
 some-append f [] ys = refl
 some-append f (x ∷ xs) ys = rw (some-append f xs ys) (sym (or-assoc (f x) (some? f xs) (some? f ys)))
 
-tabulate-suc : (i n : ℕ) → tabulate (λ k. k) i (suc n) ≡ tabulate (λ k. k) i n ++ ((i + n) ∷ [])
-tabulate-suc i zero = ap (λ (k : ℕ). k ∷ []) (sym (add-zero i))
-tabulate-suc i (suc n) = ap (λ (l : List ℕ). i ∷ l) (tabulate-suc (suc i) n ∙ ap (λ (k : ℕ). tabulate (λ j. j) (suc i) n ++ (k ∷ [])) (suc-add i n ∙ sym (add-suc i n)))
-
 -- one number more
 pub some-suc : (f : ℕ → Bool) (n : ℕ) → some? f (range (suc n)) ≡ some? f (range n) || f n
 some-suc f n =
-    ap (some? f) (tabulate-suc 0 n)
+    ap (some? f) (tabulate-suc (λ k. k) 0 n)
     ∙ some-append f (range n) ((0 + n) ∷ [])
     ∙ ap (λ (b : Bool). some? f (range n) || b) (or-false (f (0 + n)) ∙ ap f (zero-add n))
 

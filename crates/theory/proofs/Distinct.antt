@@ -7,7 +7,7 @@ use mathlib.Core.List.{List, [], _∷_, _++_, List·Memᴰ as In, List·Memᴰ·
 use Prim.Native.Nat.{suc, _≤_, zero-le}
 use native.Mathlib.Omega.{arith}
 use lib.Dec.{T, T-not}
-use lib.ListN.{length}
+use lib.ListN.{length, length-append}
 use Rattle.theory.specs.Lists.{some?, adjoin, adjoin-all, NoRepeat}
 use Rattle.theory.proofs.Tests.{cond-case}
 use Rattle.theory.proofs.Lists.{some-in, in-some}
@@ -32,6 +32,18 @@ module _ {A : Type 0} where
     pub adjoin-all-old : {y : A} (xs ys : List A) → In y xs → In y (adjoin-all eq xs ys)
     adjoin-all-old xs [] m = m
     adjoin-all-old xs (x ∷ ys) m = adjoin-all-old (adjoin eq xs x) ys (adjoin-old xs x m)
+
+    adjoin-longer : (xs : List A) (x : A) → length xs ≤ length (adjoin eq xs x)
+    unfolding adjoin
+    adjoin-longer xs x = cond-case (λ zs. length xs ≤ length zs) (some? (eq x) xs) {x = xs} {y = xs ++ (x ∷ [])} (λ _. omega arith) (λ _. rw (length-append xs (x ∷ [])) (omega arith))
+
+    pub adjoin-all-longer : (xs ys : List A) → length xs ≤ length (adjoin-all eq xs ys)
+    adjoin-all-longer xs [] = omega arith
+    adjoin-all-longer xs (y ∷ ys) = omega (arith, adjoin-longer xs y, adjoin-all-longer (adjoin eq xs y) ys)
+
+    pub adjoin-all-append : (xs ys zs : List A) → adjoin-all eq xs (ys ++ zs) ≡ adjoin-all eq (adjoin-all eq xs ys) zs
+    adjoin-all-append xs [] zs = refl
+    adjoin-all-append xs (y ∷ ys) zs = adjoin-all-append (adjoin eq xs y) ys zs
 
     module _ (sound : (x y : A) → T (eq x y) → x ≡ y) where
       adjoin-new : (xs : List A) (x : A) → In x (adjoin eq xs x)

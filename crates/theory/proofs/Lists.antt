@@ -1,14 +1,15 @@
--- Membership in the lists that the combinators of specs/Lists.antt make.
+-- Membership in the lists that the combinators of specs/Lists.antt make; rows, and writing one list after another.
 -- Assumes nothing.
-use mathlib.Core.Path.{_≡_, refl, sym, ap, _∙_, subst}
+use mathlib.Core.Path.{_≡_, refl, sym, ap, ap₂, _∙_, subst}
 use mathlib.Core.Logic.{_⊎_, inl, inr}
 use mathlib.Core.Bool.{Bool, true, false}
-use mathlib.Core.List.{List, [], _∷_, List·Memᴰ as In, List·Memᴰ·head as here, List·Memᴰ·tail as there, List·Memᴰ·append-cases as in-append, List·Memᴰ·not-nil as in-nil, Memᴰ·append-left as in-left, Memᴰ·append-right as in-right}
-use Prim.Native.Nat.{ℕ, zero, suc, _+_, _<_}
+use mathlib.Core.List.{List, [], _∷_, _++_, List·Memᴰ as In, List·Memᴰ·head as here, List·Memᴰ·tail as there, List·Memᴰ·append-cases as in-append, List·Memᴰ·not-nil as in-nil, Memᴰ·append-left as in-left, Memᴰ·append-right as in-right}
+use Prim.Native.Nat.{ℕ, zero, suc, _+_, _<_, _≤_}
 use native.Mathlib.Nat.{add-zero, zero-add, add-suc, suc-add, le-of-suc-le-suc, not-suc-le-zero}
 use native.Mathlib.Omega.{arith}
 use lib.Dec.{T, T-not}
-use lib.ListN.{length, getD}
+use lib.ListN.{length, getD, set}
+use lib.Seq.{sets}
 use Rattle.theory.specs.Lists.{guard, filter, some?, every?, concat-map, tabulate, range}
 use Rattle.theory.proofs.Tests.{and-left, and-right, and-both, or-left, or-right, or-cases, cond-case}
 
@@ -94,6 +95,15 @@ module _ {A : Type 0} (f : ℕ → A) where
   in-tabulate i (suc n) (here e) = (0, omega arith, e ∙ ap f (sym (add-zero i)))
   in-tabulate i (suc n) (there m) = let r = in-tabulate (suc i) n m in (suc (r .0), omega (arith, r .1), r .2 ∙ shift i (r .0))
 
+  -- one more at the end
+  pub tabulate-suc : (i n : ℕ) → tabulate f i (suc n) ≡ tabulate f i n ++ (f (i + n) ∷ [])
+  tabulate-suc i zero = rw (add-zero i)
+  tabulate-suc i (suc n) = ap (λ (l : List A). f i ∷ l) (tabulate-suc (suc i) n ∙ ap (λ (x : A). tabulate f (suc i) n ++ (x ∷ [])) (shift i n))
+
+pub tabulate-same : {A : Type 0} (f g : ℕ → A) (i n : ℕ) → ((k : ℕ) → i ≤ k → k < i + n → f k ≡ g k) → tabulate f i n ≡ tabulate g i n
+tabulate-same f g i zero e = refl
+tabulate-same {A} f g i (suc n) e = ap₂ (λ (x : A) (l : List A). x ∷ l) (e i (omega arith) (omega arith)) (tabulate-same f g (suc i) n (λ k l h. e k (omega arith) (omega arith)))
+
 pub range-in : (n k : ℕ) → k < n → In k (range n)
 range-in n k h = subst (λ x. In x (range n)) (zero-add k) (tabulate-in (λ x. x) 0 n k h)
 
@@ -102,3 +112,8 @@ in-range n m = let r = in-tabulate (λ x. x) 0 n m in omega (arith, r .1, r .2)
 
 pub range-at : (n k : ℕ) → k < n → getD (range n) k 0 ≡ k
 range-at n k h = tabulate-at (λ x. x) 0 n k 0 h ∙ zero-add k
+
+-- ---- writing one list after another
+pub sets-append : (u v l : List ℕ) (i : ℕ) → sets (sets l i u) (i + length u) v ≡ sets l i (u ++ v)
+sets-append [] v l i = rw (add-zero i)
+sets-append (a ∷ u) v l i = rw (add-suc i (length u), ← suc-add i (length u)) (sets-append u v (set l i a) (suc i))

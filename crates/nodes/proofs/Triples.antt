@@ -14,7 +14,8 @@ use Rattle.theory.specs.Inference.{Triple}
 use Rattle.fields.specs.Symbols.{symbol-numbered}
 use Rattle.rows.specs.Kept.{Kept}
 use Rattle.nodes.specs.Table.{node-at}
-use Rattle.nodes.specs.Paths.{original, built, of-node, no-triple, triple-at, triple-of}
+use Rattle.nodes.specs.Paths.{original, built, of-node, triple-at, triple-of}
+use Rattle.theory.specs.Growth.{no-triple}
 
 cond-same : {A : Type 0} (b : Bool) (x y z : A) → (T b → x ≡ y) → cond b x z ≡ cond b y z
 cond-same true x y z e = e tt

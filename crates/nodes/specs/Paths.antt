@@ -12,6 +12,7 @@ use Rattle.theory.specs.KindSet.{singleton}
 use Rattle.theory.specs.PathExpr.{forward, through, PathExpr, step, join, op, closure, Symbol, s-step, s-join, s-op, s-closure, postfix, codes, size}
 use Rattle.theory.specs.Postfix.{path-of}
 use Rattle.theory.specs.Inference.{Triple, triple}
+use Rattle.theory.specs.Growth.{no-triple}
 use Rattle.fields.specs.Symbols.{symbol-numbered, number-symbol}
 use Rattle.question.specs.Form.{question-symbols}
 use Rattle.nodes.specs.declared.Node.{Node}
@@ -32,11 +33,7 @@ built qs n x y s-closure = closure (original qs (n .left) (n .right))
 abbrev pub of-node : List ℕ → Node → Triple → Triple → Triple
 of-node qs n x y = triple (n .from) (built qs n x y (symbol-numbered (n .made) 0)) (n .to)
 
--- what stands for an operand that is not below its node
-abbrev pub no-triple : Triple
-no-triple = triple 0 (step forward 0) 0
-
--- the triple of node i, with fuel
+-- the triple of node i, with fuel; an operand that is not below its node counts as none
 unfoldable pub triple-at : ℕ → List ℕ → List ℕ → ℕ → Triple
 triple-at zero qs ws i = no-triple
 triple-at (suc f) qs ws i =

@@ -19,7 +19,7 @@ use Rattle.theory.specs.Narrowing.{short?}
 use Rattle.theory.specs.Growth.{no-triple, grown, grow, free, kept-closures}
 use Rattle.theory.proofs.Tests.{test, of-true, cond-case, bool-eq}
 use Rattle.theory.proofs.Lists.{in-guard, in-filter, some-in, in-some, every-in, in-every, in-concat-map, in-tabulate}
-use Rattle.theory.proofs.Distinct.{in-adjoin, adjoin-all-old, adjoin-all-new}
+use Rattle.theory.proofs.Distinct.{in-adjoin, adjoin-all-old, adjoin-all-new, adjoin-all-append, adjoin-all-longer}
 use Rattle.theory.proofs.Triples.{triple-eq, triple-refl, in-distinct, distinct-in, distinct-norepeat, in-pairs, in-between}
 use Rattle.theory.proofs.Walks.{level, level-size, walks-in, in-walks}
 
@@ -32,10 +32,6 @@ module _ {A : Type 0} (eq : A → A → Bool) where
   pub adjoin-absent : (xs : List A) (x : A) → T (not (some? (eq x) xs)) → adjoin eq xs x ≡ xs ++ (x ∷ [])
   unfolding adjoin
   adjoin-absent xs x s = cond-case (λ zs. zs ≡ xs ++ (x ∷ [])) (some? (eq x) xs) (λ t. absurd (T-not (some? (eq x) xs) s t)) (λ _. refl)
-
-  pub adjoin-all-append : (xs ys zs : List A) → adjoin-all eq xs (ys ++ zs) ≡ adjoin-all eq (adjoin-all eq xs ys) zs
-  adjoin-all-append xs [] zs = refl
-  adjoin-all-append xs (y ∷ ys) zs = adjoin-all-append (adjoin eq xs y) ys zs
 
   -- what stood before stands first
   adjoin-first : (xs : List A) (x : A) → (zs : List A) × (adjoin eq xs x ≡ xs ++ zs)
@@ -51,9 +47,6 @@ module _ {A : Type 0} (eq : A → A → Bool) where
       let a = adjoin-first xs y in
       let r = adjoin-all-first (adjoin eq xs y) ys in
       (a .0 ++ r .0, r .1 ∙ ap (λ l. l ++ r .0) (a .1) ∙ append-assoc xs (a .0) (r .0))
-
-  pub adjoin-all-longer : (xs ys : List A) → length xs ≤ length (adjoin-all eq xs ys)
-  adjoin-all-longer xs ys = let r = adjoin-all-first xs ys in omega (arith, ap length (r .1), length-append xs (r .0))
 
   module _ (sound : (x y : A) → T (eq x y) → x ≡ y) (reflexive : (x : A) → T (eq x x)) where
     in-is : (xs : List A) (x : A) → T (some? (eq x) xs) → In x xs

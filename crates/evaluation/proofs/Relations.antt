@@ -14,7 +14,7 @@ use Rattle.theory.specs.PathExpr.{Direction, Via, Op, union, conjunction, branc
 use Rattle.theory.specs.Postfix.{Stack}
 use Rattle.theory.specs.Register.{Register, records, well-formed?}
 use Rattle.theory.specs.Evaluation.{passes?, step?, join?, op?, evaluate}
-use Rattle.theory.proofs.TransitiveClosure.{look-all}
+use Rattle.theory.proofs.TransitiveClosure.{look-all, closure-same}
 use Rattle.rows.specs.Kept.{Kept}
 use Rattle.rows.proofs.Words.{le-or-lt}
 use Rattle.rows.proofs.Ranges.{some-same, some-none}
@@ -22,7 +22,7 @@ use Rattle.rows.proofs.Rows.{kept-bit}
 use Rattle.relation.specs.Pairs.{pair-at, Made, Clean}
 use Rattle.relation.proofs.Making.{row-le}
 use Rattle.evaluation.specs.Stack.{Stored, Stacked}
-use Rattle.evaluation.proofs.Tables.{closure-same, evaluate-past, step-past}
+use Rattle.evaluation.proofs.Tables.{evaluate-past, step-past}
 
 -- a relation apart from what changed is as it was
 pub stored-kept : {xs ys : List ℕ} {b n w lo hi : ℕ} {f : ℕ → ℕ → Bool} → Stored xs b n w f → Kept lo hi xs ys → (b + n * w ≤ lo) ⊎ (hi ≤ b) → Stored ys b n w f

@@ -1,31 +1,17 @@
--- Equal pairs make equal tables; and no pair of a path leads past the records.
+-- No pair of a path leads past the records.
 -- Assumes nothing.
-use mathlib.Core.Path.{_≡_, ap}
-use mathlib.Core.Bool.{Bool, false, _&&_, _||_}
-use Prim.Native.Nat.{ℕ, zero, suc, _≤_, _<_}
+use mathlib.Core.Path.{_≡_}
+use mathlib.Core.Bool.{Bool, false}
+use Prim.Native.Nat.{ℕ, _≤_}
 use native.Mathlib.Omega.{arith}
 use lib.Dec.{T}
-use Rattle.theory.specs.Lists.{tabulate}
-use Rattle.theory.specs.TransitiveClosure.{Table, table, look, warshall, closure?}
+use Rattle.theory.specs.TransitiveClosure.{look}
 use Rattle.theory.specs.PathExpr.{Direction, forward, reverse, PathExpr, step}
 use Rattle.theory.specs.Register.{edge, Register, records, well-formed?, Holds}
 use Rattle.theory.specs.Evaluation.{step?, evaluate}
 use Rattle.theory.proofs.Tests.{bool-eq}
-use Rattle.theory.proofs.Lists.{tabulate-same}
 use Rattle.theory.proofs.Sheet.{find-edge}
 use Rattle.theory.proofs.Evaluation.{holds-bounds, evaluated}
-
-module _ (n : ℕ) (f g : ℕ → ℕ → Bool) (same : (a b : ℕ) → a < n → b < n → f a b ≡ g a b) where
-  pub table-same : table n f ≡ table n g
-  table-same = tabulate-same (λ a. tabulate (f a) 0 n) (λ a. tabulate (g a) 0 n) 0 n (λ a l h. tabulate-same (f a) (g a) 0 n (λ b k m. same a b (omega arith) (omega arith)))
-
-  warshall-same : (k : ℕ) → warshall n f k ≡ warshall n g k
-  warshall-same zero = table-same
-  warshall-same (suc k) = ap (λ (t : Table). table n (λ a b. look t a b || (look t a k && look t k b))) (warshall-same k)
-
-  pub closure-same : closure? n f ≡ closure? n g
-  unfolding closure?
-  closure-same = warshall-same n
 
 never : (b : Bool) → (T b → ⊥) → b ≡ false
 never b h = bool-eq b false h (λ x. absurd x)

@@ -6,12 +6,13 @@ use mathlib.Core.Bool.{Bool, false, _&&_, _||_, not, and-false}
 use mathlib.Core.List.{List, []}
 use Prim.Native.Nat.{ℕ, zero, suc, _+_, _<_, _≤_}
 use native.Mathlib.Nat.{zero-add, le-of-suc-le-suc, not-suc-le-zero, eq-or-lt-of-le, le-of-eq, le-trans}
+use native.Mathlib.Omega.{arith}
 use lib.Dec.{T, ltb, ltb→lt, nltb→le}
 use lib.ListN.{getD, List·getD-eq-default}
 use Rattle.theory.specs.Lists.{tabulate}
-use Rattle.theory.specs.TransitiveClosure.{TransitiveClosure, single, extend, table, look, warshall, closure?}
+use Rattle.theory.specs.TransitiveClosure.{TransitiveClosure, single, extend, table, look, warshall, closure?, Table}
 use Rattle.theory.proofs.Tests.{and-left, and-right, and-both, or-left, or-right, or-cases, test}
-use Rattle.theory.proofs.Lists.{tabulate-at, length-tabulate}
+use Rattle.theory.proofs.Lists.{tabulate-at, length-tabulate, tabulate-same}
 
 -- ---- walks
 module _ {R : ℕ → ℕ → Type 0} where
@@ -153,3 +154,16 @@ module _ (n : ℕ) (f : ℕ → ℕ → Bool) where
     pub closure-complete : {a b : ℕ} → TransitiveClosure E a b → T (look (closure? n f) a b)
     unfolding closure?
     closure-complete p = complete p
+
+-- ---- equal pairs make equal tables
+module _ (n : ℕ) (f g : ℕ → ℕ → Bool) (same : (a b : ℕ) → a < n → b < n → f a b ≡ g a b) where
+  table-same : table n f ≡ table n g
+  table-same = tabulate-same (λ a. tabulate (f a) 0 n) (λ a. tabulate (g a) 0 n) 0 n (λ a l h. tabulate-same (f a) (g a) 0 n (λ b k m. same a b (omega arith) (omega arith)))
+
+  warshall-same : (k : ℕ) → warshall n f k ≡ warshall n g k
+  warshall-same zero = table-same
+  warshall-same (suc k) = ap (λ (t : Table). table n (λ a b. look t a b || (look t a k && look t k b))) (warshall-same k)
+
+  pub closure-same : closure? n f ≡ closure? n g
+  unfolding closure?
+  closure-same = warshall-same n

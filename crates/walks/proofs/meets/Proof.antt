@@ -1,0 +1,18 @@
+-- `walks::meets` meets its contract.
+-- Assumes nothing.
+use mathlib.Core.Path.{_∙_}
+use borrow.Author.Needs.{needs}
+use Rattle.walks.proofs.meets.Statement.{statement}
+use Rattle.walks.proofs.meets.Tie as tie
+use Rattle.walks.proofs.meets.Reads as reads
+use Rattle.walks.proofs.meets.Lts as lts
+use Rattle.rows.proofs.has.Reads as has-reads
+
+has-requires : tie.Need-has-requires
+has-requires c κs = search needs
+
+returns : tie.Need-returns
+returns c = λ ts l. c .has .ensures ∙ l .met _ _ (c .before .before .pre .1) (c .before .before .pre .2)
+
+pub meets-spec : {M : Type 1} → statement M
+meets-spec = tie.close (tie.spec has-requires returns)

@@ -1,0 +1,57 @@
+-- `walks::small` meets its contract.
+-- Assumes nothing.
+use Rattle.nodes.proofs.Comparing.{decides-yes, decides-no}
+use Rattle.walks.proofs.Rounds.{small-all, small-more}
+use lib.ListN.{length, getD}
+use borrow.Author.Needs.{needs}
+use Prim.Native.Nat.{ℕ, _-_, _≤_, _<_}
+use native.Mathlib.Omega.{arith}
+use Rattle.walks.proofs.small.Statement.{statement}
+use Rattle.walks.proofs.small.Tie as tie
+use Rattle.walks.proofs.small.Reads as reads
+use Rattle.walks.proofs.small.Lts as lts
+
+abbrev Inv-loop : tie.InvT-loop
+Inv-loop best i₀ i = (i ≤ length best) × ((k : ℕ) → k < i → getD best k 0 ≤ 48)
+
+abbrev μ-loop : tie.MeasureT-loop
+μ-loop best i₀ i = length best - i
+
+loop-holds : tie.Need-loop-holds Inv-loop μ-loop
+loop-holds c = (omega arith, λ k l. absurd (omega arith))
+
+mul-if1 : tie.Need-mul-if1 Inv-loop μ-loop
+mul-if1 c = search needs
+
+shared-slice-read-if1 : tie.Need-shared-slice-read-if1 Inv-loop μ-loop
+shared-slice-read-if1 c = search needs
+
+returns : tie.Need-returns Inv-loop μ-loop
+returns c = decides-no (λ h. omega (arith, h (c .before .before .before .loop .i), c .if1 .taken))
+
+add-i : tie.Need-add-i Inv-loop μ-loop
+add-i c = search needs
+
+loop-less : tie.Need-loop-less Inv-loop μ-loop
+loop-less c = search needs
+
+loop-again : tie.Need-loop-again Inv-loop μ-loop
+loop-again c = (omega arith, small-more (c .before .before .before .before .args .best .now) (c .before .before .before .loop .i) (c .before .before .before .loop .inv .1) (c .if1 .left))
+
+returns-2 : tie.Need-returns-2 Inv-loop μ-loop
+returns-2 c = decides-yes (small-all (c .before .before .args .best .now) (c .before .loop .i) (c .loop-test .left) (c .before .loop .inv .1))
+
+pub small-spec : {M : Type 1} → statement M
+small-spec =
+    tie.close
+    (tie.spec
+    Inv-loop
+    μ-loop
+    loop-holds
+    mul-if1
+    shared-slice-read-if1
+    returns
+    add-i
+    loop-less
+    loop-again
+    returns-2)

@@ -17,7 +17,7 @@ use Rattle.fields.proofs.Bools.{onward-got, told-refused}
 use Rattle.sheet.specs.declared.Outcome as sheet·Outcome
 use Rattle.sheet.specs.declared.Outcome.the-variants as sheet·outcome
 use Rattle.sheet.specs.Form.{sheet-form}
-use Rattle.sheet.specs.Table.{table-of, table-in}
+use Rattle.sheet.specs.Table.{tabled?, table-of, table-in}
 use Rattle.sheet.specs.Said.{Reads, Sizes, outcome-said as sheet-said}
 use Rattle.sheet.proofs.Ranges.{accepted-sheet}
 use Rattle.sheet.proofs.Tables.{table-permits}
@@ -31,7 +31,7 @@ use Rattle.register.proofs.Told.{refused-file, accepted-file}
 use Rattle.conform.specs.declared.Failing.{Failing}
 use Rattle.conform.specs.declared.Failing.the-variants.{At, Nowhere}
 use Rattle.conform.specs.Check.{obeying, check-of}
-use Rattle.conform.specs.Said.{failing-said, tabled?, link-tabled?, first-unknown, first-forbidden, first-breach}
+use Rattle.conform.specs.Said.{failing-said, link-tabled?, first-unknown, first-forbidden, first-breach}
 use Rattle.conform.proofs.Search.{same-failing}
 
 -- the search over the kinds, then over the links

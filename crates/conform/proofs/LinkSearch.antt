@@ -21,7 +21,8 @@ use Rattle.register.specs.Form.{register-in}
 use Rattle.register.specs.Ahead.{Accepted, Ahead, SomeAhead, Next}
 use Rattle.register.proofs.AcceptedRegister.{accepted-register, Limits}
 use Rattle.register.proofs.Walk.{none-left, stepped, still-ahead}
-use Rattle.conform.specs.Said.{tabled?, link-tabled?, first-forbidden}
+use Rattle.sheet.specs.Table.{tabled?}
+use Rattle.conform.specs.Said.{link-tabled?, first-forbidden}
 use Rattle.conform.proofs.Search.{fails-here, fails-later}
 
 -- what is known of each link of an accepted file

@@ -5,12 +5,10 @@ use mathlib.Core.List.{List}
 use mathlib.Core.Option.{Option, none, some}
 use Prim.Native.Nat.{ℕ}
 use lib.Dec.{ltb}
-use lib.ListN.{getD}
-use Rattle.bits.specs.Bit.{bitOf}
 use Rattle.theory.specs.Lists.{first-failing}
 use Rattle.theory.specs.Register.{Edge, Register, records, kind}
 use Rattle.theory.specs.Sheet.{or-else}
-use Rattle.sheet.specs.Table.{cell}
+use Rattle.sheet.specs.Table.{tabled?}
 use Rattle.conform.specs.declared.Failing.{Failing}
 use Rattle.conform.specs.declared.Failing.the-variants.{At, Nowhere}
 
@@ -21,10 +19,6 @@ failing-said Nowhere = none
 -- a kind is one of K
 abbrev pub below? : ℕ → ℕ → Bool
 below? K k = ltb k K
-
--- the bit of a triple in a sheet's table
-unfoldable pub tabled? : List ℕ → ℕ → ℕ → ℕ → Bool
-tabled? t a l b = bitOf (getD t (cell a l) 0) b
 
 abbrev pub link-tabled? : List ℕ → Register → Edge → Bool
 link-tabled? t r e = tabled? t (kind r (e .from)) (e .label) (kind r (e .to))

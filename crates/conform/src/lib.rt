@@ -12,7 +12,8 @@ ghost use Rattle.fields.specs.Said.{outcome-said};
 ghost use Rattle.register.specs.Form.{register-in};
 ghost use Rattle.register.specs.Ahead.{Accepted};
 ghost use Rattle.conform.specs.Check.{check-of};
-ghost use Rattle.conform.specs.Said.{failing-said, tabled?, first-unknown, first-forbidden, first-breach};
+ghost use Rattle.sheet.specs.Table.{tabled?};
+ghost use Rattle.conform.specs.Said.{failing-said, first-unknown, first-forbidden, first-breach};
 
 // Where a test fails first, if anywhere.
 enum Failing {

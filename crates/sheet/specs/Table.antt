@@ -1,9 +1,10 @@
 -- The table of permitted kinds, which a reader of sheets hands on: bit `to` of word link * 64 + from is set for each permitted triple.
 -- Assumes nothing.
+use mathlib.Core.Bool.{Bool}
 use mathlib.Core.List.{List, foldl}
 use Prim.Native.Nat.{ℕ, _+_, _*_}
 use lib.ListN.{getD, set, replicate}
-use Rattle.bits.specs.Bit.{withBit}
+use Rattle.bits.specs.Bit.{bitOf, withBit}
 use Rattle.theory.specs.Register.{Edge}
 use Rattle.theory.specs.Sheet.{Sheet}
 use Rattle.fields.specs.Answer.{Answer, got, refused}
@@ -11,6 +12,10 @@ use Rattle.fields.specs.Answer.{Answer, got, refused}
 -- the word of a from kind and a link
 abbrev pub cell : ℕ → ℕ → ℕ
 cell a l = l * 64 + a
+
+-- the bit of a triple in a table
+unfoldable pub tabled? : List ℕ → ℕ → ℕ → ℕ → Bool
+tabled? t a l b = bitOf (getD t (cell a l) 0) b
 
 -- one triple more
 abbrev pub permit : List ℕ → Edge → List ℕ

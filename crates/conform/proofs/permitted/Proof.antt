@@ -1,7 +1,7 @@
 -- `conform::permitted` meets its contract.
 -- Assumes nothing.
 use borrow.Author.Needs.{needs}
-use Rattle.conform.specs.Said.{tabled?}
+use Rattle.sheet.specs.Table.{tabled?}
 use Rattle.conform.proofs.permitted.Statement.{statement}
 use Rattle.conform.proofs.permitted.Tie as tie
 

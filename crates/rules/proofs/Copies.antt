@@ -1,0 +1,149 @@
+-- A copy of a node at the end has the node's triple; a run of copies adds a part.
+-- Assumes nothing.
+use mathlib.Core.Path.{_≡_, sym, ap, _∙_}
+use mathlib.Core.Logic.{⊎-elim}
+use mathlib.Core.List.{List, [], _∷_}
+use Prim.Native.Nat.{ℕ, _+_, _<_, _≤_}
+use native.Mathlib.Nat.{eq-or-lt-of-le}
+use native.Mathlib.Omega.{arith}
+use lib.ListN.{length, set}
+use Rattle.theory.specs.Lists.{adjoin-all}
+use Rattle.theory.specs.PathExpr.{closure}
+use Rattle.theory.specs.Inference.{Triple, triple?}
+use Rattle.rows.specs.Kept.{Kept}
+use Rattle.rows.proofs.Words.{le-or-lt, kept-set}
+use Rattle.nodes.specs.declared.Node.{Node}
+use Rattle.nodes.specs.Table.{word-of, InRange, Loaded, node-at}
+use Rattle.nodes.specs.Paths.{original, triple-of, Good, Has}
+use Rattle.nodes.specs.Parts.{part-of, Candidate, Added}
+use Rattle.nodes.proofs.Words.{node-new}
+use Rattle.nodes.proofs.Triples.{triple-two, triple-from, triple-to, triple-kept, path-step, path-kept}
+use Rattle.nodes.proofs.Codes.{step-numbered, closure-numbered}
+use Rattle.nodes.proofs.Nodes.{known, step-path, kept-path, left-less, right-less}
+use Rattle.nodes.proofs.Growing.{part-next, part-over}
+use Rattle.rules.specs.Outcome.{Done}
+use Rattle.rules.specs.Asks.{Room, part, AddCopies}
+use Rattle.rules.proofs.Grows.{Growing, grows-start, grows-room, grows-over, grows-turn, grows-many, one-added}
+
+-- ---- one copy
+module _ {qs ws : List ℕ} {s count i : ℕ} {n : Node} (h : Room qs ws s count) (b : i < s + count) (l : Loaded ws i n) where
+  abbrev u : ℕ
+  u = s + count
+
+  abbrev ws′ : List ℕ
+  ws′ = set ws (s + count) (word-of n)
+
+  in-table : s + count < length ws
+  in-table = omega (arith, h .room, h .few)
+
+  has : Has qs ws (s + count) i
+  has = record { in-use = b; in-table = omega (arith, in-table); sound = h .sound }
+
+  in-range : InRange n
+  in-range =
+      record {
+        made-fits = omega (arith, known has n (l .is));
+        left-fits = l .left-small;
+        right-fits = l .right-small;
+        size-fits = l .size-small;
+        from-fits = l .from-small;
+        to-fits = l .to-small;
+      }
+
+  new : node-at ws′ u ≡ n
+  new = node-new ws u n in-table in-range
+
+  kept : Kept u (u + 1) ws ws′
+  kept = kept-set ws u (word-of n)
+
+  -- equal ends and equal paths
+  whole : triple-of qs ws′ u .path ≡ triple-of qs ws i .path → triple-of qs ws′ u ≡ triple-of qs ws i
+  whole p =
+      let a : triple-of qs ws′ u .from ≡ triple-of qs ws i .from = triple-from qs ws′ u ∙ ap (λ (m : Node). m .from) (new ∙ l .is) ∙ sym (triple-from qs ws i) in
+      let b : triple-of qs ws′ u .to ≡ triple-of qs ws i .to = triple-to qs ws′ u ∙ ap (λ (m : Node). m .to) (new ∙ l .is) ∙ sym (triple-to qs ws i) in
+      λ j. record { from = a j; path = p j; to = b j }
+
+  two-same : 128 ≤ n .made → ¬ (n .made ≡ 133) → triple-of qs ws′ u ≡ triple-of qs ws i
+  two-same k m =
+      let e = l .is in
+      let a : n .left < i = left-less has n e k m in
+      let c : n .right < i = right-less has n e k m in
+      triple-two qs ws′ u (rw new (omega (arith, b))) (rw new (omega (arith, b)))
+      ∙ rw (new, triple-kept kept qs (n .left) (omega (arith, b)), triple-kept kept qs (n .right) (omega (arith, b))) (rw e (sym (triple-two qs ws i (rw e at a) (rw e at c))))
+
+  step-same : n .made < 128 → triple-of qs ws′ u ≡ triple-of qs ws i
+  step-same k =
+      let d = step-numbered (n .made) k in
+      whole (path-step qs ws′ u (d .0) (d .1) (rw new (d .2)) ∙ sym (step-path has n (l .is) (d .0) (d .1) (d .2)))
+
+  kept-same : n .made ≡ 133 → triple-of qs ws′ u ≡ triple-of qs ws i
+  kept-same m = whole (path-kept qs ws′ u (rw new (closure-numbered (n .made) m)) ∙ ap (λ (x : Node). closure (original qs (x .left) (x .right))) new ∙ sym (kept-path has n (l .is) m))
+
+  copy-triple : triple-of qs ws′ u ≡ triple-of qs ws i
+  copy-triple =
+      ⊎-elim
+      (λ (k : 128 ≤ n .made). ⊎-elim kept-same (λ (m : n .made < 133). two-same k (λ z. omega arith)) (eq-or-lt-of-le (omega (arith, known has n (l .is)))))
+      step-same
+      (le-or-lt 128 (n .made))
+
+  good : Good qs ws i
+  good = h .sound .good i b
+
+  pub copy-candidate : Candidate qs ws s count n
+  copy-candidate =
+      let e = l .is in
+      record {
+        in-table = in-table;
+        in-range = in-range;
+        sound = h .sound;
+        good = record {
+          known = rw (new, e) (good .known);
+          sized = rw (copy-triple, new, e) (good .sized);
+          two = rw new (λ a c. let t = good .two (rw e at a) (rw e at c) in record { left-below = rw (new, e) (omega (arith, b, t .left-below)); right-below = rw (new, e) (omega (arith, b, t .right-below)) });
+          kept = rw (new, e) (good .kept);
+        };
+      }
+
+  copy-added : {zs : List ℕ} {r : ℕ} → Added qs ws zs s count n r → Done qs ws zs (s + count) s r (adjoin-all triple? (part-of qs ws s count) (triple-of qs ws i ∷ []))
+  copy-added a = one-added (triple-of qs ws i) (triple-of qs ws i ∷ []) h a (rw (a .words-are) copy-triple) (λ j. triple-of qs ws i ∷ [])
+
+-- ---- a run of copies
+pub record CopiesGrowing (qs ws₀ ws : List ℕ) (s start count q e j : ℕ) : Type 0 where
+  pub to : j ≤ e
+  pub grows : Growing qs ws₀ ws (s + start) s count (adjoin-all triple? (part-of qs ws₀ s start) (part qs ws₀ q e)) (part qs ws₀ j e)
+
+module _ {qs ws₀ : List ℕ} {s start q e : ℕ} (h : AddCopies qs ws₀ s start q e) where
+  pub copies-start : CopiesGrowing qs ws₀ ws₀ s start start q e q
+  copies-start = record { to = h .lies .ordered; grows = grows-start (part qs ws₀ q e) (h .room) }
+
+  module _ {ws : List ℕ} {count j : ℕ} (g : CopiesGrowing qs ws₀ ws s start count q e j) where
+    pub copies-over : e ≤ j → Done qs ws₀ ws (s + start) s count (adjoin-all triple? (part-of qs ws₀ s start) (part qs ws₀ q e))
+    copies-over l = grows-over (g .grows) (part-over qs ws₀ j e l)
+
+    module _ (l : j < e) where
+      room : Room qs ws s count
+      room = grows-room (g .grows) (h .room)
+
+      below : j < s + count
+      below = omega (arith, h .lies .below, g .grows .more)
+
+      pub copies-load : j < length ws
+      copies-load = omega (arith, room .room, room .few, below)
+
+      module _ {n : Node} (x : Loaded ws j n) where
+        pub copies-asks : Candidate qs ws s count n
+        copies-asks = copy-candidate room below x
+
+        module _ {ws′ : List ℕ} {r : ℕ} (a : Added qs ws ws′ s count n r) where
+          here : triple-of qs ws j ∷ [] ≡ triple-of qs ws₀ j ∷ []
+          here = ap (λ (t : Triple). t ∷ []) (triple-kept (g .grows .kept) qs j (omega (arith, h .lies .below)))
+
+          pub copies-turn : r ≤ 128 → CopiesGrowing qs ws₀ ws′ s start r q e (j + 1)
+          copies-turn m =
+              record {
+                to = omega arith;
+                grows = grows-turn (g .grows) (triple-of qs ws j ∷ []) (triple-of qs ws₀ j ∷ []) (part qs ws₀ (j + 1) e) (copy-added room below x a) here (part-next qs ws₀ j e l) m;
+              }
+
+          pub copies-many : 128 < r → Done qs ws₀ ws′ (s + start) s r (adjoin-all triple? (part-of qs ws₀ s start) (part qs ws₀ q e))
+          copies-many m = grows-many (g .grows) (triple-of qs ws j ∷ []) (triple-of qs ws₀ j ∷ []) (part qs ws₀ (j + 1) e) (copy-added room below x a) here (part-next qs ws₀ j e l) m

@@ -1,0 +1,16 @@
+-- two lists under an operator
+pub mod TwoLists
+-- paths of up to 48 symbols
+pub mod Short
+-- a part that grows
+pub mod Grows
+-- pairs
+pub mod Pairs
+pub mod Rows
+-- the rules
+pub mod Ruling
+pub mod PairRule
+pub mod Copies
+pub mod Unions
+pub mod Steps
+pub mod SheetSteps

@@ -1,0 +1,121 @@
+-- Two nodes of the table under an operator: the node of the pair stands for what their triples give.
+-- Assumes nothing.
+use mathlib.Core.Path.{_≡_, sym, ap, _∙_}
+use mathlib.Core.Bool.{Bool, true, false}
+use mathlib.Core.List.{List}
+use Prim.Native.Nat.{ℕ, _+_, _<_, _≤_}
+use native.Mathlib.Omega.{arith}
+use lib.ListN.{length, set}
+use borrow.Author.Tests.{leb-true}
+use Rattle.theory.specs.Lists.{adjoin-all}
+use Rattle.theory.specs.PathExpr.{size}
+use Rattle.theory.specs.Inference.{Triple, triple?}
+use Rattle.theory.specs.Narrowing.{short?}
+use Rattle.rows.specs.Kept.{Kept}
+use Rattle.rows.proofs.Words.{kept-set}
+use Rattle.nodes.specs.declared.Node.{Node}
+use Rattle.nodes.specs.Table.{word-of, InRange, Loaded, node-at}
+use Rattle.nodes.specs.Paths.{triple-of, Sound}
+use Rattle.nodes.specs.Parts.{part-of, Candidate, Added}
+use Rattle.nodes.proofs.Words.{node-new}
+use Rattle.nodes.proofs.Triples.{triple-two, triple-from, triple-to, triple-kept}
+use Rattle.rules.specs.Two.{Paired, fitting, giving, ends-of, pair-node, pair-short?}
+use Rattle.rules.specs.Outcome.{Done}
+use Rattle.rules.specs.Asks.{pair-of, AddPair}
+use Rattle.rules.proofs.TwoLists.{two-one, giving-size, node-gives, fitting-ends, giving-small}
+use Rattle.rules.proofs.Short.{short-guard}
+use Rattle.rules.proofs.Grows.{none-added, one-added}
+
+-- ---- a loaded node has its triple's ends and size
+module _ (qs : List ℕ) {ws : List ℕ} {i : ℕ} {x : Node} (l : Loaded ws i x) where
+  from-is : x .from ≡ triple-of qs ws i .from
+  from-is = ap (λ (m : Node). m .from) (l .is) ∙ sym (triple-from qs ws i)
+
+  to-is : x .to ≡ triple-of qs ws i .to
+  to-is = ap (λ (m : Node). m .to) (l .is) ∙ sym (triple-to qs ws i)
+
+  size-is : {u : ℕ} → Sound qs ws u → i < u → size (triple-of qs ws i .path) ≡ x .size
+  size-is h b = h .good i b .sized ∙ ap (λ (m : Node). m .size) (sym (l .is))
+
+-- ---- two loaded nodes
+module _ {qs ws : List ℕ} {made u i j : ℕ} {x y : Node} (h : Sound qs ws u) (p : Paired made) (bi : i < u) (bj : j < u) (lx : Loaded ws i x) (ly : Loaded ws j y) where
+  abbrev X : Triple
+  X = triple-of qs ws i
+
+  abbrev Y : Triple
+  Y = triple-of qs ws j
+
+  fits-is : fitting made (ends-of x) (ends-of y) ≡ fitting made X Y
+  fits-is = fitting-ends made x y X Y (from-is qs lx) (to-is qs lx) (from-is qs ly) (to-is qs ly)
+
+  giving-is : size (giving made X Y .path) ≡ x .size + y .size + 1
+  giving-is = giving-size made p X Y ∙ omega (arith, size-is qs lx h bi, size-is qs ly h bj)
+
+  pub pair-short-is : pair-short? made x y ≡ short? (pair-of qs ws made i j)
+  pair-short-is = rw (two-one made p X Y, fits-is, ← giving-is) (short-guard (fitting made X Y) (giving made X Y))
+
+-- ---- the pair's node at the end
+module _ {qs ws : List ℕ} {made s count i j : ℕ} {x y : Node} (h : AddPair qs ws made s count i j) (lx : Loaded ws i x) (ly : Loaded ws j y) {r : Bool} (d : r ≡ fitting made (ends-of x) (ends-of y)) where
+  abbrev A : Triple
+  A = triple-of qs ws i
+
+  abbrev B : Triple
+  B = triple-of qs ws j
+
+  fit : r ≡ fitting made A B
+  fit = d ∙ fits-is (h .room .sound) (h .paired) (h .i-below) (h .j-below) lx ly
+
+  pub pair-skipped : r ≡ false → Done qs ws ws (s + count) s count (adjoin-all triple? (part-of qs ws s count) (pair-of qs ws made i j))
+  pair-skipped f = none-added (pair-of qs ws made i j) (h .room) (two-one made (h .paired) A B ∙ rw (sym fit ∙ f))
+
+  module _ (f : r ≡ true) where
+    abbrev n : Node
+    n = pair-node made i j x y
+
+    abbrev ws′ : List ℕ
+    ws′ = set ws (s + count) (word-of n)
+
+    short : x .size + y .size + 1 ≤ 48
+    short = leb-true (x .size + y .size + 1) 48 (rw (sym d ∙ f) at (pair-short-is (h .room .sound) (h .paired) (h .i-below) (h .j-below) lx ly ∙ h .short))
+
+    in-range : InRange n
+    in-range =
+        record {
+          made-fits = omega (arith, h .paired .most);
+          left-fits = omega (arith, h .i-below, h .room .numbers, h .room .few);
+          right-fits = omega (arith, h .j-below, h .room .numbers, h .room .few);
+          size-fits = omega (arith, short);
+          from-fits = lx .from-small;
+          to-fits = giving-small made (ends-of x) (ends-of y) (lx .to-small) (ly .to-small);
+        }
+
+    in-table : s + count < length ws
+    in-table = omega (arith, h .room .room, h .room .few)
+
+    new : node-at ws′ (s + count) ≡ n
+    new = node-new ws (s + count) n in-table in-range
+
+    kept : Kept (s + count) (s + count + 1) ws ws′
+    kept = kept-set ws (s + count) (word-of n)
+
+    pair-triple : triple-of qs ws′ (s + count) ≡ giving made A B
+    pair-triple =
+        triple-two qs ws′ (s + count) (rw new (h .i-below)) (rw new (h .j-below))
+        ∙ rw (new, triple-kept kept qs i (h .i-below), triple-kept kept qs j (h .j-below)) (node-gives made (h .paired) qs i j x y A B (from-is qs lx) (to-is qs lx) (to-is qs ly))
+
+    pub pair-candidate : Candidate qs ws s count (pair-node made i j x y)
+    pair-candidate =
+        record {
+          in-table = in-table;
+          in-range = in-range;
+          sound = h .room .sound;
+          good = record {
+            known = rw new (omega (arith, h .paired .most));
+            sized = rw (pair-triple, new) (giving-is (h .room .sound) (h .paired) (h .i-below) (h .j-below) lx ly);
+            two = λ a b. record { left-below = rw new (h .i-below); right-below = rw new (h .j-below) };
+            kept = rw new (λ a. absurd (omega (arith, h .paired .most)));
+          };
+        }
+
+    pub pair-added : {zs : List ℕ} {c : ℕ} → Added qs ws zs s count (pair-node made i j x y) c → Done qs ws zs (s + count) s c (adjoin-all triple? (part-of qs ws s count) (pair-of qs ws made i j))
+    pair-added a = one-added (giving made A B) (pair-of qs ws made i j) (h .room) a (rw (a .words-are) pair-triple) (two-one made (h .paired) A B ∙ rw (sym fit ∙ f))

@@ -1,0 +1,157 @@
+-- The loops over pairs of nodes: sizes first, then the triples.
+-- Assumes nothing.
+use mathlib.Core.Path.{_≡_, refl, sym, ap, _∙_}
+use mathlib.Core.Bool.{Bool, true, false, _&&_}
+use mathlib.Core.List.{List, [], _∷_, _++_}
+use Prim.Native.Nat.{ℕ, _+_, _-_, _<_, _≤_}
+use native.Mathlib.Omega.{arith}
+use lib.ListN.{getD}
+use Rattle.theory.specs.Lists.{adjoin-all}
+use Rattle.theory.specs.PathExpr.{any}
+use Rattle.theory.specs.Inference.{Triple, triple?, of-join}
+use Rattle.theory.specs.Growth.{no-triple, grown}
+use Rattle.theory.specs.Narrowing.{short?}
+use Rattle.theory.proofs.Lists.{tabulate-at}
+use Rattle.fields.specs.Symbols.{symbol-numbered}
+use Rattle.nodes.specs.declared.Node.{Node}
+use Rattle.nodes.specs.Table.{Loaded}
+use Rattle.nodes.specs.Paths.{triple-of}
+use Rattle.nodes.specs.Parts.{part-of}
+use Rattle.nodes.proofs.Triples.{triple-kept}
+use Rattle.nodes.proofs.Growing.{part-next, part-over}
+use Rattle.rules.specs.Two.{of-two, Paired, pair-short?}
+use Rattle.rules.specs.Outcome.{Done}
+use Rattle.rules.specs.Asks.{Lies, part, pair-of, row-of, rows-of, Pairing, AddPair, AddRow}
+use Rattle.rules.proofs.TwoLists.{two-join, two-next, two-row, two-none, row-none}
+use Rattle.rules.proofs.Short.{short-append, short-left, short-right}
+use Rattle.rules.proofs.Pairs.{pair-short-is}
+use Rattle.rules.proofs.Grows.{Growing, grows-start, grows-room, grows-over, grows-turn, grows-many}
+
+-- ---- the next of a row, and of the rows
+module _ (qs ws : List ℕ) (made : ℕ) (h : Paired made) where
+  row-next : (i j e : ℕ) → j < e → row-of qs ws made i j e ≡ pair-of qs ws made i j ++ row-of qs ws made i (j + 1) e
+  row-next i j e l = ap (of-two made (triple-of qs ws i ∷ [])) (part-next qs ws j e l) ∙ two-row made h (triple-of qs ws i) (triple-of qs ws j) (part qs ws (j + 1) e)
+
+  row-end : (i j e : ℕ) → e ≤ j → row-of qs ws made i j e ≡ []
+  row-end i j e l = ap (of-two made (triple-of qs ws i ∷ [])) (part-over qs ws j e l) ∙ row-none made h (triple-of qs ws i)
+
+  module _ (i d q e : ℕ) where
+    pub rows-next : i < d → rows-of qs ws made i d q e ≡ row-of qs ws made i q e ++ rows-of qs ws made (i + 1) d q e
+    rows-next l = ap (λ (xs : List Triple). of-two made xs (part qs ws q e)) (part-next qs ws i d l) ∙ two-next made h (triple-of qs ws i) (part qs ws (i + 1) d) (part qs ws q e)
+
+    pub rows-end : d ≤ i → rows-of qs ws made i d q e ≡ []
+    rows-end l = ap (λ (xs : List Triple). of-two made xs (part qs ws q e)) (part-over qs ws i d l) ∙ two-none made h (part qs ws q e)
+
+-- ---- sizes
+split-fails : (all here later : List Triple) {r : Bool} → all ≡ here ++ later → r ≡ short? here → r ≡ false → short? all ≡ false
+split-fails all here later e d f = ap short? e ∙ short-append here later ∙ ap (λ (b : Bool). b && short? later) (sym d ∙ f)
+
+split-goes : (all here later : List Triple) {r : Bool} → all ≡ here ++ later → r ≡ short? here → r ≡ true → short? all ≡ short? later
+split-goes all here later e d f = ap short? e ∙ short-append here later ∙ ap (λ (b : Bool). b && short? later) (sym d ∙ f)
+
+-- all is short if and only if what is left is
+pub record RowLeft (qs ws : List ℕ) (made i q e j : ℕ) : Type 0 where
+  pub from : q ≤ j
+  pub to : j ≤ e
+  pub left : short? (row-of qs ws made i q e) ≡ short? (row-of qs ws made i j e)
+
+pub row-left : (qs ws : List ℕ) (made i q e : ℕ) → q ≤ e → RowLeft qs ws made i q e q
+row-left qs ws made i q e l = record { from = omega arith; to = l; left = refl }
+
+module _ {qs ws : List ℕ} {made s i q e j : ℕ} (h : Pairing qs ws made s) (g : RowLeft qs ws made i q e j) where
+  pub row-shorter : e ≤ j → true ≡ short? (row-of qs ws made i q e)
+  row-shorter l = sym (g .left ∙ ap short? (row-end qs ws made (h .paired) i j e l))
+
+  module _ (b : i < s) (p : Lies s q e) (l : j < e) {x y : Node} (lx : Loaded ws i x) (ly : Loaded ws j y) {r : Bool} (d : r ≡ pair-short? made x y) where
+    is-short : r ≡ short? (pair-of qs ws made i j)
+    is-short = d ∙ pair-short-is (h .sound) (h .paired) b (omega (arith, p .below)) lx ly
+
+    pub row-long : r ≡ false → false ≡ short? (row-of qs ws made i q e)
+    row-long f = sym (g .left ∙ split-fails (row-of qs ws made i j e) (pair-of qs ws made i j) (row-of qs ws made i (j + 1) e) (row-next qs ws made (h .paired) i j e l) is-short f)
+
+    pub row-goes : r ≡ true → RowLeft qs ws made i q e (j + 1)
+    row-goes f =
+        record {
+          from = omega (arith, g .from);
+          to = omega arith;
+          left = g .left ∙ split-goes (row-of qs ws made i j e) (pair-of qs ws made i j) (row-of qs ws made i (j + 1) e) (row-next qs ws made (h .paired) i j e l) is-short f;
+        }
+
+pub record RowsLeft (qs ws : List ℕ) (made p d q e i : ℕ) : Type 0 where
+  pub from : p ≤ i
+  pub to : i ≤ d
+  pub left : short? (rows-of qs ws made p d q e) ≡ short? (rows-of qs ws made i d q e)
+
+pub rows-left : (qs ws : List ℕ) (made p d q e : ℕ) → p ≤ d → RowsLeft qs ws made p d q e p
+rows-left qs ws made p d q e l = record { from = omega arith; to = l; left = refl }
+
+module _ {qs ws : List ℕ} {made s p d q e i : ℕ} (h : Pairing qs ws made s) (g : RowsLeft qs ws made p d q e i) where
+  pub rows-shorter : d ≤ i → true ≡ short? (rows-of qs ws made p d q e)
+  rows-shorter l = sym (g .left ∙ ap short? (rows-end qs ws made (h .paired) i d q e l))
+
+  module _ (l : i < d) {r : Bool} (k : r ≡ short? (row-of qs ws made i q e)) where
+    pub rows-long : r ≡ false → false ≡ short? (rows-of qs ws made p d q e)
+    rows-long f = sym (g .left ∙ split-fails (rows-of qs ws made i d q e) (row-of qs ws made i q e) (rows-of qs ws made (i + 1) d q e) (rows-next qs ws made (h .paired) i d q e l) k f)
+
+    pub rows-go : r ≡ true → RowsLeft qs ws made p d q e (i + 1)
+    rows-go f =
+        record {
+          from = omega (arith, g .from);
+          to = omega arith;
+          left = g .left ∙ split-goes (rows-of qs ws made i d q e) (row-of qs ws made i q e) (rows-of qs ws made (i + 1) d q e) (rows-next qs ws made (h .paired) i d q e l) k f;
+        }
+
+-- ---- the triples of a row
+pub record RowGrowing (qs ws₀ ws : List ℕ) (made s start count i q e j : ℕ) : Type 0 where
+  pub to : j ≤ e
+  pub grows : Growing qs ws₀ ws (s + start) s count (adjoin-all triple? (part-of qs ws₀ s start) (row-of qs ws₀ made i q e)) (row-of qs ws₀ made i j e)
+  pub short : short? (row-of qs ws₀ made i j e) ≡ true
+
+module _ {qs ws₀ : List ℕ} {made s start i q e : ℕ} (h : AddRow qs ws₀ made s start i q e) where
+  pub row-start : RowGrowing qs ws₀ ws₀ made s start start i q e q
+  row-start = record { to = h .lies .ordered; grows = grows-start (row-of qs ws₀ made i q e) (h .room); short = h .short }
+
+  module _ {ws : List ℕ} {count j : ℕ} (g : RowGrowing qs ws₀ ws made s start count i q e j) where
+    pub row-over : e ≤ j → Done qs ws₀ ws (s + start) s count (adjoin-all triple? (part-of qs ws₀ s start) (row-of qs ws₀ made i q e))
+    row-over l = grows-over (g .grows) (row-end qs ws₀ made (h .paired) i j e l)
+
+    module _ (l : j < e) where
+      next : row-of qs ws₀ made i j e ≡ pair-of qs ws₀ made i j ++ row-of qs ws₀ made i (j + 1) e
+      next = row-next qs ws₀ made (h .paired) i j e l
+
+      split : short? (pair-of qs ws₀ made i j ++ row-of qs ws₀ made i (j + 1) e) ≡ true
+      split = ap short? (sym next) ∙ g .short
+
+      here : pair-of qs ws made i j ≡ pair-of qs ws₀ made i j
+      here = rw (triple-kept (g .grows .kept) qs i (h .i-below), triple-kept (g .grows .kept) qs j (omega (arith, h .lies .below)))
+
+      pub row-asks : AddPair qs ws made s count i j
+      row-asks =
+          record {
+            paired = h .paired;
+            room = grows-room (g .grows) (h .room);
+            i-below = omega (arith, h .i-below, g .grows .more);
+            j-below = omega (arith, h .lies .below, g .grows .more);
+            short = ap short? here ∙ short-left (pair-of qs ws₀ made i j) (row-of qs ws₀ made i (j + 1) e) split;
+          }
+
+      module _ {ws′ : List ℕ} {r : ℕ} (d : Done qs ws ws′ (s + count) s r (adjoin-all triple? (part-of qs ws s count) (pair-of qs ws made i j))) where
+        pub row-turn : r ≤ 128 → RowGrowing qs ws₀ ws′ made s start r i q e (j + 1)
+        row-turn m =
+            record {
+              to = omega arith;
+              grows = grows-turn (g .grows) (pair-of qs ws made i j) (pair-of qs ws₀ made i j) (row-of qs ws₀ made i (j + 1) e) d here next m;
+              short = short-right (pair-of qs ws₀ made i j) (row-of qs ws₀ made i (j + 1) e) split;
+            }
+
+        pub row-many : 128 < r → Done qs ws₀ ws′ (s + start) s r (adjoin-all triple? (part-of qs ws₀ s start) (row-of qs ws₀ made i q e))
+        row-many m = grows-many (g .grows) (pair-of qs ws made i j) (pair-of qs ws₀ made i j) (row-of qs ws₀ made i (j + 1) e) d here next m
+
+-- ---- a row of joins is one turn of the growth of a closure's walks
+pub row-grown : (qs ws : List ℕ) (s count i q e : ℕ) → s ≤ i → i < s + count
+    → adjoin-all triple? (part-of qs ws s count) (row-of qs ws 128 i q e) ≡ grown (part qs ws q e) (part-of qs ws s count) (i - s)
+unfolding part-of symbol-numbered
+row-grown qs ws s count i q e a b =
+    let z : s + (i - s) ≡ i = omega arith in
+    let t : getD (part-of qs ws s count) (i - s) no-triple ≡ triple-of qs ws i = tabulate-at (triple-of qs ws) s count (i - s) no-triple (omega arith) ∙ ap (triple-of qs ws) z in
+    ap (adjoin-all triple? (part-of qs ws s count)) (two-join 128 any (triple-of qs ws i ∷ []) (part qs ws q e) refl ∙ ap (λ (x : Triple). of-join (x ∷ []) (part qs ws q e)) (sym t))

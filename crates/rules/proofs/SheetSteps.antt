@@ -1,0 +1,61 @@
+-- By a sheet's own table the rule of a step has the triples of the sheet's step.
+-- Assumes nothing.
+use mathlib.Core.Path.{_≡_, refl, sym, ap, ap₂, _∙_}
+use mathlib.Core.Bool.{Bool, true, false, cond}
+use mathlib.Core.List.{List, [], _∷_, _++_, List·Memᴰ as In, List·Memᴰ·head as here, List·Memᴰ·tail as there}
+use Prim.Native.Nat.{ℕ, _-_, _<_}
+use native.Mathlib.Omega.{arith}
+use lib.Dec.{T, ltb}
+use Rattle.theory.specs.Lists.{guard, concat-map, range}
+use Rattle.theory.specs.PathExpr.{Direction, forward, reverse, PathExpr, s-step}
+use Rattle.theory.specs.Inference.{Triple, triple, between, stepped?, of-step}
+use Rattle.theory.specs.Sheet.{Sheet, sheet?}
+use Rattle.theory.proofs.Lists.{in-range}
+use Rattle.theory.proofs.Sheet.{kinds-fit}
+use Rattle.fields.specs.Symbols.{symbol-numbered}
+use Rattle.sheet.specs.Table.{tabled?, table-of}
+use Rattle.sheet.proofs.Tables.{table-permits}
+use Rattle.rules.specs.Marks.{direction-of, link-of, step-of, marked?, of-marks, Tabled}
+use Rattle.rules.proofs.Steps.{code-step}
+
+concat-same : {A B : Type 0} (f g : A → List B) (xs : List A) → ((x : A) → In x xs → f x ≡ g x) → concat-map f xs ≡ concat-map g xs
+concat-same f g [] h = refl
+concat-same f g (x ∷ xs) h = ap₂ (λ a b. a ++ b) (h x (here refl)) (concat-same f g xs (λ y m. h y (there m)))
+
+between-same : (n : ℕ) (p : PathExpr) (f g : ℕ → ℕ → Bool) → ((a b : ℕ) → a < n → b < n → f a b ≡ g a b) → between n p f ≡ between n p g
+between-same n p f g h =
+    concat-same (row f) (row g) (range n)
+    (λ a m. concat-same (one f a) (one g a) (range n) (λ b k. ap (λ (t : Bool). guard t (triple a p b ∷ [])) (h a b (in-range n m) (in-range n k))))
+  where
+    one : (ℕ → ℕ → Bool) → ℕ → ℕ → List Triple
+    one t a b = guard (t a b) (triple a p b ∷ [])
+
+    row : (ℕ → ℕ → Bool) → ℕ → List Triple
+    row t a = concat-map (λ b. guard (t a b) (triple a p b ∷ [])) (range n)
+
+pub tabled-sheet : (S : Sheet) → T (sheet? S) → Tabled (table-of (S .permitted)) S
+unfolding tabled?
+tabled-sheet S ok = record { bits = λ a l b h. table-permits S ok a l b h; kinds = kinds-fit S ok }
+
+module _ {t : List ℕ} {S : Sheet} (h : Tabled t S) where
+  marked-is : (c a b : ℕ) → a < 64 → b < 64 → marked? t c a b ≡ stepped? S (direction-of c) (link-of c) a b
+  unfolding marked?
+  marked-is c a b ha hb = go (ltb c 64)
+    where
+      go : (k : Bool) → cond k (tabled? t a c b) (tabled? t b (c - 64) a) ≡ stepped? S (cond k forward reverse) (cond k c (c - 64)) a b
+      go true = h .bits a c b ha
+      go false = h .bits b (c - 64) a hb
+
+  marks-are : (c : ℕ) → of-marks t (S .kinds) c ≡ of-step S (direction-of c) (link-of c)
+  unfolding of-marks
+  marks-are c =
+      between-same (S .kinds) (step-of c) (marked? t c) (stepped? S (direction-of c) (link-of c))
+      (λ a b ha hb. marked-is c a b (omega (arith, h .kinds)) (omega (arith, h .kinds)))
+
+  -- by the symbol of the code
+  pub marks-step : (c : ℕ) (d : Direction) (l : ℕ) → c < 128 → symbol-numbered c 0 ≡ s-step d l → of-marks t (S .kinds) c ≡ of-step S d l
+  marks-step c d l b e =
+      let q : s-step (direction-of c) (link-of c) ≡ s-step d l = sym (code-step c b) ∙ e in
+      let x : direction-of c ≡ d = cc in
+      let y : link-of c ≡ l = cc in
+      marks-are c ∙ ap₂ (of-step S) x y

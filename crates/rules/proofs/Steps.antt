@@ -1,0 +1,185 @@
+-- The rule of a step: the kinds that a table permits, from kind by from kind.
+-- Assumes nothing.
+use mathlib.Core.Path.{_≡_, refl, sym, ap, _∙_, subst}
+use mathlib.Core.Bool.{Bool, true, false}
+use mathlib.Core.Logic.{⊎-elim}
+use mathlib.Core.List.{List, [], _++_}
+use Prim.Native.Nat.{ℕ, suc, _+_, _-_, _<_, _≤_}
+use native.Mathlib.Numerals.{add-one}
+use native.Mathlib.Omega.{arith}
+use lib.Dec.{T, le→leb}
+use lib.ListN.{length, set}
+use borrow.Author.Tests.{lt-ltb, le-ltb}
+use Rattle.theory.specs.Lists.{adjoin-all, concat-map, tabulate}
+use Rattle.theory.specs.PathExpr.{s-step, size}
+use Rattle.theory.specs.Inference.{Triple, triple, triple?, distinct}
+use Rattle.theory.specs.Narrowing.{short?}
+use Rattle.theory.proofs.Tests.{to-true}
+use Rattle.theory.proofs.Lists.{in-every}
+use Rattle.theory.proofs.Triples.{in-between}
+use Rattle.fields.specs.Symbols.{symbol-numbered}
+use Rattle.rows.proofs.Words.{le-or-lt}
+use Rattle.nodes.specs.declared.Node.{Node}
+use Rattle.nodes.specs.Table.{word-of, InRange, node-at}
+use Rattle.nodes.specs.Paths.{triple-of}
+use Rattle.nodes.specs.Parts.{part-of, Candidate, Added}
+use Rattle.nodes.proofs.Words.{node-new}
+use Rattle.nodes.proofs.Triples.{triple-from, triple-to, path-step}
+use Rattle.rules.specs.declared.Part.the-variants.{Made, Many}
+use Rattle.rules.specs.Outcome.{Ruled, Done}
+use Rattle.rules.specs.Marks.{direction-of, link-of, step-of, marked?, of-marks, mark-of, marks-of, AddMark, AddMarks}
+use Rattle.rules.proofs.Short.{short-path?, short-distinct}
+use Rattle.rules.proofs.Grows.{Growing, grows-start, rule-starts, grows-room, grows-over, grows-turn, grows-many, none-added, one-added}
+use Rattle.rules.proofs.Ruling.{ruled-many, ruled-made}
+
+pub code-step : (c : ℕ) → c < 128 → symbol-numbered c 0 ≡ s-step (direction-of c) (link-of c)
+unfolding symbol-numbered
+code-step c h = ⊎-elim (λ l. rw (le-ltb c 64 l, lt-ltb c 128 h)) (λ l. rw (lt-ltb c 64 l)) (le-or-lt 64 c)
+
+-- ---- one triple
+abbrev pub step-node : ℕ → ℕ → ℕ → Node
+step-node c a b = record { made = c; left = 0; right = 0; size = 1; from = a; to = b }
+
+module _ {qs ws : List ℕ} {c s count a b : ℕ} (h : AddMark qs ws c s count a b) where
+  abbrev n : Node
+  n = step-node c a b
+
+  abbrev ws′ : List ℕ
+  ws′ = set ws (s + count) (word-of n)
+
+  in-range : InRange n
+  in-range =
+      record {
+        made-fits = omega (arith, h .code);
+        left-fits = omega arith;
+        right-fits = omega arith;
+        size-fits = omega arith;
+        from-fits = h .from-kind;
+        to-fits = h .to-kind;
+      }
+
+  in-table : s + count < length ws
+  in-table = omega (arith, h .room .room, h .room .few)
+
+  new : node-at ws′ (s + count) ≡ n
+  new = node-new ws (s + count) n in-table in-range
+
+  path-is : triple-of qs ws′ (s + count) .path ≡ step-of c
+  path-is = path-step qs ws′ (s + count) (direction-of c) (link-of c) (rw new (code-step c (h .code)))
+
+  triple-is : triple-of qs ws′ (s + count) ≡ triple a (step-of c) b
+  triple-is =
+      let e : triple-of qs ws′ (s + count) .from ≡ a = triple-from qs ws′ (s + count) ∙ ap (λ (m : Node). m .from) new in
+      let f : triple-of qs ws′ (s + count) .to ≡ b = triple-to qs ws′ (s + count) ∙ ap (λ (m : Node). m .to) new in
+      λ i. record { from = e i; path = path-is i; to = f i }
+
+  pub mark-candidate : Candidate qs ws s count (step-node c a b)
+  mark-candidate =
+      record {
+        in-table = in-table;
+        in-range = in-range;
+        sound = h .room .sound;
+        good = record {
+          known = rw new (omega (arith, h .code));
+          sized = ap size path-is ∙ ap (λ (m : Node). m .size) (sym new);
+          two = rw new (λ k. absurd (omega (arith, h .code)));
+          kept = rw new (λ k. absurd (omega (arith, h .code)));
+        };
+      }
+
+  module _ (t : List ℕ) {r : Bool} (d : r ≡ marked? t c a b) where
+    pub mark-skipped : r ≡ false → Done qs ws ws (s + count) s count (adjoin-all triple? (part-of qs ws s count) (mark-of t c a b))
+    unfolding mark-of
+    mark-skipped f = none-added (mark-of t c a b) (h .room) (rw (sym d ∙ f))
+
+    pub mark-added : r ≡ true → {zs : List ℕ} {k : ℕ} → Added qs ws zs s count (step-node c a b) k → Done qs ws zs (s + count) s k (adjoin-all triple? (part-of qs ws s count) (mark-of t c a b))
+    unfolding mark-of
+    mark-added f x = one-added (triple a (step-of c) b) (mark-of t c a b) (h .room) x (rw (x .words-are) triple-is) (rw (sym d ∙ f))
+
+-- ---- what is left of a range
+module _ (f : ℕ → List Triple) (j e : ℕ) where
+  abbrev ahead : ℕ → List Triple
+  ahead j = concat-map f (tabulate (λ k. k) j (e - j))
+
+  ahead-next : j < e → ahead j ≡ f j ++ ahead (j + 1)
+  ahead-next h = let q : e - j ≡ suc (e - (j + 1)) = omega arith in rw (q, add-one j)
+
+  ahead-over : e ≤ j → ahead j ≡ []
+  ahead-over h = let q : e - j ≡ 0 = omega arith in rw q
+
+-- ---- from one kind
+pub record MarksGrowing (qs ws₀ ws t : List ℕ) (K c s start count a b : ℕ) : Type 0 where
+  pub to : b ≤ K
+  pub grows : Growing qs ws₀ ws (s + start) s count (adjoin-all triple? (part-of qs ws₀ s start) (marks-of t c a 0 K)) (marks-of t c a b K)
+
+module _ {qs ws₀ : List ℕ} {K c s start a : ℕ} (h : AddMarks qs ws₀ K c s start) where
+  pub marks-start : (t : List ℕ) → MarksGrowing qs ws₀ ws₀ t K c s start start a 0
+  marks-start t = record { to = omega arith; grows = grows-start (marks-of t c a 0 K) (h .room) }
+
+  module _ {ws t : List ℕ} {count b : ℕ} (g : MarksGrowing qs ws₀ ws t K c s start count a b) where
+    pub marks-over : K ≤ b → Done qs ws₀ ws (s + start) s count (adjoin-all triple? (part-of qs ws₀ s start) (marks-of t c a 0 K))
+    unfolding marks-of
+    marks-over l = grows-over (g .grows) (ahead-over (mark-of t c a) b K l)
+
+    module _ (l : b < K) where
+      pub marks-asks : a < 64 → AddMark qs ws c s count a b
+      marks-asks m = record { code = h .code; room = grows-room (g .grows) (h .room); from-kind = m; to-kind = omega (arith, h .kinds) }
+
+      next : marks-of t c a b K ≡ mark-of t c a b ++ marks-of t c a (b + 1) K
+      unfolding marks-of
+      next = ahead-next (mark-of t c a) b K l
+
+      module _ {ws′ : List ℕ} {r : ℕ} (d : Done qs ws ws′ (s + count) s r (adjoin-all triple? (part-of qs ws s count) (mark-of t c a b))) where
+        pub marks-turn : r ≤ 128 → MarksGrowing qs ws₀ ws′ t K c s start r a (b + 1)
+        marks-turn m = record { to = omega arith; grows = grows-turn (g .grows) (mark-of t c a b) (mark-of t c a b) (marks-of t c a (b + 1) K) d refl next m }
+
+        pub marks-many : 128 < r → Done qs ws₀ ws′ (s + start) s r (adjoin-all triple? (part-of qs ws₀ s start) (marks-of t c a 0 K))
+        marks-many m = grows-many (g .grows) (mark-of t c a b) (mark-of t c a b) (marks-of t c a (b + 1) K) d refl next m
+
+-- ---- from each kind
+unfoldable pub all-from : List ℕ → ℕ → ℕ → ℕ → List Triple
+all-from t c a K = concat-map (λ k. marks-of t c k 0 K) (tabulate (λ k. k) a (K - a))
+
+from-first : (t : List ℕ) (c K : ℕ) → of-marks t K c ≡ all-from t c 0 K
+unfolding of-marks all-from marks-of mark-of
+from-first t c K = let q : K - 0 ≡ K = omega arith in rw q
+
+marks-short : (t : List ℕ) (c K : ℕ) → short? (distinct (of-marks t K c)) ≡ true
+unfolding of-marks
+marks-short t c K =
+    short-distinct (of-marks t K c)
+    ∙ to-true (short? (of-marks t K c))
+    (in-every short-path? (of-marks t K c)
+    (λ u m. subst (λ (v : Triple). T (short-path? v)) (sym (in-between K (step-of c) (marked? t c) m .3)) (le→leb 1 48 (omega arith))))
+
+pub record StepGrowing (qs ws₀ ws t : List ℕ) (K c s count a : ℕ) : Type 0 where
+  pub to : a ≤ K
+  pub grows : Growing qs ws₀ ws s s count (distinct (of-marks t K c)) (all-from t c a K)
+
+module _ {qs ws₀ : List ℕ} {K c s : ℕ} (h : AddMarks qs ws₀ K c s 0) where
+  pub step-start : (t : List ℕ) → StepGrowing qs ws₀ ws₀ t K c s 0 0
+  step-start t =
+      record {
+        to = omega arith;
+        grows = subst (λ (l : List Triple). Growing qs ws₀ ws₀ s s 0 (distinct (of-marks t K c)) l) (from-first t c K) (rule-starts (of-marks t K c) (h .room));
+      }
+
+  module _ {ws t : List ℕ} {count a : ℕ} (g : StepGrowing qs ws₀ ws t K c s count a) where
+    pub step-over : K ≤ a → Ruled qs ws₀ ws s (distinct (of-marks t K c)) (Made count)
+    unfolding all-from
+    step-over l = ruled-made (marks-short t c K) (grows-over (g .grows) (ahead-over (λ k. marks-of t c k 0 K) a K l)) (g .grows .few)
+
+    module _ (l : a < K) where
+      pub step-asks : AddMarks qs ws K c s count × (a < 64)
+      step-asks = (record { code = h .code; room = grows-room (g .grows) (h .room); kinds = h .kinds }, omega (arith, h .kinds))
+
+      further : all-from t c a K ≡ marks-of t c a 0 K ++ all-from t c (a + 1) K
+      unfolding all-from
+      further = ahead-next (λ k. marks-of t c k 0 K) a K l
+
+      module _ {ws′ : List ℕ} {r : ℕ} (d : Done qs ws ws′ (s + count) s r (adjoin-all triple? (part-of qs ws s count) (marks-of t c a 0 K))) where
+        pub step-turn : r ≤ 128 → StepGrowing qs ws₀ ws′ t K c s r (a + 1)
+        step-turn m = record { to = omega arith; grows = grows-turn (g .grows) (marks-of t c a 0 K) (marks-of t c a 0 K) (all-from t c (a + 1) K) d refl further m }
+
+        pub step-many : 128 < r → Ruled qs ws₀ ws′ s (distinct (of-marks t K c)) Many
+        step-many m = ruled-many (marks-short t c K) (grows-many (g .grows) (marks-of t c a 0 K) (marks-of t c a 0 K) (all-from t c (a + 1) K) d refl further m) m

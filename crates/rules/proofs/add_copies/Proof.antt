@@ -1,0 +1,64 @@
+-- `rules::add_copies` meets its contract.
+-- Assumes nothing.
+use Rattle.rules.proofs.Copies.{CopiesGrowing, copies-start, copies-load, copies-asks, copies-turn, copies-many, copies-over}
+use borrow.Author.Needs.{needs}
+use Prim.Native.Nat.{_-_}
+use Rattle.rules.proofs.add_copies.Statement.{statement}
+use Rattle.rules.proofs.add_copies.Tie as tie
+use Rattle.rules.proofs.add_copies.Reads as reads
+use Rattle.rules.proofs.add_copies.Lts as lts
+use Rattle.nodes.proofs.add.Reads as add-reads
+use Rattle.nodes.proofs.load.Reads as load-reads
+
+abbrev Inv-loop : tie.InvT-loop
+Inv-loop words₀ question s start q e count₀ j₀ words count j = CopiesGrowing question words₀ words s start count q e j
+
+abbrev μ-loop : tie.MeasureT-loop
+μ-loop words₀ question s start q e count₀ j₀ words count j = e - j
+
+loop-holds : tie.Need-loop-holds Inv-loop μ-loop
+loop-holds c = copies-start (c .before .before .pre)
+
+load-requires : tie.Need-load-requires Inv-loop μ-loop
+load-requires c κs = copies-load (c .before .before .before .before .before .pre) (c .before .before .loop .inv) (c .before .loop-test .taken)
+
+add-requires : tie.Need-add-requires Inv-loop μ-loop
+add-requires c κs = copies-asks (c .before .before .before .before .before .before .before .pre) (c .before .before .before .before .loop .inv) (c .before .before .before .loop-test .taken) (c .before .load .ensures)
+
+same-length : tie.Need-same-length Inv-loop μ-loop
+same-length c = search needs
+
+returns : tie.Need-returns Inv-loop μ-loop
+returns c = copies-many (c .before .before .before .before .before .before .before .before .before .before .before .pre) (c .before .before .before .before .before .before .before .before .loop .inv) (c .before .before .before .before .before .before .before .loop-test .taken) (c .before .before .before .before .before .load .ensures) (c .before .before .before .add .ensures) (c .if1 .taken)
+
+add-j : tie.Need-add-j Inv-loop μ-loop
+add-j c = search needs
+
+loop-less : tie.Need-loop-less Inv-loop μ-loop
+loop-less c = search needs
+
+loop-again : tie.Need-loop-again Inv-loop μ-loop
+loop-again c = copies-turn (c .before .before .before .before .before .before .before .before .before .before .before .pre) (c .before .before .before .before .before .before .before .before .loop .inv) (c .before .before .before .before .before .before .before .loop-test .taken) (c .before .before .before .before .before .load .ensures) (c .before .before .before .add .ensures) (c .if1 .left)
+
+same-length-2 : tie.Need-same-length-2 Inv-loop μ-loop
+same-length-2 c = search needs
+
+returns-2 : tie.Need-returns-2 Inv-loop μ-loop
+returns-2 c = copies-over (c .before .before .before .before .pre) (c .before .loop .inv) (c .loop-test .left)
+
+pub add-copies-spec : {M : Type 1} → statement M
+add-copies-spec =
+    tie.close
+    (tie.spec
+    Inv-loop
+    μ-loop
+    loop-holds
+    load-requires
+    add-requires
+    same-length
+    returns
+    add-j
+    loop-less
+    loop-again
+    same-length-2
+    returns-2)

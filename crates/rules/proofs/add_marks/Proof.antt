@@ -1,0 +1,59 @@
+-- `rules::add_marks` meets its contract.
+-- Assumes nothing.
+use Rattle.rules.proofs.Steps.{MarksGrowing, marks-start, marks-asks, marks-turn, marks-many, marks-over}
+use borrow.Author.Needs.{needs}
+use Prim.Native.Nat.{_-_}
+use Rattle.rules.proofs.add_marks.Statement.{statement}
+use Rattle.rules.proofs.add_marks.Tie as tie
+use Rattle.rules.proofs.add_marks.Reads as reads
+use Rattle.rules.proofs.add_marks.Lts as lts
+use Rattle.rules.proofs.add_mark.Reads as add-mark-reads
+
+abbrev Inv-loop : tie.InvT-loop
+Inv-loop words₀ question table kinds c s start a count₀ b₀ words count b = MarksGrowing question words₀ words table kinds c s start count a b
+
+abbrev μ-loop : tie.MeasureT-loop
+μ-loop words₀ question table kinds c s start a count₀ b₀ words count b = kinds - b
+
+loop-holds : tie.Need-loop-holds Inv-loop μ-loop
+loop-holds c = marks-start (c .before .before .pre .0) _
+
+add-mark-requires : tie.Need-add-mark-requires Inv-loop μ-loop
+add-mark-requires c κs = marks-asks (c .before .before .before .before .before .pre .0) (c .before .before .loop .inv) (c .before .loop-test .taken) (c .before .before .before .before .before .pre .1)
+
+same-length : tie.Need-same-length Inv-loop μ-loop
+same-length c = search needs
+
+returns : tie.Need-returns Inv-loop μ-loop
+returns c = marks-many (c .before .before .before .before .before .before .before .before .before .pre .0) (c .before .before .before .before .before .before .loop .inv) (c .before .before .before .before .before .loop-test .taken) (c .before .before .before .add-mark .ensures) (c .if1 .taken)
+
+add-b : tie.Need-add-b Inv-loop μ-loop
+add-b c = search needs
+
+loop-less : tie.Need-loop-less Inv-loop μ-loop
+loop-less c = search needs
+
+loop-again : tie.Need-loop-again Inv-loop μ-loop
+loop-again c = marks-turn (c .before .before .before .before .before .before .before .before .before .pre .0) (c .before .before .before .before .before .before .loop .inv) (c .before .before .before .before .before .loop-test .taken) (c .before .before .before .add-mark .ensures) (c .if1 .left)
+
+same-length-2 : tie.Need-same-length-2 Inv-loop μ-loop
+same-length-2 c = search needs
+
+returns-2 : tie.Need-returns-2 Inv-loop μ-loop
+returns-2 c = marks-over (c .before .before .before .before .pre .0) (c .before .loop .inv) (c .loop-test .left)
+
+pub add-marks-spec : {M : Type 1} → statement M
+add-marks-spec =
+    tie.close
+    (tie.spec
+    Inv-loop
+    μ-loop
+    loop-holds
+    add-mark-requires
+    same-length
+    returns
+    add-b
+    loop-less
+    loop-again
+    same-length-2
+    returns-2)

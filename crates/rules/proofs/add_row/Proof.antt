@@ -1,0 +1,59 @@
+-- `rules::add_row` meets its contract.
+-- Assumes nothing.
+use Rattle.rules.proofs.Rows.{RowGrowing, row-start, row-asks, row-turn, row-many, row-over}
+use borrow.Author.Needs.{needs}
+use Prim.Native.Nat.{_-_}
+use Rattle.rules.proofs.add_row.Statement.{statement}
+use Rattle.rules.proofs.add_row.Tie as tie
+use Rattle.rules.proofs.add_row.Reads as reads
+use Rattle.rules.proofs.add_row.Lts as lts
+use Rattle.rules.proofs.add_pair.Reads as add-pair-reads
+
+abbrev Inv-loop : tie.InvT-loop
+Inv-loop words₀ question made s start i q e count₀ j₀ words count j = RowGrowing question words₀ words made s start count i q e j
+
+abbrev μ-loop : tie.MeasureT-loop
+μ-loop words₀ question made s start i q e count₀ j₀ words count j = e - j
+
+loop-holds : tie.Need-loop-holds Inv-loop μ-loop
+loop-holds c = row-start (c .before .before .pre)
+
+add-pair-requires : tie.Need-add-pair-requires Inv-loop μ-loop
+add-pair-requires c κs = row-asks (c .before .before .before .before .before .pre) (c .before .before .loop .inv) (c .before .loop-test .taken)
+
+same-length : tie.Need-same-length Inv-loop μ-loop
+same-length c = search needs
+
+returns : tie.Need-returns Inv-loop μ-loop
+returns c = row-many (c .before .before .before .before .before .before .before .before .before .pre) (c .before .before .before .before .before .before .loop .inv) (c .before .before .before .before .before .loop-test .taken) (c .before .before .before .add-pair .ensures) (c .if1 .taken)
+
+add-j : tie.Need-add-j Inv-loop μ-loop
+add-j c = search needs
+
+loop-less : tie.Need-loop-less Inv-loop μ-loop
+loop-less c = search needs
+
+loop-again : tie.Need-loop-again Inv-loop μ-loop
+loop-again c = row-turn (c .before .before .before .before .before .before .before .before .before .pre) (c .before .before .before .before .before .before .loop .inv) (c .before .before .before .before .before .loop-test .taken) (c .before .before .before .add-pair .ensures) (c .if1 .left)
+
+same-length-2 : tie.Need-same-length-2 Inv-loop μ-loop
+same-length-2 c = search needs
+
+returns-2 : tie.Need-returns-2 Inv-loop μ-loop
+returns-2 c = row-over (c .before .before .before .before .pre) (c .before .loop .inv) (c .loop-test .left)
+
+pub add-row-spec : {M : Type 1} → statement M
+add-row-spec =
+    tie.close
+    (tie.spec
+    Inv-loop
+    μ-loop
+    loop-holds
+    add-pair-requires
+    same-length
+    returns
+    add-j
+    loop-less
+    loop-again
+    same-length-2
+    returns-2)

@@ -1,0 +1,74 @@
+-- `rules::pair_rule` meets its contract.
+-- Assumes nothing.
+use mathlib.Core.Path.{sym, _∙_}
+use borrow.Author.Tests.{not-true, not-false}
+use Rattle.rules.proofs.PairRule.{RowsGrowing, rule-table, rule-long, rule-start, rule-asks, rule-turn, rule-many, rule-over}
+use borrow.Author.Needs.{needs}
+use Prim.Native.Nat.{_-_}
+use Rattle.rules.proofs.pair_rule.Statement.{statement}
+use Rattle.rules.proofs.pair_rule.Tie as tie
+use Rattle.rules.proofs.pair_rule.Reads as reads
+use Rattle.rules.proofs.pair_rule.Lts as lts
+use Rattle.rules.proofs.add_row.Reads as add-row-reads
+use Rattle.rules.proofs.rows_short.Reads as rows-short-reads
+
+abbrev Inv-loop : tie.InvT-loop
+Inv-loop words₀ question made s p d q e count₀ i₀ words count i = RowsGrowing question words₀ words made s count p d q e i
+
+abbrev μ-loop : tie.MeasureT-loop
+μ-loop words₀ question made s p d q e count₀ i₀ words count i = d - i
+
+rows-short-requires : tie.Need-rows-short-requires Inv-loop μ-loop
+rows-short-requires c κs = rule-table (c .before .before .before .pre .0) (c .before .before .before .pre .1)
+
+same-length : tie.Need-same-length Inv-loop μ-loop
+same-length c = search needs
+
+returns : tie.Need-returns Inv-loop μ-loop
+returns c = rule-long (c .before .before .before .before .before .pre .0) (c .before .before .before .before .before .pre .1) (sym (c .before .rows-short .ensures) ∙ not-true _ (c .if1 .taken))
+
+loop-holds : tie.Need-loop-holds Inv-loop μ-loop
+loop-holds c = rule-start (c .before .before .before .before .before .pre .0) (c .before .before .before .before .before .pre .1) (sym (c .before .rows-short .ensures) ∙ not-false _ (c .if1 .left))
+
+add-row-requires : tie.Need-add-row-requires Inv-loop μ-loop
+add-row-requires c κs = rule-asks (c .before .before .before .before .before .before .before .before .pre .0) (c .before .before .before .before .before .before .before .before .pre .1) (c .before .before .loop .inv) (c .before .loop-test .taken)
+
+same-length-2 : tie.Need-same-length-2 Inv-loop μ-loop
+same-length-2 c = search needs
+
+returns-2 : tie.Need-returns-2 Inv-loop μ-loop
+returns-2 c = rule-many (c .before .before .before .before .before .before .before .before .before .before .before .before .pre .0) (c .before .before .before .before .before .before .before .before .before .before .before .before .pre .1) (c .before .before .before .before .before .before .loop .inv) (c .before .before .before .before .before .loop-test .taken) (c .before .before .before .add-row .ensures) (sym (c .before .before .before .before .before .before .before .before .rows-short .ensures) ∙ not-false _ (c .before .before .before .before .before .before .before .if1 .left)) (c .if2 .taken)
+
+add-i : tie.Need-add-i Inv-loop μ-loop
+add-i c = search needs
+
+loop-less : tie.Need-loop-less Inv-loop μ-loop
+loop-less c = search needs
+
+loop-again : tie.Need-loop-again Inv-loop μ-loop
+loop-again c = rule-turn (c .before .before .before .before .before .before .before .before .before .before .before .before .pre .0) (c .before .before .before .before .before .before .before .before .before .before .before .before .pre .1) (c .before .before .before .before .before .before .loop .inv) (c .before .before .before .before .before .loop-test .taken) (c .before .before .before .add-row .ensures) (c .if2 .left)
+
+same-length-3 : tie.Need-same-length-3 Inv-loop μ-loop
+same-length-3 c = search needs
+
+returns-3 : tie.Need-returns-3 Inv-loop μ-loop
+returns-3 c = rule-over (c .before .before .before .before .before .before .before .pre .0) (c .before .before .before .before .before .before .before .pre .1) (c .before .loop .inv) (sym (c .before .before .before .rows-short .ensures) ∙ not-false _ (c .before .before .if1 .left)) (c .loop-test .left)
+
+pub pair-rule-spec : {M : Type 1} → statement M
+pair-rule-spec =
+    tie.close
+    (tie.spec
+    Inv-loop
+    μ-loop
+    rows-short-requires
+    same-length
+    returns
+    loop-holds
+    add-row-requires
+    same-length-2
+    returns-2
+    add-i
+    loop-less
+    loop-again
+    same-length-3
+    returns-3)

@@ -1,0 +1,23 @@
+-- `rules::paired` meets its contract.
+-- Assumes nothing.
+use borrow.Author.Needs.{needs}
+use Rattle.rules.proofs.paired.Statement.{statement}
+use Rattle.rules.proofs.paired.Tie as tie
+use Rattle.rules.proofs.paired.Reads as reads
+use Rattle.rules.proofs.paired.Lts as lts
+use Rattle.rules.proofs.last.Reads as last-reads
+
+last-requires : tie.Need-last-requires
+last-requires c κs = search needs
+
+add-t7 : tie.Need-add-t7
+add-t7 c = search needs
+
+add-t8 : tie.Need-add-t8
+add-t8 c = search needs
+
+returns : tie.Need-returns
+returns c = rw (c .before .before .last .ensures)
+
+pub paired-spec : {M : Type 1} → statement M
+paired-spec = tie.close (tie.spec last-requires add-t7 add-t8 returns)

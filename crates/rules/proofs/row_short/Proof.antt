@@ -1,0 +1,61 @@
+-- `rules::row_short` meets its contract.
+-- Assumes nothing.
+use borrow.Author.Tests.{not-true, not-false}
+use Rattle.rules.proofs.Rows.{RowLeft, row-left, row-long, row-goes, row-shorter}
+use borrow.Author.Needs.{needs}
+use Prim.Native.Nat.{_-_}
+use Rattle.rules.proofs.row_short.Statement.{statement}
+use Rattle.rules.proofs.row_short.Tie as tie
+use Rattle.rules.proofs.row_short.Reads as reads
+use Rattle.rules.proofs.row_short.Lts as lts
+use Rattle.nodes.proofs.load.Reads as load-reads
+use Rattle.rules.proofs.pair_short.Reads as pair-short-reads
+
+abbrev Inv-loop : tie.InvT-loop
+Inv-loop words question made s i q e x j₀ j = RowLeft question words made i q e j
+
+abbrev μ-loop : tie.MeasureT-loop
+μ-loop words question made s i q e x j₀ j = e - j
+
+load-requires : tie.Need-load-requires Inv-loop μ-loop
+load-requires c κs = search needs
+
+loop-holds : tie.Need-loop-holds Inv-loop μ-loop
+loop-holds c = row-left _ _ _ _ _ _ (c .before .before .before .pre .2 .ordered)
+
+load-requires-2 : tie.Need-load-requires-2 Inv-loop μ-loop
+load-requires-2 c κs = search needs
+
+pair-short-requires : tie.Need-pair-short-requires Inv-loop μ-loop
+pair-short-requires c κs = search needs
+
+returns : tie.Need-returns Inv-loop μ-loop
+returns c = row-long (c .before .before .before .before .before .before .before .before .pre .0) (c .before .before .before .before .loop .inv) (c .before .before .before .before .before .before .before .before .pre .1) (c .before .before .before .before .before .before .before .before .pre .2) (c .before .before .before .loop-test .taken) (c .before .before .before .before .before .load .ensures) (c .before .before .load2 .ensures) (c .before .pair-short .ensures) (not-true _ (c .if1 .taken))
+
+add-j : tie.Need-add-j Inv-loop μ-loop
+add-j c = search needs
+
+loop-less : tie.Need-loop-less Inv-loop μ-loop
+loop-less c = search needs
+
+loop-again : tie.Need-loop-again Inv-loop μ-loop
+loop-again c = row-goes (c .before .before .before .before .before .before .before .before .pre .0) (c .before .before .before .before .loop .inv) (c .before .before .before .before .before .before .before .before .pre .1) (c .before .before .before .before .before .before .before .before .pre .2) (c .before .before .before .loop-test .taken) (c .before .before .before .before .before .load .ensures) (c .before .before .load2 .ensures) (c .before .pair-short .ensures) (not-false _ (c .if1 .left))
+
+returns-2 : tie.Need-returns-2 Inv-loop μ-loop
+returns-2 c = row-shorter (c .before .before .before .before .before .pre .0) (c .before .loop .inv) (c .loop-test .left)
+
+pub row-short-spec : {M : Type 1} → statement M
+row-short-spec =
+    tie.close
+    (tie.spec
+    Inv-loop
+    μ-loop
+    load-requires
+    loop-holds
+    load-requires-2
+    pair-short-requires
+    returns
+    add-j
+    loop-less
+    loop-again
+    returns-2)

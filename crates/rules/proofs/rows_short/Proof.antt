@@ -1,0 +1,52 @@
+-- `rules::rows_short` meets its contract.
+-- Assumes nothing.
+use borrow.Author.Tests.{not-true, not-false}
+use Rattle.rules.proofs.Rows.{RowsLeft, rows-left, rows-long, rows-go, rows-shorter}
+use borrow.Author.Needs.{needs}
+use Prim.Native.Nat.{_-_}
+use Rattle.rules.proofs.rows_short.Statement.{statement}
+use Rattle.rules.proofs.rows_short.Tie as tie
+use Rattle.rules.proofs.rows_short.Reads as reads
+use Rattle.rules.proofs.rows_short.Lts as lts
+use Rattle.rules.proofs.row_short.Reads as row-short-reads
+
+abbrev Inv-loop : tie.InvT-loop
+Inv-loop words question made s p d q e i₀ i = RowsLeft question words made p d q e i
+
+abbrev μ-loop : tie.MeasureT-loop
+μ-loop words question made s p d q e i₀ i = d - i
+
+loop-holds : tie.Need-loop-holds Inv-loop μ-loop
+loop-holds c = rows-left _ _ _ _ _ _ _ (c .before .before .pre .1 .ordered)
+
+row-short-requires : tie.Need-row-short-requires Inv-loop μ-loop
+row-short-requires c κs = search needs
+
+returns : tie.Need-returns Inv-loop μ-loop
+returns c = rows-long (c .before .before .before .before .before .before .pre .0) (c .before .before .before .loop .inv) (c .before .before .loop-test .taken) (c .before .row-short .ensures) (not-true _ (c .if1 .taken))
+
+add-i : tie.Need-add-i Inv-loop μ-loop
+add-i c = search needs
+
+loop-less : tie.Need-loop-less Inv-loop μ-loop
+loop-less c = search needs
+
+loop-again : tie.Need-loop-again Inv-loop μ-loop
+loop-again c = rows-go (c .before .before .before .before .before .before .pre .0) (c .before .before .before .loop .inv) (c .before .before .loop-test .taken) (c .before .row-short .ensures) (not-false _ (c .if1 .left))
+
+returns-2 : tie.Need-returns-2 Inv-loop μ-loop
+returns-2 c = rows-shorter (c .before .before .before .before .pre .0) (c .before .loop .inv) (c .loop-test .left)
+
+pub rows-short-spec : {M : Type 1} → statement M
+rows-short-spec =
+    tie.close
+    (tie.spec
+    Inv-loop
+    μ-loop
+    loop-holds
+    row-short-requires
+    returns
+    add-i
+    loop-less
+    loop-again
+    returns-2)

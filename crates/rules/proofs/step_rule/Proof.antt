@@ -1,0 +1,59 @@
+-- `rules::step_rule` meets its contract.
+-- Assumes nothing.
+use Rattle.rules.proofs.Steps.{StepGrowing, step-start, step-asks, step-turn, step-many, step-over}
+use borrow.Author.Needs.{needs}
+use Prim.Native.Nat.{_-_}
+use Rattle.rules.proofs.step_rule.Statement.{statement}
+use Rattle.rules.proofs.step_rule.Tie as tie
+use Rattle.rules.proofs.step_rule.Reads as reads
+use Rattle.rules.proofs.step_rule.Lts as lts
+use Rattle.rules.proofs.add_marks.Reads as add-marks-reads
+
+abbrev Inv-loop : tie.InvT-loop
+Inv-loop words₀ question table kinds c s count₀ a₀ words count a = StepGrowing question words₀ words table kinds c s count a
+
+abbrev μ-loop : tie.MeasureT-loop
+μ-loop words₀ question table kinds c s count₀ a₀ words count a = kinds - a
+
+loop-holds : tie.Need-loop-holds Inv-loop μ-loop
+loop-holds c = step-start (c .before .before .pre) _
+
+add-marks-requires : tie.Need-add-marks-requires Inv-loop μ-loop
+add-marks-requires c κs = step-asks (c .before .before .before .before .before .pre) (c .before .before .loop .inv) (c .before .loop-test .taken)
+
+same-length : tie.Need-same-length Inv-loop μ-loop
+same-length c = search needs
+
+returns : tie.Need-returns Inv-loop μ-loop
+returns c = step-many (c .before .before .before .before .before .before .before .before .before .pre) (c .before .before .before .before .before .before .loop .inv) (c .before .before .before .before .before .loop-test .taken) (c .before .before .before .add-marks .ensures) (c .if1 .taken)
+
+add-a : tie.Need-add-a Inv-loop μ-loop
+add-a c = search needs
+
+loop-less : tie.Need-loop-less Inv-loop μ-loop
+loop-less c = search needs
+
+loop-again : tie.Need-loop-again Inv-loop μ-loop
+loop-again c = step-turn (c .before .before .before .before .before .before .before .before .before .pre) (c .before .before .before .before .before .before .loop .inv) (c .before .before .before .before .before .loop-test .taken) (c .before .before .before .add-marks .ensures) (c .if1 .left)
+
+same-length-2 : tie.Need-same-length-2 Inv-loop μ-loop
+same-length-2 c = search needs
+
+returns-2 : tie.Need-returns-2 Inv-loop μ-loop
+returns-2 c = step-over (c .before .before .before .before .pre) (c .before .loop .inv) (c .loop-test .left)
+
+pub step-rule-spec : {M : Type 1} → statement M
+step-rule-spec =
+    tie.close
+    (tie.spec
+    Inv-loop
+    μ-loop
+    loop-holds
+    add-marks-requires
+    same-length
+    returns
+    add-a
+    loop-less
+    loop-again
+    same-length-2
+    returns-2)

@@ -1,0 +1,76 @@
+-- What the rules ask: a sound table, room for 129 nodes, and parts that lie below.
+-- Assumes nothing.
+use mathlib.Core.Path.{_≡_}
+use mathlib.Core.Bool.{true}
+use mathlib.Core.List.{List, [], _∷_}
+use Prim.Native.Nat.{ℕ, _+_, _-_, _<_, _≤_}
+use lib.ListN.{length}
+use Rattle.theory.specs.Inference.{Triple}
+use Rattle.theory.specs.Narrowing.{short?}
+use Rattle.nodes.specs.Paths.{triple-of, Sound}
+use Rattle.nodes.specs.Parts.{part-of}
+use Rattle.rules.specs.Two.{of-two, Paired}
+
+-- nodes p to d lie below u
+pub record Lies (u p d : ℕ) : Type 0 where
+  pub ordered : p ≤ d
+  pub below : d ≤ u
+
+-- a part of `count` nodes grows from s on, with room for a 129th
+pub record Room (qs ws : List ℕ) (s count : ℕ) : Type 0 where
+  pub room : s + 129 ≤ length ws
+  pub numbers : s + 128 ≤ 4096
+  pub sound : Sound qs ws (s + count)
+  pub few : count ≤ 128
+
+-- the triples of nodes p to d
+abbrev pub part : List ℕ → List ℕ → ℕ → ℕ → List Triple
+part qs ws p d = part-of qs ws p (d - p)
+
+-- what node i gives with node j, with nodes q to e; what nodes p to d give with nodes q to e
+abbrev pub pair-of : List ℕ → List ℕ → ℕ → ℕ → ℕ → List Triple
+pair-of qs ws made i j = of-two made (triple-of qs ws i ∷ []) (triple-of qs ws j ∷ [])
+
+abbrev pub row-of : List ℕ → List ℕ → ℕ → ℕ → ℕ → ℕ → List Triple
+row-of qs ws made i q e = of-two made (triple-of qs ws i ∷ []) (part qs ws q e)
+
+abbrev pub rows-of : List ℕ → List ℕ → ℕ → ℕ → ℕ → ℕ → ℕ → List Triple
+rows-of qs ws made p d q e = of-two made (part qs ws p d) (part qs ws q e)
+
+-- ---- the pass over the sizes
+-- a sound table of s nodes
+pub record Pairing (qs ws : List ℕ) (made s : ℕ) : Type 0 where
+  pub paired : Paired made
+  pub sound : Sound qs ws s
+  pub in-table : s ≤ length ws
+
+-- ---- the pass over the triples
+pub record AddPair (qs ws : List ℕ) (made s count i j : ℕ) : Type 0 where
+  pub paired : Paired made
+  pub room : Room qs ws s count
+  pub i-below : i < s + count
+  pub j-below : j < s + count
+  pub short : short? (pair-of qs ws made i j) ≡ true
+
+pub record AddRow (qs ws : List ℕ) (made s count i q e : ℕ) : Type 0 where
+  pub paired : Paired made
+  pub room : Room qs ws s count
+  pub i-below : i < s + count
+  pub lies : Lies (s + count) q e
+  pub short : short? (row-of qs ws made i q e) ≡ true
+
+-- two parts below s
+pub record TwoParts (qs ws : List ℕ) (s p d q e : ℕ) : Type 0 where
+  pub room : Room qs ws s 0
+  pub left : Lies s p d
+  pub right : Lies s q e
+
+-- two parts of short paths
+pub record Unite (qs ws : List ℕ) (s p d q e : ℕ) : Type 0 where
+  pub two : TwoParts qs ws s p d q e
+  pub left-short : short? (part qs ws p d) ≡ true
+  pub right-short : short? (part qs ws q e) ≡ true
+
+pub record AddCopies (qs ws : List ℕ) (s count q e : ℕ) : Type 0 where
+  pub room : Room qs ws s count
+  pub lies : Lies (s + count) q e

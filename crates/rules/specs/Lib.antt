@@ -1,0 +1,4 @@
+pub mod Two
+pub mod Outcome
+pub mod Asks
+pub mod Marks

@@ -1,0 +1,351 @@
+// The rules of inference that make a part of the table of nodes: of a sheet's table, and of parts of the table.
+use nodes::Node;
+ghost use mathlib.Core.Path.{_≡_};
+ghost use Prim.Native.Nat.{_+_, _<_};
+ghost use Rattle.theory.specs.Lists.{adjoin-all};
+ghost use Rattle.theory.specs.Inference.{triple?, distinct};
+ghost use Rattle.theory.specs.Narrowing.{short?};
+ghost use Rattle.nodes.specs.Parts.{part-of};
+ghost use Rattle.rules.specs.Two.{Paired, fitting, giving, ends-of, pair-node, pair-short?};
+ghost use Rattle.rules.specs.Outcome.{Ruled, Done};
+ghost use Rattle.rules.specs.Asks.{Lies, part, pair-of, row-of, rows-of, Pairing, AddPair, AddRow, TwoParts, Unite, AddCopies};
+ghost use Rattle.rules.specs.Marks.{marked?, of-marks, mark-of, marks-of, AddMark, AddMarks};
+
+// What a rule makes.
+pub enum Part {
+    // so many triples
+    Made(usize),
+    // 12: over 128
+    Many,
+    // 13: one over 48 symbols long
+    Long,
+}
+
+// ---- two nodes under an operator
+
+// Do two triples fit under the operator?
+fn fits(made: usize, x: Node, y: Node) -> bool
+    ensures { λ r. ⌜ r ≡ fitting made (ends-of x) (ends-of y) ⌝ }
+{
+    if made == 130 {
+        if x.from != y.from {
+            return false;
+        }
+        return x.to == y.to;
+    }
+    if made == 132 {
+        return x.from == y.from;
+    }
+    x.to == y.from
+}
+
+// The to kind of a pair's triple.
+fn last(made: usize, x: Node, y: Node) -> usize
+    ensures { λ r. ⌜ r ≡ giving made (ends-of x) (ends-of y) .to ⌝ }
+{
+    if made == 130 {
+        return x.to;
+    }
+    if made == 131 {
+        return x.to;
+    }
+    y.to
+}
+
+// The node of a pair.
+fn paired(made: usize, i: usize, j: usize, x: Node, y: Node) -> Node
+    requires { ⌜ (x .size < 64) × (y .size < 64) ⌝ }
+    ensures { λ r. ⌜ r ≡ pair-node made i j x y ⌝ }
+{
+    let to = last(made, x, y);
+    Node {
+        made,
+        left: i,
+        right: j,
+        size: x.size + y.size + 1,
+        from: x.from,
+        to,
+    }
+}
+
+// Where the pair fits, has its path at most 48 symbols?
+fn pair_short(made: usize, x: Node, y: Node) -> bool
+    requires { ⌜ (x .size < 64) × (y .size < 64) ⌝ }
+    ensures { λ r. ⌜ r ≡ pair-short? made x y ⌝ }
+{
+    if !fits(made, x, y) {
+        return true;
+    }
+    x.size + y.size + 1 <= 48
+}
+
+// ---- sizes: 13
+
+// Has what node i gives with each of the nodes q to e at most 48 symbols?
+fn row_short(
+    words: &[u64],
+    question: &[u8],
+    made: usize,
+    s: usize,
+    i: usize,
+    q: usize,
+    e: usize,
+) -> bool
+    requires { ⌜ Pairing (now question) (now words) made s × (i < s) × Lies s q e ⌝ }
+    ensures { λ r. ⌜ r ≡ short? (row-of (now (question .entry)) (now (words .entry)) made i q e) ⌝ }
+{
+    let x = nodes::load(words, i);
+    let mut j = q;
+    while j < e {
+        let y = nodes::load(words, j);
+        if !pair_short(made, x, y) {
+            return false;
+        }
+        j += 1;
+    }
+    true
+}
+
+// The same of each of the nodes p to d with each of the nodes q to e.
+fn rows_short(
+    words: &[u64],
+    question: &[u8],
+    made: usize,
+    s: usize,
+    p: usize,
+    d: usize,
+    q: usize,
+    e: usize,
+) -> bool
+    requires { ⌜ Pairing (now question) (now words) made s × Lies s p d × Lies s q e ⌝ }
+    ensures { λ r. ⌜ r ≡ short? (rows-of (now (question .entry)) (now (words .entry)) made p d q e) ⌝ }
+{
+    let mut i = p;
+    while i < d {
+        if !row_short(words, question, made, s, i, q, e) {
+            return false;
+        }
+        i += 1;
+    }
+    true
+}
+
+// ---- triples: 12
+
+// Adds what node i gives with node j, where they fit; the new count.
+fn add_pair(
+    words: &mut [u64],
+    question: &[u8],
+    made: usize,
+    s: usize,
+    count: usize,
+    i: usize,
+    j: usize,
+) -> usize
+    requires { ⌜ AddPair (now question) (now words) made s count i j ⌝ }
+    ensures { λ r. ⌜ Done (now (question .entry)) (now (words .entry)) (now (words .exit)) (s + count) s r (adjoin-all triple? (part-of (now (question .entry)) (now (words .entry)) s count) (pair-of (now (question .entry)) (now (words .entry)) made i j)) ⌝ }
+{
+    let x = nodes::load(words, i);
+    let y = nodes::load(words, j);
+    if !fits(made, x, y) {
+        return count;
+    }
+    nodes::add(words, question, s, count, paired(made, i, j, x, y))
+}
+
+// Adds what node i gives with each of the nodes q to e, up to the 129th; the new count.
+pub fn add_row(
+    words: &mut [u64],
+    question: &[u8],
+    made: usize,
+    s: usize,
+    start: usize,
+    i: usize,
+    q: usize,
+    e: usize,
+) -> usize
+    requires { ⌜ AddRow (now question) (now words) made s start i q e ⌝ }
+    ensures { λ r. ⌜ Done (now (question .entry)) (now (words .entry)) (now (words .exit)) (s + start) s r (adjoin-all triple? (part-of (now (question .entry)) (now (words .entry)) s start) (row-of (now (question .entry)) (now (words .entry)) made i q e)) ⌝ }
+{
+    let mut count = start;
+    let mut j = q;
+    while j < e {
+        count = add_pair(words, question, made, s, count, i, j);
+        if 128 < count {
+            return count;
+        }
+        j += 1;
+    }
+    count
+}
+
+// The rule of the operator `made` (join, both, a branch) for nodes p to d and nodes q to e: its part is made from s on.
+pub fn pair_rule(
+    words: &mut [u64],
+    question: &[u8],
+    made: usize,
+    s: usize,
+    p: usize,
+    d: usize,
+    q: usize,
+    e: usize,
+) -> Part
+    requires { ⌜ Paired made × TwoParts (now question) (now words) s p d q e ⌝ }
+    ensures { λ r. ⌜ Ruled (now (question .entry)) (now (words .entry)) (now (words .exit)) s (distinct (rows-of (now (question .entry)) (now (words .entry)) made p d q e)) r ⌝ }
+{
+    if !rows_short(words, question, made, s, p, d, q, e) {
+        return Part::Long;
+    }
+    let mut count = 0;
+    let mut i = p;
+    while i < d {
+        count = add_row(words, question, made, s, count, i, q, e);
+        if 128 < count {
+            return Part::Many;
+        }
+        i += 1;
+    }
+    Part::Made(count)
+}
+
+// ---- union
+
+// Adds a copy of each of the nodes q to e, up to the 129th; the new count.
+pub fn add_copies(
+    words: &mut [u64],
+    question: &[u8],
+    s: usize,
+    start: usize,
+    q: usize,
+    e: usize,
+) -> usize
+    requires { ⌜ AddCopies (now question) (now words) s start q e ⌝ }
+    ensures { λ r. ⌜ Done (now (question .entry)) (now (words .entry)) (now (words .exit)) (s + start) s r (adjoin-all triple? (part-of (now (question .entry)) (now (words .entry)) s start) (part (now (question .entry)) (now (words .entry)) q e)) ⌝ }
+{
+    let mut count = start;
+    let mut j = q;
+    while j < e {
+        let n = nodes::load(words, j);
+        count = nodes::add(words, question, s, count, n);
+        if 128 < count {
+            return count;
+        }
+        j += 1;
+    }
+    count
+}
+
+// The rule of union for nodes p to d and nodes q to e: its part is made from s on.
+pub fn union_rule(
+    words: &mut [u64],
+    question: &[u8],
+    s: usize,
+    p: usize,
+    d: usize,
+    q: usize,
+    e: usize,
+) -> Part
+    requires { ⌜ Unite (now question) (now words) s p d q e ⌝ }
+    ensures { λ r. ⌜ Ruled (now (question .entry)) (now (words .entry)) (now (words .exit)) s (distinct (rows-of (now (question .entry)) (now (words .entry)) 129 p d q e)) r ⌝ }
+{
+    let a = add_copies(words, question, s, 0, p, d);
+    if 128 < a {
+        return Part::Many;
+    }
+    let b = add_copies(words, question, s, a, q, e);
+    if 128 < b {
+        return Part::Many;
+    }
+    Part::Made(b)
+}
+
+// ---- a step
+
+// Has a sheet's table the bit of the step with code c from kind a to kind b?
+fn marked(table: &[u64; 4096], c: usize, a: usize, b: usize) -> bool
+    requires { ⌜ (c < 128) × (a < 64) × (b < 64) ⌝ }
+    ensures { λ r. ⌜ r ≡ marked? (now (table .entry)) c a b ⌝ }
+{
+    if c < 64 {
+        return bits::bit(table[c * 64 + a], b);
+    }
+    bits::bit(table[(c - 64) * 64 + b], a)
+}
+
+// Adds the step's triple from kind a to kind b, where the table has its bit; the new count.
+fn add_mark(
+    words: &mut [u64],
+    question: &[u8],
+    table: &[u64; 4096],
+    c: usize,
+    s: usize,
+    count: usize,
+    a: usize,
+    b: usize,
+) -> usize
+    requires { ⌜ AddMark (now question) (now words) c s count a b ⌝ }
+    ensures { λ r. ⌜ Done (now (question .entry)) (now (words .entry)) (now (words .exit)) (s + count) s r (adjoin-all triple? (part-of (now (question .entry)) (now (words .entry)) s count) (mark-of (now (table .entry)) c a b)) ⌝ }
+{
+    if !marked(table, c, a, b) {
+        return count;
+    }
+    let n = Node {
+        made: c,
+        left: 0,
+        right: 0,
+        size: 1,
+        from: a,
+        to: b,
+    };
+    nodes::add(words, question, s, count, n)
+}
+
+// The same from kind a to each of the kinds, up to the 129th; the new count.
+fn add_marks(
+    words: &mut [u64],
+    question: &[u8],
+    table: &[u64; 4096],
+    kinds: usize,
+    c: usize,
+    s: usize,
+    start: usize,
+    a: usize,
+) -> usize
+    requires { ⌜ AddMarks (now question) (now words) kinds c s start × (a < 64) ⌝ }
+    ensures { λ r. ⌜ Done (now (question .entry)) (now (words .entry)) (now (words .exit)) (s + start) s r (adjoin-all triple? (part-of (now (question .entry)) (now (words .entry)) s start) (marks-of (now (table .entry)) c a 0 kinds)) ⌝ }
+{
+    let mut count = start;
+    let mut b = 0;
+    while b < kinds {
+        count = add_mark(words, question, table, c, s, count, a, b);
+        if 128 < count {
+            return count;
+        }
+        b += 1;
+    }
+    count
+}
+
+// The rule of the step with code c, by a sheet's table of so many kinds: its part is made from s on.
+pub fn step_rule(
+    words: &mut [u64],
+    question: &[u8],
+    table: &[u64; 4096],
+    kinds: usize,
+    c: usize,
+    s: usize,
+) -> Part
+    requires { ⌜ AddMarks (now question) (now words) kinds c s 0 ⌝ }
+    ensures { λ r. ⌜ Ruled (now (question .entry)) (now (words .entry)) (now (words .exit)) s (distinct (of-marks (now (table .entry)) kinds c)) r ⌝ }
+{
+    let mut count = 0;
+    let mut a = 0;
+    while a < kinds {
+        count = add_marks(words, question, table, kinds, c, s, count, a);
+        if 128 < count {
+            return Part::Many;
+        }
+        a += 1;
+    }
+    Part::Made(count)
+}

@@ -4,14 +4,14 @@ use mathlib.Core.Path.{_≡_, _∙_}
 use mathlib.Core.Bool.{Bool, true, false}
 use mathlib.Core.Logic.{⊎-elim}
 use mathlib.Core.List.{List, [], _∷_, _++_}
-use Prim.Native.Nat.{ℕ, suc, _+_, _-_, _<_, _≤_}
+use Prim.Native.Nat.{ℕ, _+_, _-_, _<_, _≤_}
 use native.Mathlib.Nat.{eq-or-lt-of-le}
 use native.Mathlib.Numerals.{add-one}
 use native.Mathlib.Omega.{arith}
 use lib.ListN.{length, set}
 use Rattle.theory.specs.Lists.{some?, adjoin}
 use Rattle.theory.specs.Inference.{Triple, triple?}
-use Rattle.theory.proofs.Lists.{length-tabulate, tabulate-suc, tabulate-same}
+use Rattle.theory.proofs.Lists.{length-tabulate, tabulate-suc, tabulate-same, tabulate-next}
 use Rattle.rows.specs.Kept.{Kept}
 use Rattle.rows.proofs.Words.{kept-set}
 use Rattle.nodes.specs.declared.Node.{Node}
@@ -33,7 +33,7 @@ module _ (qs ws : List ℕ) where
 
   pub part-next : (j e : ℕ) → j < e → part-of qs ws j (e - j) ≡ triple-of qs ws j ∷ part-of qs ws (j + 1) (e - (j + 1))
   unfolding part-of
-  part-next j e h = let q : e - j ≡ suc (e - (j + 1)) = omega arith in rw (q, add-one j)
+  part-next j e h = tabulate-next (triple-of qs ws) j e h
 
   pub part-over : (j e : ℕ) → e ≤ j → part-of qs ws j (e - j) ≡ []
   unfolding part-of

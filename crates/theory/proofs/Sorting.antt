@@ -52,10 +52,10 @@ module _ (u t : Member) (h : ahead? u t ≡ true) where
   ahead-apart : ¬ (erase (u .path) ≡ erase (t .path))
   ahead-apart e = before-irrefl (codes (u .path)) (subst (λ c. T (before? (codes (u .path)) c)) (sym (shape-codes (u .path) (t .path) e)) (of-true (ahead? u t) h))
 
-  ahead-unlike : alike? u t ≡ false
+  pub ahead-unlike : alike? u t ≡ false
   ahead-unlike = never (alike? u t) (λ a. ahead-apart (same-shape (u .path) (t .path) a))
 
-  ahead-unlike′ : alike? t u ≡ false
+  pub ahead-unlike′ : alike? t u ≡ false
   ahead-unlike′ = never (alike? t u) (λ a. ahead-apart (sym (same-shape (t .path) (u .path) a)))
 
   ahead-asym : ahead? t u ≡ false

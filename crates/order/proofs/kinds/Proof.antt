@@ -1,0 +1,30 @@
+-- `order::kinds` meets its contract.
+-- Assumes nothing.
+use Rattle.nodes.proofs.Expanding.{shl-singleton}
+use Rattle.nodes.specs.declared.Node.{Node}
+use Rattle.theory.specs.KindSet.{singleton}
+use mathlib.Core.Path.{ap, _∙_}
+use borrow.Author.Needs.{needs}
+use Rattle.order.proofs.kinds.Statement.{statement}
+use Rattle.order.proofs.kinds.Tie as tie
+use Rattle.order.proofs.kinds.Reads as reads
+use Rattle.order.proofs.kinds.Lts as lts
+use Rattle.nodes.proofs.load.Reads as load-reads
+
+load-requires : tie.Need-load-requires
+load-requires c κs = search needs
+
+shl-t5 : tie.Need-shl-t5
+shl-t5 c = search needs
+
+shl-t7 : tie.Need-shl-t7
+shl-t7 c = search needs
+
+returns : tie.Need-returns
+returns c = record {
+  from-is = shl-singleton _ (c .load .ensures .from-small) ∙ ap (λ (n : Node). singleton (n .from)) (c .load .ensures .is);
+  to-is = shl-singleton _ (c .load .ensures .to-small) ∙ ap (λ (n : Node). singleton (n .to)) (c .load .ensures .is);
+}
+
+pub kinds-spec : {M : Type 1} → statement M
+kinds-spec = tie.close (tie.spec load-requires shl-t5 shl-t7 returns)

@@ -62,7 +62,7 @@ fn put_head(out: &mut [u8], at: usize, tag: u8, len: u16) -> usize
 }
 
 // 41: the number of members.
-fn put_count(out: &mut [u8], at: usize, n: u16) -> usize
+pub fn put_count(out: &mut [u8], at: usize, n: u16) -> usize
     requires { ⌜ at + 5 ≤ length (now out) ⌝ }
     ensures { λ r. ⌜ Wrote (now (out .entry)) (now (out .exit)) at r (field-bytes 0x41 (two-bytes n)) ⌝ }
 {
@@ -140,7 +140,7 @@ fn put_symbols(out: &mut [u8], at: usize, numbers: &[u8], sets: &[u64], k: usize
 }
 
 // A member: its 42, and its n symbols from the k-th on.
-fn put_member(
+pub fn put_member(
     out: &mut [u8],
     at: usize,
     numbers: &[u8],

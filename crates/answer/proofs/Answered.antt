@@ -21,7 +21,7 @@ use Rattle.fields.specs.declared.Outcome as declared·Outcome
 use Rattle.fields.specs.declared.Outcome.the-variants as outcome
 use Rattle.fields.specs.declared.Refusal.the-variants.{AreaShort, WorkShort}
 use Rattle.fields.specs.declared.Source.the-variants as source
-use Rattle.fields.specs.Call.{accepts, refuses}
+use Rattle.fields.specs.Call.{accepts, refuses, zeroed}
 use Rattle.fields.specs.Said.{outcome-said}
 use Rattle.register.specs.Form.{register-in}
 use Rattle.rows.specs.Kept.{Kept, Wrote}
@@ -31,9 +31,10 @@ use Rattle.evaluation.specs.Ground.{Ground}
 use Rattle.evaluation.specs.Stack.{Stored, Evaluated}
 use Rattle.evaluation.proofs.Grounds.{limits}
 use Rattle.evaluation.proofs.Tables.{evaluate-past}
-use Rattle.answer.specs.Calls.{result, answer-need, work-need, zeroed, answered, asked}
+use Rattle.answer.specs.Calls.{result, answer-need, work-need, answered, asked}
 use Rattle.answer.specs.Said.{Answers, Fills, Adds}
-use Rattle.answer.proofs.Areas.{zero-words, stored-words, stored-copied, stored-added}
+use Rattle.rows.proofs.Areas.{zero-words}
+use Rattle.answer.proofs.Areas.{stored-words, stored-copied, stored-added}
 
 -- ---- with work words enough
 pub fills-short : {n w : ℕ} {answer : List ℕ} (f : ℕ → ℕ → Bool) (work : List ℕ) → length answer < n * w → Fills n w f (outcome.Refused source.Work (AreaShort (n * w))) work work answer answer

@@ -17,9 +17,10 @@ use Rattle.fields.proofs.Bools.{onward-got, told-refused}
 use Rattle.fields.proofs.Padded.{pad-length}
 use Rattle.question.specs.declared.Outcome as question·Outcome
 use Rattle.question.specs.declared.Outcome.the-variants as question·outcome
-use Rattle.question.specs.Form.{question-form, question-symbols}
-use Rattle.question.specs.Said.{Reads, codes-in, outcome-said as question-said}
+use Rattle.question.specs.Form.{question-symbols}
+use Rattle.question.specs.Said.{Reads}
 use Rattle.question.proofs.Paths.{accepted-question}
+use Rattle.question.proofs.Told.{Told}
 use Rattle.register.specs.declared.Outcome as register·Outcome
 use Rattle.register.specs.declared.Outcome.the-variants as register·outcome
 use Rattle.register.specs.Ahead.{Accepted}
@@ -49,26 +50,18 @@ codes-back ns (c ∷ cs) r k e h =
     (codes-back ns cs r (suc k) b (omega arith))
 
 pub record Question (s codes : List ℕ) (count : ℕ) (cs : List ℕ) : Type 0 where
-  pub reads : read question-form s ≡ got cs
   pub few : count ≤ 32
   pub full : length codes ≡ 32
   pub symbols : symbols-in codes (replicate 32 0) count 0 ≡ question-symbols cs
   pub makes : MakePath codes (replicate 32 0) count 0
 
-module _ (s : List ℕ) (o : question·Outcome.Outcome) (codes : List ℕ) (h : Reads (read question-form s) o codes) where
-  pub question-refused : (x : Refusal) → o ≡ question·outcome.Refused x → read question-form s ≡ refused (number-of x) (place-of x)
-  question-refused x e = told-refused _ (read question-form s) (number-of x) (place-of x) (sym (ap question-said e) ∙ h .outcome)
-
-  pub question-accepted : (count : ℕ) → o ≡ question·outcome.Accepted count → (cs : List ℕ) × Question s codes count cs
-  unfolding padded
-  question-accepted count e =
-      let (cs, a, b) = onward-got (λ cs. got (length cs)) (read question-form s) count (sym (h .outcome) ∙ ap question-said e) in
-      let n : length cs ≡ count = cc in
-      let (p, q) = accepted-question s cs a in
-      let few : length cs ≤ 32 = omega (arith, q .few, q .count) in
-      let array : codes ≡ padded 32 cs = h .codes ∙ ap codes-in a in
-      let back : symbols-in codes (replicate 32 0) count 0 ≡ question-symbols cs = subst (λ (i : ℕ). symbols-in codes (replicate 32 0) i 0 ≡ question-symbols cs) n (codes-back codes cs _ 0 array (omega (arith, few))) in
-      (cs, record { reads = a; few = omega (arith, n, few); full = ap length array ∙ pad-length 32 cs few; symbols = back; makes = (p, ap path-of back ∙ q .path) })
+pub question-accepted : (s codes : List ℕ) (count : ℕ) (cs : List ℕ) → Told s codes count cs → Question s codes count cs
+unfolding padded
+question-accepted s codes count cs t =
+    let (p, q) = accepted-question s cs (t .reads) in
+    let few : length cs ≤ 32 = omega (arith, q .few, q .count) in
+    let back : symbols-in codes (replicate 32 0) count 0 ≡ question-symbols cs = subst (λ (i : ℕ). symbols-in codes (replicate 32 0) i 0 ≡ question-symbols cs) (t .many) (codes-back codes cs _ 0 (t .array) (omega (arith, few))) in
+    record { few = omega (arith, t .many, few); full = ap length (t .array) ∙ pad-length 32 cs few; symbols = back; makes = (p, ap path-of back ∙ q .path) }
 
 -- ---- a narrowed question
 module _ (s : List ℕ) (o : narrowed·Outcome.Outcome) (q : Members) (h : narrowed·Said.Reads (read narrowed-form s) o q) where

@@ -22,7 +22,7 @@ use Rattle.theory.proofs.Tests.{and-right, and-both}
 use Rattle.theory.proofs.Evaluation.{holds-bounds, plain-right, narrowed-right}
 use Rattle.theory.proofs.Words.{words-length, answer-bit}
 use Rattle.fields.specs.Answer.{got}
-use Rattle.fields.specs.Call.{Outcome, accepts, refuses}
+use Rattle.fields.specs.Call.{Outcome, accepts, refuses, zeroed}
 use Rattle.fields.specs.declared.Source.the-variants as source
 use Rattle.fields.specs.Reading.{read}
 use Rattle.question.specs.Form.{question-form, question-symbols}
@@ -30,7 +30,7 @@ use Rattle.register.specs.Form.{register-form}
 use Rattle.register.proofs.AcceptedRegister.{accepted-register}
 use Rattle.narrowed.specs.Form.{Flat, narrowed-form}
 use Rattle.relation.proofs.Making.{row-le}
-use Rattle.answer.specs.Calls.{result, answer-need, work-need, zeroed, answered, asked, members-of, plain-call, narrowed-call}
+use Rattle.answer.specs.Calls.{result, answer-need, work-need, answered, asked, members-of, plain-call, narrowed-call}
 
 -- bit t mod 64 of word s × W + t div 64
 abbrev pub bit-at : Register → List ℕ → ℕ → ℕ → Bool

@@ -6,7 +6,7 @@ use mathlib.Core.List.{List, [], _∷_}
 use mathlib.Core.Option.{Option, none, some}
 use Prim.Native.Nat.{ℕ, _*_}
 use lib.Dec.{ltb}
-use lib.ListN.{length, replicate}
+use lib.ListN.{length}
 use lib.Seq.{sets}
 use Rattle.theory.specs.PathExpr.{PathExpr}
 use Rattle.theory.specs.Postfix.{path-of}
@@ -16,7 +16,7 @@ use Rattle.theory.specs.Evaluation.{plain-answer, narrowed-answer}
 use Rattle.theory.specs.Words.{row-words, answer-words}
 use Rattle.fields.specs.declared.Source.{Source}
 use Rattle.fields.specs.declared.Source.the-variants as source
-use Rattle.fields.specs.Call.{Outcome, accepts, refuses, reading}
+use Rattle.fields.specs.Call.{Outcome, accepts, refuses, reading, zeroed}
 use Rattle.fields.specs.Reading.{read}
 use Rattle.question.specs.Form.{question-form, question-symbols}
 use Rattle.register.specs.Form.{register-form}
@@ -39,10 +39,6 @@ answer-need r = records r * row-words (records r)
 
 abbrev pub work-need : Register → ℕ
 work-need r = 28 * answer-need r
-
--- the first n words are 0
-abbrev pub zeroed : ℕ → List ℕ → List ℕ
-zeroed n xs = sets xs 0 (replicate n 0)
 
 -- 15, then 14, then the words of the pairs f
 unfoldable pub answered : Register → (ℕ → ℕ → Bool) → List ℕ → List ℕ → Result

@@ -1,6 +1,6 @@
 -- What the check yields, from what the readers and the search say.
 -- Assumes nothing.
-use mathlib.Core.Path.{_≡_, sym, ap, _∙_}
+use mathlib.Core.Path.{_≡_, ap}
 use mathlib.Core.List.{List}
 use mathlib.Core.Option.{some}
 use Prim.Native.Nat.{ℕ}
@@ -9,18 +9,17 @@ use Rattle.theory.specs.Register.{Edge, Register, records, kind}
 use Rattle.theory.specs.Sheet.{Sheet, sheet?, link-permitted?, breach, or-else}
 use Rattle.fields.specs.declared.Refusal.{Refusal}
 use Rattle.fields.specs.declared.Source.the-variants as source
-use Rattle.fields.specs.Answer.{got}
 use Rattle.fields.specs.Call.{accepts, refuses}
 use Rattle.fields.specs.Said.{number-of, place-of}
 use Rattle.fields.specs.Reading.{read}
-use Rattle.fields.proofs.Bools.{onward-got, told-refused}
 use Rattle.sheet.specs.declared.Outcome as sheet·Outcome
 use Rattle.sheet.specs.declared.Outcome.the-variants as sheet·outcome
 use Rattle.sheet.specs.Form.{sheet-form}
-use Rattle.sheet.specs.Table.{tabled?, table-of, table-in}
-use Rattle.sheet.specs.Said.{Reads, Sizes, outcome-said as sheet-said}
+use Rattle.sheet.specs.Table.{tabled?, table-of}
+use Rattle.sheet.specs.Said.{Reads}
 use Rattle.sheet.proofs.Ranges.{accepted-sheet}
 use Rattle.sheet.proofs.Tables.{table-permits}
+use Rattle.sheet.proofs.Told.{refused-sheet, told-sheet}
 use Rattle.register.specs.declared.Outcome as register·Outcome
 use Rattle.register.specs.declared.Outcome.the-variants as register·outcome
 use Rattle.register.specs.Form.{register-form, register-in}
@@ -53,29 +52,23 @@ breach-is S r ok l =
 module _ (s g : List ℕ) (o : sheet·Outcome.Outcome) (t : List ℕ) (h : Reads (read sheet-form s) o t) where
   pub sheet-refused : (x : Refusal) → o ≡ sheet·outcome.Refused x → refuses source.Sheet (number-of x) (place-of x) ≡ check-of s g
   unfolding check-of
-  sheet-refused x w = rw (told-refused _ (read sheet-form s) (number-of x) (place-of x) (sym (ap sheet-said w) ∙ h .outcome))
+  sheet-refused x w = rw (refused-sheet s o t h x w)
 
   module _ (k e : ℕ) (w : o ≡ sheet·outcome.Accepted k e) (q : register·Outcome.Outcome) (z : register-said q ≡ register-sizes (read register-form g)) where
-    sheet-accepted : (S : Sheet) × (read sheet-form s ≡ got S) × (S .kinds ≡ k)
-    sheet-accepted =
-        let (S, a, b) = onward-got (λ S. got (record { kinds = S .kinds; links = S .link-names })) (read sheet-form s) _ (sym (h .outcome) ∙ ap sheet-said w) in
-        let c : _≡_ {A = Sizes} (record { kinds = S .kinds; links = S .link-names }) (record { kinds = k; links = e }) = cc b in
-        (S, a, ap (λ (p : Sizes). p .kinds) c)
-
     pub register-refused : (x : Refusal) → q ≡ register·outcome.Refused x → refuses source.Register (number-of x) (place-of x) ≡ check-of s g
     unfolding check-of
     register-refused x u =
-        rw (sheet-accepted .1, refused-file g q z x u)
+        rw (told-sheet s o t h k e w .1 .reads, refused-file g q z x u)
 
     module _ (n l : ℕ) (u : q ≡ register·outcome.Accepted n l) (f : Failing) (y : failing-said f ≡ first-breach k t (register-in g)) where
       obeyed : obeying (failing-said f) ≡ check-of s g
       unfolding check-of
       obeyed =
-          let (S, a, b) = sheet-accepted in
+          let (S, d) = told-sheet s o t h k e w in
           let r = accepted-file g q z n l u in
-          let i : t ≡ table-of (S .permitted) = h .table ∙ ap table-in a in
-          let j = breach-is S (register-in g) (accepted-sheet s S a) (accepted-register g (register-in g) r) in
-          rw (a, r, ← j, b, ← i) (ap obeying y)
+          let i = d .table in
+          let j = breach-is S (register-in g) (accepted-sheet s S (d .reads)) (accepted-register g (register-in g) r) in
+          rw (d .reads, r, ← j, d .kinds, ← i) (ap obeying y)
 
       pub breach-at : (i : ℕ) → f ≡ At i → refuses source.Work 16 i ≡ check-of s g
       breach-at i w = rw w at obeyed

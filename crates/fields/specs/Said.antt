@@ -7,6 +7,8 @@ use Rattle.fields.specs.declared.Source.{Source}
 use Rattle.fields.specs.declared.Source.the-variants.{Sheet, Question, Narrowed, Register, Work}
 use Rattle.fields.specs.declared.Outcome as declared·Outcome
 use Rattle.fields.specs.declared.Outcome.the-variants as outcome
+use Rattle.fields.specs.declared.Written as declared·Written
+use Rattle.fields.specs.declared.Written.the-variants as written
 use Rattle.fields.specs.declared.Seen as declared·Seen
 use Rattle.fields.specs.declared.Seen.the-variants as seen
 use Rattle.fields.specs.declared.Read as declared·Read
@@ -15,7 +17,7 @@ use Rattle.fields.specs.declared.Pushed as declared·Pushed
 use Rattle.fields.specs.declared.Pushed.the-variants as pushed
 use Rattle.fields.specs.declared.Stack.{Stack}
 use Rattle.fields.specs.Answer.{Answer, got, refused}
-use Rattle.fields.specs.Call.{Outcome, accepts, refuses}
+use Rattle.fields.specs.Call.{Outcome, accepts, refuses, Size, size}
 use Rattle.fields.specs.Reading.{Field, ends, wrong, body}
 use Rattle.fields.specs.Symbols.{Numbered, numbered}
 
@@ -60,6 +62,10 @@ refusal-said r = refused (number-of r) (place-of r)
 abbrev pub outcome-said : declared·Outcome.Outcome → Outcome (Unit {0})
 outcome-said outcome.Accepted = accepts tt
 outcome-said (outcome.Refused f r) = refuses f (number-of r) (place-of r)
+
+abbrev pub written-said : declared·Written.Written → Outcome Size
+written-said (written.File members bytes) = accepts (size members bytes)
+written-said (written.Refused f r) = refuses f (number-of r) (place-of r)
 
 abbrev pub field-said : declared·Seen.Seen → Field
 field-said seen.Ends = ends

@@ -78,6 +78,12 @@ pub enum Outcome {
     Refused(Source, Refusal),
 }
 
+// What comes of a call that writes a narrowed question's file: the numbers of its members and of its bytes.
+pub enum Written {
+    File(usize, usize),
+    Refused(Source, Refusal),
+}
+
 // Its number, for callers in C.
 pub fn source_number(s: Source) -> u8
     ensures { λ n. ⌜ n ≡ source-number s ⌝ }

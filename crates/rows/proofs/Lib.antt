@@ -1,5 +1,7 @@
 -- writing words, one after the other
 pub mod Words
+-- the words of an area
+pub mod Areas
 -- some number below n
 pub mod Ranges
 -- rows of bits

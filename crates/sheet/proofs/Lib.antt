@@ -4,3 +4,5 @@ pub mod Tables
 -- the reader's loop, and the cases
 pub mod Loop
 pub mod Cases
+-- what the outcome says of the file
+pub mod Told

@@ -1,7 +1,8 @@
 -- `answer::plain_answer` meets its contract.
 -- Assumes nothing.
 use Rattle.answer.proofs.Whole.{plain-refused, plain-register, plain-accepted}
-use Rattle.answer.proofs.Files.{question-refused, question-accepted}
+use Rattle.answer.proofs.Files.{question-accepted}
+use Rattle.question.proofs.Told.{refused-question, told-question}
 use Rattle.register.proofs.Told.{refused-file, accepted-file, accepted-records}
 use mathlib.Core.Path.{sym}
 use borrow.Author.Needs.{needs}
@@ -33,17 +34,18 @@ enum-known-n c = search needs
 
 plain-in-requires : tie.Need-plain-in-requires
 plain-in-requires c κs =
-    let q = question-accepted _ _ _ (c .before .before .before .before .before .before .before .before .before .before .before .before .read .ensures) _ (c .before .before .before .before .before .before .before .before .before .before .outcome2 .given .1) .1 in
+    let (cs, t) = told-question _ _ _ (c .before .before .before .before .before .before .before .before .before .before .before .before .read .ensures) _ (c .before .before .before .before .before .before .before .before .before .before .outcome2 .given .1) in
+    let q = question-accepted _ _ _ cs t in
     let e = c .before .before .before .before .before .before .n .given .1 in
     (accepted-file _ _ (c .before .before .before .before .before .before .before .before .read2 .ensures) _ _ e, sym (accepted-records _ _ (c .before .before .before .before .before .before .before .before .read2 .ensures) _ _ e), q .few, q .full, q .makes)
 
 returns : tie.Need-returns
-returns c = plain-refused _ _ _ _ _ (question-refused _ _ _ (c .before .before .before .read .ensures) _ (c .before .outcome .given .1))
+returns c = plain-refused _ _ _ _ _ (refused-question _ _ _ (c .before .before .before .read .ensures) _ (c .before .outcome .given .1))
 
 returns-2 : tie.Need-returns-2
 returns-2 c =
-    let q = question-accepted _ _ _ (c .before .before .before .before .before .before .before .read .ensures) _ (c .before .before .before .before .before .outcome2 .given .1) in
-    plain-register _ _ _ _ (q .0) (q .1 .reads) _ (refused-file _ _ (c .before .before .before .read2 .ensures) _ (c .before .r .given .1))
+    let (cs, t) = told-question _ _ _ (c .before .before .before .before .before .before .before .read .ensures) _ (c .before .before .before .before .before .outcome2 .given .1) in
+    plain-register _ _ _ _ cs (t .reads) _ (refused-file _ _ (c .before .before .before .read2 .ensures) _ (c .before .r .given .1))
 
 same-length : tie.Need-same-length
 same-length c = search needs
@@ -53,8 +55,8 @@ same-length-2 c = search needs
 
 returns-3 : tie.Need-returns-3
 returns-3 c =
-    let q = question-accepted _ _ _ (c .before .before .before .before .before .before .before .before .before .before .before .before .before .before .before .before .before .read .ensures) _ (c .before .before .before .before .before .before .before .before .before .before .before .before .before .before .before .outcome2 .given .1) in
-    plain-accepted _ _ _ _ (q .0) (q .1 .reads) _ _ _ (accepted-file _ _ (c .before .before .before .before .before .before .before .before .before .before .before .before .before .read2 .ensures) _ _ (c .before .before .before .before .before .before .before .before .before .before .before .n .given .1)) _ (q .1 .symbols) (c .before .before .before .before .plain-in .ensures)
+    let (cs, t) = told-question _ _ _ (c .before .before .before .before .before .before .before .before .before .before .before .before .before .before .before .before .before .read .ensures) _ (c .before .before .before .before .before .before .before .before .before .before .before .before .before .before .before .outcome2 .given .1) in
+    plain-accepted _ _ _ _ cs (t .reads) _ _ _ (accepted-file _ _ (c .before .before .before .before .before .before .before .before .before .before .before .before .before .read2 .ensures) _ _ (c .before .before .before .before .before .before .before .before .before .before .before .n .given .1)) _ (question-accepted _ _ _ cs t .symbols) (c .before .before .before .before .plain-in .ensures)
 
 pub plain-answer-spec : {M : Type 1} → statement M
 plain-answer-spec =

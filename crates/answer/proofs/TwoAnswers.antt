@@ -31,7 +31,7 @@ use Rattle.answer.specs.Calls.{answer-need, answered, with-path, members
 use Rattle.answer.proofs.Meaning.{word-answered, same, same-narrowed}
 
 -- the members come back from their file
-members-back : (ms : List Member) → ((m : Member) → In m ms → MemberFits m) → members-of (map flat-of ms) ≡ ms
+pub members-back : (ms : List Member) → ((m : Member) → In m ms → MemberFits m) → members-of (map flat-of ms) ≡ ms
 members-back [] f = refl
 members-back (m ∷ ms) f =
     ap (λ (o : Option PathExpr). with-path (flat-of m) o (members-of (map flat-of ms))) (path-back m (f m (here refl)))

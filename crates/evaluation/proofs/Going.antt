@@ -2,16 +2,16 @@
 -- Assumes nothing.
 use mathlib.Core.Path.{_≡_, refl, sym, ap, ap₂, subst, _∙_}
 use mathlib.Core.List.{List, [], _∷_}
-use mathlib.Core.Option.{Option, none, some}
+use mathlib.Core.Option.{some}
 use Prim.Native.Nat.{ℕ, zero, suc, _+_, _-_, _*_, _≤_, _<_}
 use native.Mathlib.Nat.{mul-le-mul-right}
 use native.Mathlib.Omega.{arith}
 use lib.ListN.{length, getD}
 use Rattle.theory.specs.PathExpr.{PathExpr, step, join, op, closure, Symbol, s-step, s-join, s-op, s-closure}
-use Rattle.theory.specs.Postfix.{Stack, push, go-on, read, path-of}
+use Rattle.theory.specs.Postfix.{Stack, push, read, path-of}
 use Rattle.theory.specs.TransitiveClosure.{look}
 use Rattle.theory.specs.Evaluation.{evaluate}
-use Rattle.theory.proofs.Postfix.{none-some, single}
+use Rattle.theory.proofs.Postfix.{none-some, single, Step, read-step}
 use Rattle.fields.specs.Symbols.{symbol-numbered}
 use Rattle.rows.specs.Kept.{Kept}
 use Rattle.rows.proofs.Words.{kept-refl, kept-trans}
@@ -36,19 +36,6 @@ push-near (s-op o) (q ∷ []) st′ e = none-some e
 push-near (s-op o) (q ∷ p ∷ st) st′ e = let k : op o p q ∷ st ≡ st′ = cc in let m = ap length k in record { up = omega arith; down = omega arith }
 push-near s-closure [] st′ e = none-some e
 push-near s-closure (p ∷ st) st′ e = let k : closure p ∷ st ≡ st′ = cc in let m = ap length k in record { up = omega arith; down = omega arith }
-
--- symbols that are read find their operands
-record Step (x : Symbol) (ss : List Symbol) (st : Stack) (p : PathExpr) : Type 0 where
-  next : Stack
-  pushes : push x st ≡ some next
-  reads : read ss next ≡ some (p ∷ [])
-
-read-step : (x : Symbol) (ss : List Symbol) (st : Stack) (p : PathExpr) → read (x ∷ ss) st ≡ some (p ∷ []) → Step x ss st p
-read-step x ss st p e = go (push x st) refl e
-  where
-    go : (o : Option Stack) → push x st ≡ o → go-on o (read ss) ≡ some (p ∷ []) → Step x ss st p
-    go none q h = none-some h
-    go (some next) q h = record { next = next; pushes = q; reads = h }
 
 -- a stack is no higher than the symbols that take it down to one path
 read-height : (ss : List Symbol) (st : Stack) (p : PathExpr) → read ss st ≡ some (p ∷ []) → length st ≤ length ss + 1

@@ -1,6 +1,6 @@
 -- A question that was accepted: its symbols are 1 to 32, in range, and make one plain path.
 -- Assumes nothing.
-use Prim.Native.Nat.{ℕ, suc, _+_, _<_, _≤_}
+use Prim.Native.Nat.{ℕ, zero, suc, _+_, _<_, _≤_}
 use mathlib.Core.Path.{_≡_, refl, ap, ap₂, _∙_, sym, subst}
 use mathlib.Core.Logic.{inl}
 use mathlib.Core.Bool.{true, false≢true, _&&_}
@@ -151,13 +151,23 @@ symbols-are : (cs : List ℕ) → map symbol-of (symbols cs) ≡ question-symbol
 symbols-are [] = refl
 symbols-are (c ∷ cs) = ap (λ (l : List Symbol). symbol-numbered c 0 ∷ l) (symbols-are cs)
 
-small-codes : (cs : List ℕ) → Small cs → map code (question-symbols cs) ≡ cs
-small-codes [] h = refl
-small-codes (c ∷ cs) h = ap₂ (λ (x : ℕ) (l : List ℕ). x ∷ l) (code-number c (h .0)) (small-codes cs (h .1))
+-- each is the code of a symbol
+abbrev pub Known : List ℕ → Type 0
+Known cs = (k : ℕ) → k < length cs → getD cs k 0 < 134
+
+small-known : (cs : List ℕ) → Small cs → Known cs
+small-known [] h k l = absurd (omega arith)
+small-known (c ∷ cs) h zero l = h .0
+small-known (c ∷ cs) h (suc k) l = small-known cs (h .1) k (omega arith)
+
+pub known-codes : (cs : List ℕ) → Known cs → map code (question-symbols cs) ≡ cs
+known-codes [] h = refl
+known-codes (c ∷ cs) h = ap₂ (λ (x : ℕ) (l : List ℕ). x ∷ l) (code-number c (h 0 (omega arith))) (known-codes cs (λ k l. h (suc k) (omega arith)))
 
 -- a question of codes cs asks for path p
 pub record Asks (cs : List ℕ) (p : PathExpr) : Type 0 where
   pub path : path-of (question-symbols cs) ≡ some p
+  pub known : Known cs
   pub same-codes : codes p ≡ cs
   pub plain : T (plain? p)
   pub links : T (links? 64 p)
@@ -171,7 +181,8 @@ accepted-question s cs e =
     let (p, h) = runs-read (symbols cs) (record { left = length cs; depth = 0 }) [] runs (sym n) refl (omega (arith, n, some-symbols)) in
     let a : path-of (question-symbols cs) ≡ some p = ap path-of (sym (symbols-are cs)) ∙ ap single-path h in
     let b : postfix p ≡ question-symbols cs = postfix-path-of (question-symbols cs) p a in
-    let c = ap (map code) b ∙ small-codes cs small in
+    let known = small-known cs small in
+    let c = ap (map code) b ∙ known-codes cs known in
     let i = plain-path p (subst AllAsked (sym b) (small-asked cs small)) in
     let z : length cs ≡ size p = sym (length-map cs (λ x. symbol-numbered x 0)) ∙ ap length (sym b) ∙ length-postfix p in
-    (p, record { path = a; same-codes = c; plain = i .0; links = i .1; few = omega (arith, few, z); count = z })
+    (p, record { path = a; known = known; same-codes = c; plain = i .0; links = i .1; few = omega (arith, few, z); count = z })

@@ -104,7 +104,7 @@ module _ {qs ws : List ℕ} {s count i : ℕ} {n : Node} (h : Room qs ws s count
         };
       }
 
-  copy-added : {zs : List ℕ} {r : ℕ} → Added qs ws zs s count n r → Done qs ws zs (s + count) s r (adjoin-all triple? (part-of qs ws s count) (triple-of qs ws i ∷ []))
+  pub copy-added : {zs : List ℕ} {r : ℕ} → Added qs ws zs s count n r → Done qs ws zs (s + count) s r (adjoin-all triple? (part-of qs ws s count) (triple-of qs ws i ∷ []))
   copy-added a = one-added (triple-of qs ws i) (triple-of qs ws i ∷ []) h a (rw (a .words-are) copy-triple) (λ j. triple-of qs ws i ∷ [])
 
 -- ---- a run of copies

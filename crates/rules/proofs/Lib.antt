@@ -4,6 +4,7 @@ pub mod TwoLists
 pub mod Short
 -- a part that grows
 pub mod Grows
+pub mod Ranging
 -- pairs
 pub mod Pairs
 pub mod Rows

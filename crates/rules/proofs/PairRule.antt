@@ -8,6 +8,7 @@ use native.Mathlib.Omega.{arith}
 use Rattle.theory.specs.Lists.{adjoin-all}
 use Rattle.theory.specs.Inference.{Triple, triple?, distinct}
 use Rattle.theory.specs.Narrowing.{short?}
+use Rattle.rows.proofs.Words.{kept-refl}
 use Rattle.nodes.specs.Parts.{part-of}
 use Rattle.nodes.proofs.Triples.{triple-kept}
 use Rattle.nodes.proofs.Growing.{part-kept}
@@ -35,7 +36,7 @@ module _ {qs ws₀ : List ℕ} {made s p d q e : ℕ} (b : Paired made) (h : Two
       (record { paired = b; sound = rw z at (h .room .sound); in-table = omega (arith, h .room .room) }, h .left, h .right)
 
   pub rule-long : short? (rows-of qs ws₀ made p d q e) ≡ false → Ruled qs ws₀ ws₀ s (distinct (rows-of qs ws₀ made p d q e)) Long
-  rule-long f = ruled-long qs ws₀ s (distinct cs) (short-distinct cs ∙ f)
+  rule-long f = ruled-long (distinct cs) (short-distinct cs ∙ f) (kept-refl s (s + 129) ws₀)
 
   pub rule-start : short? (rows-of qs ws₀ made p d q e) ≡ true → RowsGrowing qs ws₀ ws₀ made s 0 p d q e p
   rule-start f = record { to = h .left .ordered; grows = rule-starts cs (h .room); short = f }

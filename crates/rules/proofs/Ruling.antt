@@ -13,7 +13,6 @@ use Rattle.theory.specs.Sheet.{Sheet}
 use Rattle.theory.specs.Inference.{Triple, triples}
 use Rattle.theory.specs.Narrowing.{short?, few?, part-fault}
 use Rattle.rows.specs.Kept.{Kept}
-use Rattle.rows.proofs.Words.{kept-refl}
 use Rattle.nodes.specs.Paths.{Sound}
 use Rattle.nodes.specs.Parts.{part-of}
 use Rattle.nodes.proofs.Growing.{length-part}
@@ -31,9 +30,9 @@ not-made r n (inr e) f = let z : _≡_ {A = ℕ} 0 1 = cc in absurd (omega arith
 refuses : {qs ws ws′ : List ℕ} {s : ℕ} {all : List Triple} {r : Part} → (r ≡ Many) ⊎ (r ≡ Long) → r ≡ outcome all → Kept s (s + 129) ws ws′ → Ruled qs ws ws′ s all r
 refuses {r = r} f e k = record { is = e; kept = k; sound = λ n z. not-made r n f z; part = λ n z. not-made r n f z; few = λ n z. not-made r n f z }
 
-pub ruled-long : (qs ws : List ℕ) (s : ℕ) (all : List Triple) → short? all ≡ false → Ruled qs ws ws s all Long
+pub ruled-long : {qs ws ws′ : List ℕ} {s : ℕ} (all : List Triple) → short? all ≡ false → Kept s (s + 129) ws ws′ → Ruled qs ws ws′ s all Long
 unfolding outcome
-ruled-long qs ws s all e = refuses (inr refl) (rw e) (kept-refl s (s + 129) ws)
+ruled-long all e k = refuses (inr refl) (rw e) k
 
 module _ {qs ws ws′ : List ℕ} {s count : ℕ} {all : List Triple} (e : short? all ≡ true) (d : Done qs ws ws′ s s count all) where
   pub ruled-many : 128 < count → Ruled qs ws ws′ s all Many

@@ -1,16 +1,15 @@
 -- The rule of a step: the kinds that a table permits, from kind by from kind.
 -- Assumes nothing.
-use mathlib.Core.Path.{_≡_, refl, sym, ap, _∙_, subst}
+use mathlib.Core.Path.{_≡_, sym, ap, _∙_, subst}
 use mathlib.Core.Bool.{Bool, true, false}
 use mathlib.Core.Logic.{⊎-elim}
-use mathlib.Core.List.{List, [], _++_}
-use Prim.Native.Nat.{ℕ, suc, _+_, _-_, _<_, _≤_}
-use native.Mathlib.Numerals.{add-one}
+use mathlib.Core.List.{List}
+use Prim.Native.Nat.{ℕ, _+_, _-_, _<_, _≤_}
 use native.Mathlib.Omega.{arith}
 use lib.Dec.{T, le→leb}
 use lib.ListN.{length, set}
 use borrow.Author.Tests.{lt-ltb, le-ltb}
-use Rattle.theory.specs.Lists.{adjoin-all, concat-map, tabulate}
+use Rattle.theory.specs.Lists.{adjoin-all}
 use Rattle.theory.specs.PathExpr.{s-step, size}
 use Rattle.theory.specs.Inference.{Triple, triple, triple?, distinct}
 use Rattle.theory.specs.Narrowing.{short?}
@@ -29,7 +28,8 @@ use Rattle.rules.specs.declared.Part.the-variants.{Made, Many}
 use Rattle.rules.specs.Outcome.{Ruled, Done}
 use Rattle.rules.specs.Marks.{direction-of, link-of, step-of, marked?, of-marks, mark-of, marks-of, AddMark, AddMarks}
 use Rattle.rules.proofs.Short.{short-path?, short-distinct}
-use Rattle.rules.proofs.Grows.{Growing, grows-start, rule-starts, grows-room, grows-over, grows-turn, grows-many, none-added, one-added}
+use Rattle.rules.proofs.Grows.{Growing, grows-start, rule-starts, none-added, one-added}
+use Rattle.rules.proofs.Ranging.{ahead, Ranging, ranging-room, ranging-over, ranging-many}
 use Rattle.rules.proofs.Ruling.{ruled-many, ruled-made}
 
 pub code-step : (c : ℕ) → c < 128 → symbol-numbered c 0 ≡ s-step (direction-of c) (link-of c)
@@ -96,52 +96,18 @@ module _ {qs ws : List ℕ} {c s count a b : ℕ} (h : AddMark qs ws c s count a
     unfolding mark-of
     mark-added f x = one-added (triple a (step-of c) b) (mark-of t c a b) (h .room) x (rw (x .words-are) triple-is) (rw (sym d ∙ f))
 
--- ---- what is left of a range
-module _ (f : ℕ → List Triple) (j e : ℕ) where
-  abbrev ahead : ℕ → List Triple
-  ahead j = concat-map f (tabulate (λ k. k) j (e - j))
-
-  ahead-next : j < e → ahead j ≡ f j ++ ahead (j + 1)
-  ahead-next h = let q : e - j ≡ suc (e - (j + 1)) = omega arith in rw (q, add-one j)
-
-  ahead-over : e ≤ j → ahead j ≡ []
-  ahead-over h = let q : e - j ≡ 0 = omega arith in rw q
-
 -- ---- from one kind
-pub record MarksGrowing (qs ws₀ ws t : List ℕ) (K c s start count a b : ℕ) : Type 0 where
-  pub to : b ≤ K
-  pub grows : Growing qs ws₀ ws (s + start) s count (adjoin-all triple? (part-of qs ws₀ s start) (marks-of t c a 0 K)) (marks-of t c a b K)
+module _ {qs ws₀ : List ℕ} {K c s start : ℕ} (h : AddMarks qs ws₀ K c s start) where
+  pub marks-start : (t : List ℕ) (a : ℕ) → Ranging qs ws₀ ws₀ (s + start) s start (adjoin-all triple? (part-of qs ws₀ s start) (marks-of t c a 0 K)) (mark-of t c a) 0 K
+  unfolding marks-of
+  marks-start t a = record { to = omega arith; grows = grows-start (marks-of t c a 0 K) (h .room) }
 
-module _ {qs ws₀ : List ℕ} {K c s start a : ℕ} (h : AddMarks qs ws₀ K c s start) where
-  pub marks-start : (t : List ℕ) → MarksGrowing qs ws₀ ws₀ t K c s start start a 0
-  marks-start t = record { to = omega arith; grows = grows-start (marks-of t c a 0 K) (h .room) }
-
-  module _ {ws t : List ℕ} {count b : ℕ} (g : MarksGrowing qs ws₀ ws t K c s start count a b) where
-    pub marks-over : K ≤ b → Done qs ws₀ ws (s + start) s count (adjoin-all triple? (part-of qs ws₀ s start) (marks-of t c a 0 K))
-    unfolding marks-of
-    marks-over l = grows-over (g .grows) (ahead-over (mark-of t c a) b K l)
-
-    module _ (l : b < K) where
-      pub marks-asks : a < 64 → AddMark qs ws c s count a b
-      marks-asks m = record { code = h .code; room = grows-room (g .grows) (h .room); from-kind = m; to-kind = omega (arith, h .kinds) }
-
-      next : marks-of t c a b K ≡ mark-of t c a b ++ marks-of t c a (b + 1) K
-      unfolding marks-of
-      next = ahead-next (mark-of t c a) b K l
-
-      module _ {ws′ : List ℕ} {r : ℕ} (d : Done qs ws ws′ (s + count) s r (adjoin-all triple? (part-of qs ws s count) (mark-of t c a b))) where
-        pub marks-turn : r ≤ 128 → MarksGrowing qs ws₀ ws′ t K c s start r a (b + 1)
-        marks-turn m = record { to = omega arith; grows = grows-turn (g .grows) (mark-of t c a b) (mark-of t c a b) (marks-of t c a (b + 1) K) d refl next m }
-
-        pub marks-many : 128 < r → Done qs ws₀ ws′ (s + start) s r (adjoin-all triple? (part-of qs ws₀ s start) (marks-of t c a 0 K))
-        marks-many m = grows-many (g .grows) (mark-of t c a b) (mark-of t c a b) (marks-of t c a (b + 1) K) d refl next m
+  pub marks-asks : {ws : List ℕ} {u count a b : ℕ} {all : List Triple} {f : ℕ → List Triple} → Ranging qs ws₀ ws u s count all f b K → b < K → a < 64 → AddMark qs ws c s count a b
+  marks-asks g l m = record { code = h .code; room = ranging-room g (h .room); from-kind = m; to-kind = omega (arith, h .kinds) }
 
 -- ---- from each kind
-unfoldable pub all-from : List ℕ → ℕ → ℕ → ℕ → List Triple
-all-from t c a K = concat-map (λ k. marks-of t c k 0 K) (tabulate (λ k. k) a (K - a))
-
-from-first : (t : List ℕ) (c K : ℕ) → of-marks t K c ≡ all-from t c 0 K
-unfolding of-marks all-from marks-of mark-of
+from-first : (t : List ℕ) (c K : ℕ) → of-marks t K c ≡ ahead (λ a. marks-of t c a 0 K) 0 K
+unfolding of-marks marks-of mark-of
 from-first t c K = let q : K - 0 ≡ K = omega arith in rw q
 
 marks-short : (t : List ℕ) (c K : ℕ) → short? (distinct (of-marks t K c)) ≡ true
@@ -152,34 +118,21 @@ marks-short t c K =
     (in-every short-path? (of-marks t K c)
     (λ u m. subst (λ (v : Triple). T (short-path? v)) (sym (in-between K (step-of c) (marked? t c) m .3)) (le→leb 1 48 (omega arith))))
 
-pub record StepGrowing (qs ws₀ ws t : List ℕ) (K c s count a : ℕ) : Type 0 where
-  pub to : a ≤ K
-  pub grows : Growing qs ws₀ ws s s count (distinct (of-marks t K c)) (all-from t c a K)
-
 module _ {qs ws₀ : List ℕ} {K c s : ℕ} (h : AddMarks qs ws₀ K c s 0) where
-  pub step-start : (t : List ℕ) → StepGrowing qs ws₀ ws₀ t K c s 0 0
+  pub step-start : (t : List ℕ) → Ranging qs ws₀ ws₀ s s 0 (distinct (of-marks t K c)) (λ a. marks-of t c a 0 K) 0 K
   step-start t =
       record {
         to = omega arith;
         grows = subst (λ (l : List Triple). Growing qs ws₀ ws₀ s s 0 (distinct (of-marks t K c)) l) (from-first t c K) (rule-starts (of-marks t K c) (h .room));
       }
 
-  module _ {ws t : List ℕ} {count a : ℕ} (g : StepGrowing qs ws₀ ws t K c s count a) where
+  module _ (t : List ℕ) {ws : List ℕ} {count a : ℕ} (g : Ranging qs ws₀ ws s s count (distinct (of-marks t K c)) (λ a. marks-of t c a 0 K) a K) where
     pub step-over : K ≤ a → Ruled qs ws₀ ws s (distinct (of-marks t K c)) (Made count)
-    unfolding all-from
-    step-over l = ruled-made (marks-short t c K) (grows-over (g .grows) (ahead-over (λ k. marks-of t c k 0 K) a K l)) (g .grows .few)
+    step-over l = ruled-made (marks-short t c K) (ranging-over g l) (g .grows .few)
 
     module _ (l : a < K) where
       pub step-asks : AddMarks qs ws K c s count × (a < 64)
-      step-asks = (record { code = h .code; room = grows-room (g .grows) (h .room); kinds = h .kinds }, omega (arith, h .kinds))
+      step-asks = (record { code = h .code; room = ranging-room g (h .room); kinds = h .kinds }, omega (arith, h .kinds))
 
-      further : all-from t c a K ≡ marks-of t c a 0 K ++ all-from t c (a + 1) K
-      unfolding all-from
-      further = ahead-next (λ k. marks-of t c k 0 K) a K l
-
-      module _ {ws′ : List ℕ} {r : ℕ} (d : Done qs ws ws′ (s + count) s r (adjoin-all triple? (part-of qs ws s count) (marks-of t c a 0 K))) where
-        pub step-turn : r ≤ 128 → StepGrowing qs ws₀ ws′ t K c s r (a + 1)
-        step-turn m = record { to = omega arith; grows = grows-turn (g .grows) (marks-of t c a 0 K) (marks-of t c a 0 K) (all-from t c (a + 1) K) d refl further m }
-
-        pub step-many : 128 < r → Ruled qs ws₀ ws′ s (distinct (of-marks t K c)) Many
-        step-many m = ruled-many (marks-short t c K) (grows-many (g .grows) (marks-of t c a 0 K) (marks-of t c a 0 K) (all-from t c (a + 1) K) d refl further m) m
+      pub step-many : {ws′ : List ℕ} {r : ℕ} → Done qs ws ws′ (s + count) s r (adjoin-all triple? (part-of qs ws s count) (marks-of t c a 0 K)) → 128 < r → Ruled qs ws₀ ws′ s (distinct (of-marks t K c)) Many
+      step-many d m = ruled-many (marks-short t c K) (ranging-many g l d m) m

@@ -13,6 +13,7 @@ pub mod Walks
 pub mod ClosureRule
 pub mod Growth
 pub mod Inside
+pub mod Ends
 pub mod Inference
 -- the meaning of a question and of its triples
 pub mod Soundness

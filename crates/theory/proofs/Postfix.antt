@@ -22,7 +22,7 @@ pub path-of-postfix : (p : PathExpr) → path-of (postfix p) ≡ some p
 path-of-postfix p = ap single-path (ap (λ x. read x []) (sym (append-nil (postfix p))) ∙ read-postfix p [] [])
 
 -- ---- the symbols of a stack, from the bottom
-abbrev symbols : Stack → List Symbol
+abbrev pub symbols : Stack → List Symbol
 symbols [] = []
 symbols (p ∷ st) = symbols st ++ postfix p
 
@@ -37,7 +37,7 @@ single (some (x ∷ [])) p e = let z : x ≡ p = cc in ap (λ (y : PathExpr). so
 single (some (x ∷ y ∷ st)) p e = none-some e
 
 -- one symbol adds itself
-push-symbols : (s : Symbol) (st st′ : Stack) → push s st ≡ some st′ → symbols st′ ≡ symbols st ++ (s ∷ [])
+pub push-symbols : (s : Symbol) (st st′ : Stack) → push s st ≡ some st′ → symbols st′ ≡ symbols st ++ (s ∷ [])
 push-symbols (s-step d l) st st′ e = let f : step d l ∷ st ≡ st′ = cc in ap symbols (sym f)
 push-symbols (s-join v) [] st′ e = none-some e
 push-symbols (s-join v) (q ∷ []) st′ e = none-some e
@@ -53,6 +53,19 @@ push-symbols s-closure [] st′ e = none-some e
 push-symbols s-closure (p ∷ st) st′ e =
     let f : closure p ∷ st ≡ st′ = cc in
     ap symbols (sym f) ∙ sym (append-assoc (symbols st) (postfix p) (s-closure ∷ []))
+
+-- symbols that come to one path find their operands
+pub record Step (x : Symbol) (ss : List Symbol) (st : Stack) (p : PathExpr) : Type 0 where
+  pub next : Stack
+  pub pushes : push x st ≡ some next
+  pub reads : read ss next ≡ some (p ∷ [])
+
+pub read-step : (x : Symbol) (ss : List Symbol) (st : Stack) (p : PathExpr) → read (x ∷ ss) st ≡ some (p ∷ []) → Step x ss st p
+read-step x ss st p e = go (push x st) refl e
+  where
+    go : (o : Option Stack) → push x st ≡ o → go-on o (read ss) ≡ some (p ∷ []) → Step x ss st p
+    go none q h = none-some h
+    go (some next) q h = record { next = next; pushes = q; reads = h }
 
 read-symbols : (ss : List Symbol) (st st′ : Stack) → read ss st ≡ some st′ → symbols st′ ≡ symbols st ++ ss
 read-symbols [] st st′ e = let f : st ≡ st′ = cc in ap symbols (sym f) ∙ sym (append-nil (symbols st))

@@ -11,7 +11,7 @@ use Rattle.theory.specs.PathExpr.{PathExpr, same?, path-discrete}
 use Rattle.theory.specs.Derivation.{Triples}
 use Rattle.theory.specs.Inference.{Triple, triple, triple?, distinct, between, pairs}
 use Rattle.theory.proofs.Tests.{tests, of-decided, to-decided}
-use Rattle.theory.proofs.Lists.{in-guard, guard-in, in-concat-map, concat-map-in, range-in}
+use Rattle.theory.proofs.Lists.{in-guard, guard-in, in-concat-map, concat-map-in, range-in, in-range}
 use Rattle.theory.proofs.Distinct.{in-adjoin-all, adjoin-all-new, adjoin-all-norepeat}
 
 pub triple-eq : (x y : Triple) → T (triple? x y) → x ≡ y
@@ -80,6 +80,14 @@ module _ (n : ℕ) (p : PathExpr) (f : ℕ → ℕ → Bool) where
       let y = in-concat-map (λ b. guard (f (x .0) b) (triple (x .0) p b ∷ [])) (range n) (x .2) in
       let g = in-guard (f (x .0) (y .0)) (triple (x .0) p (y .0) ∷ []) (y .2) in
       (x .0, y .0, g .0, in-one (g .1))
+
+  -- its kinds are below n
+  pub between-ends : {t : Triple} → In t (between n p f) → (t .from < n) × (t .to < n)
+  between-ends m =
+      let x = in-concat-map (λ a. concat-map (λ b. guard (f a b) (triple a p b ∷ [])) (range n)) (range n) m in
+      let y = in-concat-map (λ b. guard (f (x .0) b) (triple (x .0) p b ∷ [])) (range n) (x .2) in
+      let g = in-guard (f (x .0) (y .0)) (triple (x .0) p (y .0) ∷ []) (y .2) in
+      rw (in-one (g .1)) (in-range n (x .1), in-range n (y .1))
 
   pub between-in : {a b : ℕ} → a < n → b < n → T (f a b) → In (triple a p b) (between n p f)
   between-in {a} {b} h k t =

@@ -1,8 +1,13 @@
 -- `rules::add_marks` meets its contract.
 -- Assumes nothing.
-use Rattle.rules.proofs.Steps.{MarksGrowing, marks-start, marks-asks, marks-turn, marks-many, marks-over}
+use Rattle.theory.specs.Lists.{adjoin-all}
+use Rattle.theory.specs.Inference.{triple?}
+use Rattle.nodes.specs.Parts.{part-of}
+use Rattle.rules.specs.Marks.{mark-of, marks-of}
+use Rattle.rules.proofs.Ranging.{Ranging, ranging-turn, ranging-many, ranging-over}
+use Rattle.rules.proofs.Steps.{marks-start, marks-asks}
 use borrow.Author.Needs.{needs}
-use Prim.Native.Nat.{_-_}
+use Prim.Native.Nat.{_+_, _-_}
 use Rattle.rules.proofs.add_marks.Statement.{statement}
 use Rattle.rules.proofs.add_marks.Tie as tie
 use Rattle.rules.proofs.add_marks.Reads as reads
@@ -10,13 +15,14 @@ use Rattle.rules.proofs.add_marks.Lts as lts
 use Rattle.rules.proofs.add_mark.Reads as add-mark-reads
 
 abbrev Inv-loop : tie.InvT-loop
-Inv-loop words₀ question table kinds c s start a count₀ b₀ words count b = MarksGrowing question words₀ words table kinds c s start count a b
+Inv-loop words₀ question table kinds c s start a count₀ b₀ words count b =
+    Ranging question words₀ words (s + start) s count (adjoin-all triple? (part-of question words₀ s start) (marks-of table c a 0 kinds)) (mark-of table c a) b kinds
 
 abbrev μ-loop : tie.MeasureT-loop
 μ-loop words₀ question table kinds c s start a count₀ b₀ words count b = kinds - b
 
 loop-holds : tie.Need-loop-holds Inv-loop μ-loop
-loop-holds c = marks-start (c .before .before .pre .0) _
+loop-holds c = marks-start (c .before .before .pre .0) _ _
 
 add-mark-requires : tie.Need-add-mark-requires Inv-loop μ-loop
 add-mark-requires c κs = marks-asks (c .before .before .before .before .before .pre .0) (c .before .before .loop .inv) (c .before .loop-test .taken) (c .before .before .before .before .before .pre .1)
@@ -25,7 +31,7 @@ same-length : tie.Need-same-length Inv-loop μ-loop
 same-length c = search needs
 
 returns : tie.Need-returns Inv-loop μ-loop
-returns c = marks-many (c .before .before .before .before .before .before .before .before .before .pre .0) (c .before .before .before .before .before .before .loop .inv) (c .before .before .before .before .before .loop-test .taken) (c .before .before .before .add-mark .ensures) (c .if1 .taken)
+returns c = ranging-many (c .before .before .before .before .before .before .loop .inv) (c .before .before .before .before .before .loop-test .taken) (c .before .before .before .add-mark .ensures) (c .if1 .taken)
 
 add-b : tie.Need-add-b Inv-loop μ-loop
 add-b c = search needs
@@ -34,13 +40,13 @@ loop-less : tie.Need-loop-less Inv-loop μ-loop
 loop-less c = search needs
 
 loop-again : tie.Need-loop-again Inv-loop μ-loop
-loop-again c = marks-turn (c .before .before .before .before .before .before .before .before .before .pre .0) (c .before .before .before .before .before .before .loop .inv) (c .before .before .before .before .before .loop-test .taken) (c .before .before .before .add-mark .ensures) (c .if1 .left)
+loop-again c = ranging-turn (c .before .before .before .before .before .before .loop .inv) (c .before .before .before .before .before .loop-test .taken) (c .before .before .before .add-mark .ensures) (c .if1 .left)
 
 same-length-2 : tie.Need-same-length-2 Inv-loop μ-loop
 same-length-2 c = search needs
 
 returns-2 : tie.Need-returns-2 Inv-loop μ-loop
-returns-2 c = marks-over (c .before .before .before .before .pre .0) (c .before .loop .inv) (c .loop-test .left)
+returns-2 c = ranging-over (c .before .loop .inv) (c .loop-test .left)
 
 pub add-marks-spec : {M : Type 1} → statement M
 add-marks-spec =

@@ -1,6 +1,9 @@
 -- `rules::step_rule` meets its contract.
 -- Assumes nothing.
-use Rattle.rules.proofs.Steps.{StepGrowing, step-start, step-asks, step-turn, step-many, step-over}
+use Rattle.theory.specs.Inference.{distinct}
+use Rattle.rules.specs.Marks.{of-marks, marks-of}
+use Rattle.rules.proofs.Ranging.{Ranging, ranging-turn}
+use Rattle.rules.proofs.Steps.{step-start, step-asks, step-many, step-over}
 use borrow.Author.Needs.{needs}
 use Prim.Native.Nat.{_-_}
 use Rattle.rules.proofs.step_rule.Statement.{statement}
@@ -10,7 +13,7 @@ use Rattle.rules.proofs.step_rule.Lts as lts
 use Rattle.rules.proofs.add_marks.Reads as add-marks-reads
 
 abbrev Inv-loop : tie.InvT-loop
-Inv-loop words₀ question table kinds c s count₀ a₀ words count a = StepGrowing question words₀ words table kinds c s count a
+Inv-loop words₀ question table kinds c s count₀ a₀ words count a = Ranging question words₀ words s s count (distinct (of-marks table kinds c)) (λ k. marks-of table c k 0 kinds) a kinds
 
 abbrev μ-loop : tie.MeasureT-loop
 μ-loop words₀ question table kinds c s count₀ a₀ words count a = kinds - a
@@ -19,13 +22,13 @@ loop-holds : tie.Need-loop-holds Inv-loop μ-loop
 loop-holds c = step-start (c .before .before .pre) _
 
 add-marks-requires : tie.Need-add-marks-requires Inv-loop μ-loop
-add-marks-requires c κs = step-asks (c .before .before .before .before .before .pre) (c .before .before .loop .inv) (c .before .loop-test .taken)
+add-marks-requires c κs = step-asks (c .before .before .before .before .before .pre) _ (c .before .before .loop .inv) (c .before .loop-test .taken)
 
 same-length : tie.Need-same-length Inv-loop μ-loop
 same-length c = search needs
 
 returns : tie.Need-returns Inv-loop μ-loop
-returns c = step-many (c .before .before .before .before .before .before .before .before .before .pre) (c .before .before .before .before .before .before .loop .inv) (c .before .before .before .before .before .loop-test .taken) (c .before .before .before .add-marks .ensures) (c .if1 .taken)
+returns c = step-many (c .before .before .before .before .before .before .before .before .before .pre) _ (c .before .before .before .before .before .before .loop .inv) (c .before .before .before .before .before .loop-test .taken) (c .before .before .before .add-marks .ensures) (c .if1 .taken)
 
 add-a : tie.Need-add-a Inv-loop μ-loop
 add-a c = search needs
@@ -34,13 +37,13 @@ loop-less : tie.Need-loop-less Inv-loop μ-loop
 loop-less c = search needs
 
 loop-again : tie.Need-loop-again Inv-loop μ-loop
-loop-again c = step-turn (c .before .before .before .before .before .before .before .before .before .pre) (c .before .before .before .before .before .before .loop .inv) (c .before .before .before .before .before .loop-test .taken) (c .before .before .before .add-marks .ensures) (c .if1 .left)
+loop-again c = ranging-turn (c .before .before .before .before .before .before .loop .inv) (c .before .before .before .before .before .loop-test .taken) (c .before .before .before .add-marks .ensures) (c .if1 .left)
 
 same-length-2 : tie.Need-same-length-2 Inv-loop μ-loop
 same-length-2 c = search needs
 
 returns-2 : tie.Need-returns-2 Inv-loop μ-loop
-returns-2 c = step-over (c .before .before .before .before .pre) (c .before .loop .inv) (c .loop-test .left)
+returns-2 c = step-over (c .before .before .before .before .pre) _ (c .before .loop .inv) (c .loop-test .left)
 
 pub step-rule-spec : {M : Type 1} → statement M
 step-rule-spec =

@@ -1,0 +1,148 @@
+-- `inference::infer` meets its contract.
+-- Assumes nothing.
+use borrow.Author.Needs.{needs}
+use Prim.Native.Nat.{_-_}
+use native.Mathlib.Omega.{arith}
+use Rattle.inference.proofs.infer.Statement.{statement}
+use Rattle.inference.proofs.infer.Tie as tie
+use Rattle.inference.proofs.infer.Reads as reads
+use Rattle.inference.proofs.infer.Lts as lts
+use Rattle.fields.proofs.operands.Reads as operands-reads
+use Rattle.inference.proofs.origin.Reads as origin-reads
+use Rattle.inference.proofs.rule.Reads as rule-reads
+use Rattle.inference.specs.Questions.{Asking}
+use Rattle.inference.proofs.Turning.{Running, enough, turn-at}
+use Rattle.inference.proofs.Running.{running-start, running-many, running-long, running-more, running-end}
+
+abbrev Inv-loop : tie.InvT-loop
+Inv-loop words₀ question count table kinds parts₀ depth₀ used₀ i₀ words parts depth used i = (h : Asking question words₀ count kinds) × Running question words₀ words table count kinds (h .path) parts depth used i
+
+abbrev μ-loop : tie.MeasureT-loop
+μ-loop words₀ question count table kinds parts₀ depth₀ used₀ i₀ words parts depth used i = count - i
+
+loop-holds : tie.Need-loop-holds Inv-loop μ-loop
+loop-holds c = (c .before .before .pre, running-start (c .before .before .pre))
+
+shared-slice-read-c : tie.Need-shared-slice-read-c Inv-loop μ-loop
+shared-slice-read-c c = search needs
+
+operands-requires : tie.Need-operands-requires Inv-loop μ-loop
+operands-requires c κs = search needs
+
+cast-b : tie.Need-cast-b Inv-loop μ-loop
+cast-b c = search needs
+
+sub-b : tie.Need-sub-b Inv-loop μ-loop
+sub-b c = omega (arith, enough (c .before .before .before .loop .inv .0) (c .before .before .before .loop .inv .1) (c .before .before .loop-test .taken) (c .operands .ensures))
+
+mul-x : tie.Need-mul-x Inv-loop μ-loop
+mul-x c = search needs
+
+array-copy-out-x : tie.Need-array-copy-out-x Inv-loop μ-loop
+array-copy-out-x c = search needs
+
+add-rule : tie.Need-add-rule Inv-loop μ-loop
+add-rule c = search needs
+
+mul-rule : tie.Need-mul-rule Inv-loop μ-loop
+mul-rule c = search needs
+
+array-copy-out-rule : tie.Need-array-copy-out-rule Inv-loop μ-loop
+array-copy-out-rule c = search needs
+
+rule-requires : tie.Need-rule-requires Inv-loop μ-loop
+rule-requires c κs = turn-at (c .before .before .before .before .before .before .loop .inv .0) (c .before .before .before .before .before .before .loop .inv .1) (c .before .before .before .before .before .loop-test .taken) (c .before .before .before .operands .ensures) .asks
+
+enum-told : tie.Need-enum-told Inv-loop μ-loop
+enum-told c = search needs
+
+same-length : tie.Need-same-length Inv-loop μ-loop
+same-length c = search needs
+
+returns : tie.Need-returns Inv-loop μ-loop
+returns c = running-long (c .before .before .before .before .before .before .before .before .before .before .before .loop .inv .0) (c .before .before .before .before .before .before .before .before .before .before .before .loop .inv .1) (c .before .before .before .before .before .before .before .before .before .before .loop-test .taken) (c .before .before .before .before .before .before .before .before .operands .ensures) (c .before .before .before .before .rule .ensures) (c .enum-told .given .1)
+
+enum-told-2 : tie.Need-enum-told-2 Inv-loop μ-loop
+enum-told-2 c = search needs
+
+same-length-2 : tie.Need-same-length-2 Inv-loop μ-loop
+same-length-2 c = search needs
+
+returns-2 : tie.Need-returns-2 Inv-loop μ-loop
+returns-2 c = running-many (c .before .before .before .before .before .before .before .before .before .before .before .loop .inv .0) (c .before .before .before .before .before .before .before .before .before .before .before .loop .inv .1) (c .before .before .before .before .before .before .before .before .before .before .loop-test .taken) (c .before .before .before .before .before .before .before .before .operands .ensures) (c .before .before .before .before .rule .ensures) (c .enum-told2 .given .1)
+
+enum-known-n : tie.Need-enum-known-n Inv-loop μ-loop
+enum-known-n c = search needs
+
+add-t31 : tie.Need-add-t31 Inv-loop μ-loop
+add-t31 c = omega (arith, c .before .before .before .before .before .rule .ensures .few (c .before .n .given .0 .0) (c .before .n .given .1))
+
+origin-requires : tie.Need-origin-requires Inv-loop μ-loop
+origin-requires c κs = search needs
+
+mul-parts : tie.Need-mul-parts Inv-loop μ-loop
+mul-parts c = search needs
+
+array-set-from-parts : tie.Need-array-set-from-parts Inv-loop μ-loop
+array-set-from-parts c = search needs
+
+add-depth : tie.Need-add-depth Inv-loop μ-loop
+add-depth c = search needs
+
+add-used : tie.Need-add-used Inv-loop μ-loop
+add-used c = omega (arith, c .before .before .before .before .before .before .rule .ensures .few (c .before .before .n .given .0 .0) (c .before .before .n .given .1))
+
+add-i : tie.Need-add-i Inv-loop μ-loop
+add-i c = search needs
+
+loop-less : tie.Need-loop-less Inv-loop μ-loop
+loop-less c = search needs
+
+loop-again : tie.Need-loop-again Inv-loop μ-loop
+loop-again c = (c .before .before .before .before .before .before .before .before .before .before .before .before .before .loop .inv .0, running-more (c .before .before .before .before .before .before .before .before .before .before .before .before .before .loop .inv .0) (c .before .before .before .before .before .before .before .before .before .before .before .before .before .loop .inv .1) (c .before .before .before .before .before .before .before .before .before .before .before .before .loop-test .taken) (c .before .before .before .before .before .before .before .before .before .before .operands .ensures) (c .before .before .before .before .before .before .rule .ensures) (c .before .before .n .given .1) (c .origin .ensures))
+
+array-copy-out-q : tie.Need-array-copy-out-q Inv-loop μ-loop
+array-copy-out-q c = search needs
+
+same-length-3 : tie.Need-same-length-3 Inv-loop μ-loop
+same-length-3 c = search needs
+
+returns-3 : tie.Need-returns-3 Inv-loop μ-loop
+returns-3 c = running-end (c .before .before .loop .inv .0) (c .before .before .loop .inv .1) (c .before .loop-test .left)
+
+pub infer-spec : {M : Type 1} → statement M
+infer-spec =
+    tie.close
+    (tie.spec
+    Inv-loop
+    μ-loop
+    loop-holds
+    shared-slice-read-c
+    operands-requires
+    cast-b
+    sub-b
+    mul-x
+    array-copy-out-x
+    add-rule
+    mul-rule
+    array-copy-out-rule
+    rule-requires
+    enum-told
+    same-length
+    returns
+    enum-told-2
+    same-length-2
+    returns-2
+    enum-known-n
+    add-t31
+    origin-requires
+    mul-parts
+    array-set-from-parts
+    add-depth
+    add-used
+    add-i
+    loop-less
+    loop-again
+    array-copy-out-q
+    same-length-3
+    returns-3)

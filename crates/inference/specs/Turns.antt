@@ -1,0 +1,41 @@
+-- One symbol of a question: what its rule asks of the parts that it takes, and the triples of the part that it ends.
+-- 01-scope.md, "Inference and merging": "Each symbol of the question ends a part of it, and each part has a set of triples".
+-- Assumes nothing.
+use mathlib.Core.Path.{_≡_}
+use mathlib.Core.Bool.{cond}
+use mathlib.Core.List.{List}
+use Prim.Native.Nat.{ℕ, _-_, _<_, _≤_}
+use lib.Dec.{eqb, ltb}
+use Rattle.theory.specs.PathExpr.{PathExpr}
+use Rattle.theory.specs.Inference.{Triple, distinct, of-closure}
+use Rattle.nodes.specs.Paths.{original}
+use Rattle.rules.specs.Two.{of-two}
+use Rattle.rules.specs.Asks.{Room, part, Unite}
+use Rattle.rules.specs.Marks.{of-marks}
+use Rattle.closures.specs.Asks.{Closing}
+use Rattle.inference.specs.declared.Span.{Span}
+
+-- the triples of a part of the question
+abbrev pub triples-in : List ℕ → List ℕ → Span → List Triple
+triples-in qs ws x = part qs ws (x .start) (x .end)
+
+-- the triples that the symbol with code c gives: a step by a table of K kinds; the closure of p, whose triples are xs; an operator of two parts
+unfoldable pub of-code : List ℕ → ℕ → ℕ → PathExpr → List Triple → List Triple → List Triple
+of-code t K c p xs ys = cond (ltb c 128) (of-marks t K c) (cond (eqb c 133) (of-closure 64 p xs) (of-two c xs ys))
+
+-- the part that symbol i ends, where it takes the parts x and y (a closure x alone)
+abbrev pub made-of : List ℕ → List ℕ → List ℕ → ℕ → ℕ → ℕ → Span → Span → List Triple
+made-of qs ws t K c i x y = distinct (of-code t K c (original qs (x .from) (i - x .from)) (triples-in qs ws x) (triples-in qs ws y))
+
+-- where the symbols of the part start that symbol i ends: a step's there, an operator's where those of its first operand do
+unfoldable pub origin-of : ℕ → ℕ → Span → ℕ
+origin-of c i x = cond (ltb c 128) i (x .from)
+
+-- what its rule asks
+pub record Turned (qs ws : List ℕ) (K c used i : ℕ) (x y : Span) : Type 0 where
+  pub code : c < 134
+  pub kinds : K ≤ 64
+  pub room : Room qs ws used 0
+  pub back : c ≡ 133 → x .from ≤ i
+  pub closing : c ≡ 133 → Closing qs ws used (x .start) (x .end) (x .from) (i - x .from)
+  pub two : 128 ≤ c → c < 133 → Unite qs ws used (x .start) (x .end) (y .start) (y .end)

@@ -1,0 +1,115 @@
+// The triples of a question, symbol by symbol, over the table of nodes.
+use fields::Refusal;
+use rules::Part;
+ghost use mathlib.Core.Path.{_≡_};
+ghost use Rattle.rules.specs.Outcome.{Ruled};
+ghost use Rattle.inference.specs.Turns.{Turned, origin-of, made-of};
+ghost use Rattle.inference.specs.Questions.{Asking, Infers};
+
+// The triples of the question, as nodes from the one number up to the other; or 12 or 13 at the first symbol that has
+// either.
+pub enum Inferred {
+    Triples(usize, usize),
+    Refused(Refusal),
+}
+
+// A part of the question: its nodes from `start` up to `end`, and where its symbols start.
+pub struct Span {
+    pub start: usize,
+    pub end: usize,
+    pub from: usize,
+}
+
+// No part yet.
+const NONE: Span = Span {
+    start: 0,
+    end: 0,
+    from: 0,
+};
+
+// The rule of symbol i with code c, for the parts x and y (of a closure x alone): its part is made from `used` on.
+fn rule(
+    words: &mut [u64],
+    question: &[u8],
+    table: &[u64; 4096],
+    kinds: usize,
+    c: u8,
+    used: usize,
+    i: usize,
+    x: Span,
+    y: Span,
+) -> Part
+    requires { ⌜ Turned (now question) (now words) kinds c used i x y ⌝ }
+    ensures { λ r. ⌜ Ruled (now (question .entry)) (now (words .entry)) (now (words .exit)) used (made-of (now (question .entry)) (now (words .entry)) (now (table .entry)) kinds c i x y) r ⌝ }
+{
+    if c < 128 {
+        return rules::step_rule(words, question, table, kinds, c as usize, used);
+    }
+    if c == 133 {
+        return closures::closure_rule(words, question, used, x.start, x.end, x.from, i - x.from);
+    }
+    if c == 129 {
+        return rules::union_rule(words, question, used, x.start, x.end, y.start, y.end);
+    }
+    rules::pair_rule(
+        words,
+        question,
+        c as usize,
+        used,
+        x.start,
+        x.end,
+        y.start,
+        y.end,
+    )
+}
+
+// Where the symbols of the new part start: a step's here, an operator's where those of its first operand do.
+fn origin(c: u8, i: usize, x: Span) -> usize
+    ensures { λ r. ⌜ r ≡ origin-of c i x ⌝ }
+{
+    if c < 128 {
+        return i;
+    }
+    x.from
+}
+
+// The triples of a question of `count` symbols, by a sheet's table of so many kinds.
+pub fn infer(
+    words: &mut [u64],
+    question: &[u8],
+    count: usize,
+    table: &[u64; 4096],
+    kinds: usize,
+) -> Inferred
+    requires { ⌜ Asking (now question) (now words) count kinds ⌝ }
+    ensures { λ r. ⌜ Infers (now (question .entry)) (now (words .entry)) (now (words .exit)) (now (table .entry)) count kinds r ⌝ }
+{
+    // One place more than symbols: every symbol looks at a second part.
+    let mut parts = [NONE; 33];
+    let mut depth: usize = 0;
+    let mut used: usize = 0;
+    for i in 0..count {
+        let c = question[i];
+        let b = depth - fields::operands(c) as usize;
+        let x = parts[b];
+        match rule(words, question, table, kinds, c, used, i, x, parts[b + 1]) {
+            Part::Long => {
+                return Inferred::Refused(Refusal::TooLong(i));
+            }
+            Part::Many => {
+                return Inferred::Refused(Refusal::TooMany(i));
+            }
+            Part::Made(n) => {
+                parts[b] = Span {
+                    start: used,
+                    end: used + n,
+                    from: origin(c, i, x),
+                };
+                depth = b + 1;
+                used += n;
+            }
+        }
+    }
+    let q = parts[0];
+    Inferred::Triples(q.start, q.end)
+}

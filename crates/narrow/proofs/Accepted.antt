@@ -1,0 +1,98 @@
+-- What an accepted narrowing says: both files were read, nothing was refused, and the file is that of the members.
+-- Assumes nothing.
+use mathlib.Core.Path.{_≡_, refl, sym, ap, _∙_}
+use mathlib.Core.Bool.{Bool, true, false}
+use mathlib.Core.List.{List, _++_}
+use Prim.Native.Nat.{ℕ, _+_, _≤_}
+use native.Mathlib.Omega.{arith}
+use lib.Dec.{ltb}
+use lib.ListN.{length, take, drop}
+use lib.Seq.{sets, sets-eq, take-append-seam}
+use borrow.Author.Tests.{ltb-false}
+use Rattle.theory.specs.Sheet.{Sheet}
+use Rattle.theory.specs.Merging.{Member}
+use Rattle.theory.specs.Narrowing.{Outcome, refused, narrowed, narrow-symbols}
+use Rattle.fields.specs.declared.Source.{Source}
+use Rattle.fields.specs.declared.Source.the-variants as source
+use Rattle.fields.specs.Answer.{Answer, got, refused as refused-file}
+use Rattle.fields.specs.Call.{accepts, refuses, Size, size, zeroed}
+use Rattle.fields.specs.Call as fields·Call
+use Rattle.fields.specs.Reading.{read}
+use Rattle.sheet.specs.Form.{sheet-form}
+use Rattle.question.specs.Form.{question-form, question-symbols}
+use Rattle.narrowed.specs.Members.{narrowed-file}
+use Rattle.narrow.specs.Call.{result, file-of, narrow-need, settled, narrow-call}
+
+pub record Accepted (s q file file′ : List ℕ) (z : Size) : Type 0 where
+  pub sheet : Sheet
+  pub sheet-reads : read sheet-form s ≡ got sheet
+  pub codes : List ℕ
+  pub question-reads : read question-form q ≡ got codes
+  pub members : List Member
+  pub narrows : narrow-symbols sheet (question-symbols codes) ≡ narrowed members
+  pub counted : z .members ≡ length members
+  pub measured : z .bytes ≡ length (narrowed-file members)
+  pub room : length (narrowed-file members) ≤ length file
+  pub area : file′ ≡ sets file 0 (narrowed-file members)
+
+-- the file that was written: as many bytes of the area as the call told
+pub file-written : {s q file file′ : List ℕ} {z : Size} (a : Accepted s q file file′ z) → take (z .bytes) file′ ≡ narrowed-file (a .members)
+file-written {file = file} {file′} {z} a =
+    let bytes = narrowed-file (a .members) in
+    let e : sets file 0 bytes ≡ bytes ++ drop (0 + length bytes) file = sets-eq bytes file 0 (omega (arith, a .room)) in
+    rw (a .measured, a .area, e) (take-append-seam bytes (drop (0 + length bytes) file))
+
+not-accepted : {A : Type 0} (x : Source) (n p : ℕ) (z : Size) → _≡_ {A = fields·Call.Outcome Size} (refuses x n p) (accepts z) → A
+not-accepted x n p z e = let w : _≡_ {A = ℕ} 0 1 = cc in absurd (omega arith)
+
+module _ (s q work file : List ℕ) (z : Size) (e : narrow-call s q work file .outcome ≡ accepts z) where
+  abbrev Due : Type 0
+  Due = Accepted s q file (narrow-call s q work file .file) z
+
+  module _ (S : Sheet) (es : read sheet-form s ≡ got S) (cs : List ℕ) (eq : read question-form q ≡ got cs) where
+    is-settled : narrow-call s q work file ≡ settled (narrow-symbols S (question-symbols cs)) work file
+    unfolding narrow-call
+    is-settled = rw (es, eq)
+
+    module _ (ms : List Member) (en : narrow-symbols S (question-symbols cs) ≡ narrowed ms) (short : ltb (length work) narrow-need ≡ false) where
+      is-filed : narrow-call s q work file ≡ result (file-of ms file) (zeroed narrow-need work)
+      unfolding settled
+      is-filed = is-settled ∙ rw (short, en)
+
+      by-room : (b : Bool) → ltb (length file) (length (narrowed-file ms)) ≡ b → Due
+      unfolding file-of
+      by-room true t = not-accepted source.Work 14 (length (narrowed-file ms)) z (rw (is-filed, t) at e)
+      by-room false t =
+          let y : accepts (size (length ms) (length (narrowed-file ms))) ≡ accepts z = rw (is-filed, t) at e in
+          let x : size (length ms) (length (narrowed-file ms)) ≡ z = cc in
+          record {
+            sheet = S;
+            sheet-reads = es;
+            codes = cs;
+            question-reads = eq;
+            members = ms;
+            narrows = en;
+            counted = sym (ap (λ (w : Size). w .members) x);
+            measured = sym (ap (λ (w : Size). w .bytes) x);
+            room = ltb-false (length file) (length (narrowed-file ms)) t;
+            area = rw (is-filed, t);
+          }
+
+    by-outcome : (o : Outcome) → narrow-symbols S (question-symbols cs) ≡ o → (b : Bool) → ltb (length work) narrow-need ≡ b → Due
+    unfolding settled
+    by-outcome o en true t = not-accepted source.Work 15 narrow-need z (rw (is-settled, t) at e)
+    by-outcome (refused n i) en false t = not-accepted source.Work n i z (rw (is-settled, t, en) at e)
+    by-outcome (narrowed ms) en false t = by-room ms en t (ltb (length file) (length (narrowed-file ms))) refl
+
+  by-question : (S : Sheet) → read sheet-form s ≡ got S → (a : Answer (List ℕ)) → read question-form q ≡ a → Due
+  unfolding narrow-call
+  by-question S es (refused-file n p) eq = not-accepted source.Question n p z (rw (es, eq) at e)
+  by-question S es (got cs) eq = by-outcome S es cs eq (narrow-symbols S (question-symbols cs)) refl (ltb (length work) narrow-need) refl
+
+  by-sheet : (a : Answer Sheet) → read sheet-form s ≡ a → Due
+  unfolding narrow-call
+  by-sheet (refused-file n p) es = not-accepted source.Sheet n p z (rw es at e)
+  by-sheet (got S) es = by-question S es (read question-form q) refl
+
+  pub accepted : Due
+  accepted = by-sheet (read sheet-form s) refl

@@ -1,0 +1,86 @@
+-- What the code's outcome and areas say.
+-- Assumes nothing.
+use mathlib.Core.Path.{_≡_}
+use mathlib.Core.Bool.{Bool, cond}
+use mathlib.Core.List.{List, [], List·Memᴰ as In}
+use mathlib.Core.Option.{some}
+use Prim.Native.Nat.{ℕ, _+_, _<_, _≤_}
+use lib.Dec.{T}
+use lib.ListN.{length, take}
+use Rattle.theory.specs.PathExpr.{PathExpr, plain?, links?}
+use Rattle.theory.specs.Postfix.{path-of, ended}
+use Rattle.theory.specs.Sheet.{Sheet}
+use Rattle.theory.specs.Inference.{Triple, triples}
+use Rattle.theory.specs.Merging.{members}
+use Rattle.theory.specs.Narrowing.{Outcome, refused, narrowed, refuse, link-fault, part-fault, narrow-symbols}
+use Rattle.fields.specs.declared.Written.{Written}
+use Rattle.fields.specs.Said.{written-said}
+use Rattle.fields.specs.Symbols.{symbol-numbered}
+use Rattle.question.specs.Form.{question-symbols}
+use Rattle.rows.specs.Kept.{Kept}
+use Rattle.nodes.specs.Paths.{Sound}
+use Rattle.rules.specs.Asks.{part}
+use Rattle.inference.specs.Questions.{Asking, Sheeted}
+use Rattle.order.specs.Arranging.{Suits}
+use Rattle.narrow.specs.Call.{Output, Result, written, settled, narrow-need}
+
+-- the outcome and both areas are what is due
+pub record Narrows (due : Result) (o : Written) (xs ys : List ℕ) : Type 0 where
+  pub outcome : written-said o ≡ due .outcome
+  pub work : xs ≡ due .work
+  pub file : ys ≡ due .file
+
+-- the outcome and the file's area
+pub record Files (due : Output) (o : Written) (ys : List ℕ) : Type 0 where
+  pub outcome : written-said o ≡ due .outcome
+  pub file : ys ≡ due .file
+
+-- ---- what the code computes on the way; nothing that is handed on rests on it
+-- r tells whether the code c is that of a step whose link is not one of E
+pub record Unnamed (E c : ℕ) (r : Bool) : Type 0 where
+  pub is : link-fault E (symbol-numbered c 0) ≡ cond r 11 0
+
+-- 11 at the r-th of the codes, or at none where r is their number
+pub record FirstUnnamed (E : ℕ) (cs : List ℕ) (r : ℕ) : Type 0 where
+  pub within : r ≤ length cs
+  pub here : r < length cs → (o : Outcome) → refuse (link-fault E) 0 (question-symbols cs) o ≡ refused 11 r
+  pub nowhere : r ≡ length cs → (o : Outcome) → refuse (link-fault E) 0 (question-symbols cs) o ≡ o
+
+-- nodes s to e are the triples of a question
+pub record Listed (qs ws : List ℕ) (s e : ℕ) : Type 0 where
+  pub ordered : s ≤ e
+  pub few : e ≤ s + 128
+  pub in-table : e ≤ length ws
+  pub sound : Sound qs ws e
+  pub suits : (t : Triple) → In t (part qs ws s e) → Suits t
+
+-- the table and the numbers are those of sheet S
+pub record Handed (t : List ℕ) (K E : ℕ) (S : Sheet) : Type 0 where
+  pub sheeted : Sheeted t K S
+  pub named : S .link-names ≡ E
+
+-- the first codes are a question's, and the table is a sheet's
+pub record Ready (qs t : List ℕ) (count K : ℕ) : Type 0 where
+  pub asking : (ws : List ℕ) → 4097 ≤ length ws → Asking qs ws count K
+  pub within : count ≤ length qs
+  pub path : PathExpr
+  pub is : path-of (question-symbols (take count qs)) ≡ some path
+  pub plain : T (plain? path)
+  pub linked : T (links? 64 path)
+  pub sheet : Sheet
+  pub sheeted : Sheeted t K sheet
+
+-- 12 or 13, 14, or the file, by any sheet of the table; of the work words only those up to the need changed
+pub record Infers-file (qs ws ws′ t : List ℕ) (count K : ℕ) (file file′ : List ℕ) (o : Written) : Type 0 where
+  pub kept : Kept 0 narrow-need ws ws′
+  pub files : (S : Sheet) → Sheeted t K S → (q : PathExpr) → path-of (question-symbols (take count qs)) ≡ some q
+      → Files (written (refuse (part-fault S) 0 (ended (question-symbols (take count qs)) []) (narrowed (members (triples S q)))) file) o file′
+
+-- the same with 11 before it
+pub record Narrows-codes (qs ws ws′ t : List ℕ) (count K E : ℕ) (file file′ : List ℕ) (o : Written) : Type 0 where
+  pub kept : Kept 0 narrow-need ws ws′
+  pub files : (S : Sheet) → Handed t K E S → Files (written (narrow-symbols S (question-symbols (take count qs))) file) o file′
+
+-- with 15 before that, and the work words zero after it
+pub record Settles (qs ws ws′ t : List ℕ) (count K E : ℕ) (file file′ : List ℕ) (o : Written) : Type 0 where
+  pub narrows : (S : Sheet) → Handed t K E S → Narrows (settled (narrow-symbols S (question-symbols (take count qs))) ws file) o ws′ file′

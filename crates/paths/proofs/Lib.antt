@@ -1,0 +1,2 @@
+-- demand 3 of the calls
+pub mod Agreement

@@ -1,0 +1,68 @@
+-- Demand 3, whole: a sheet's file, a question's file, and the file that narrowing wrote of them.
+-- 01-scope.md, "How far a contract reaches", point 5. narrow-call, plain-call and narrowed-call are what the contracts of the calls cite.
+-- Assumes nothing.
+use mathlib.Core.Path.{_≡_}
+use mathlib.Core.List.{List}
+use mathlib.Core.Option.{some}
+use Prim.Native.Nat.{ℕ, _<_}
+use lib.Dec.{T}
+use lib.ListN.{length, getD, take}
+use Rattle.bits.specs.Bit.{bitOf}
+use Rattle.theory.specs.PathExpr.{PathExpr}
+use Rattle.theory.specs.Postfix.{path-of}
+use Rattle.theory.specs.Register.{Register}
+use Rattle.theory.specs.Sheet.{Sheet, conforms?}
+use Rattle.theory.specs.Demand3.{Demand3}
+use Rattle.fields.specs.Answer.{got}
+use Rattle.fields.specs.Call.{accepts, Size}
+use Rattle.fields.specs.Reading.{read}
+use Rattle.sheet.specs.Form.{sheet-form}
+use Rattle.question.specs.Form.{question-form, question-symbols}
+use Rattle.register.specs.Form.{register-form}
+use Rattle.narrowed.specs.Form.{Flat, narrowed-form}
+use Rattle.narrow.specs.Call.{narrow-call}
+use Rattle.answer.specs.Calls.{answer-need, members-of, plain-call, narrowed-call}
+
+-- narrowing took the sheet and the question, and told of a file of so many members and bytes
+abbrev pub Took : List ℕ → List ℕ → List ℕ → List ℕ → Size → Type 0
+Took sheet question work area z = narrow-call sheet question work area .outcome ≡ accepts z
+
+-- the file that it wrote: so many bytes of the area that was lent
+abbrev pub file-written : List ℕ → List ℕ → List ℕ → List ℕ → Size → List ℕ
+file-written sheet question work area z = take (z .bytes) (narrow-call sheet question work area .file)
+
+-- on a register's file, a plain answer of the question and a narrowed answer of the file, neither refused
+pub record Answers (question file register work answer work′ answer′ : List ℕ) (r : Register) : Type 0 where
+  pub reads : read register-form register ≡ got r
+  pub plain : plain-call question register work answer .outcome ≡ accepts tt
+  pub narrowed : narrowed-call file register work′ answer′ .outcome ≡ accepts tt
+
+-- word k of each
+abbrev pub plain-word : List ℕ → List ℕ → List ℕ → List ℕ → ℕ → ℕ
+plain-word question register work answer k = getD (plain-call question register work answer .answer) k 0
+
+abbrev pub narrowed-word : List ℕ → List ℕ → List ℕ → List ℕ → ℕ → ℕ
+narrowed-word file register work answer k = getD (narrowed-call file register work answer .answer) k 0
+
+-- what the three files hold, and what demand 3 says of them
+pub record Agrees (sheet question file : List ℕ) (z : Size) : Type 0 where
+  pub S : Sheet
+  pub sheet-reads : read sheet-form sheet ≡ got S
+  -- the question as read
+  pub codes : List ℕ
+  pub question-reads : read question-form question ≡ got codes
+  pub q : PathExpr
+  pub path : path-of (question-symbols codes) ≡ some q
+  -- the members in the file
+  pub flats : List Flat
+  pub file-reads : read narrowed-form file ≡ got flats
+  pub members : z .members ≡ length flats
+  pub bytes : z .bytes ≡ length file
+  -- registers of any number of records and links
+  pub meaning : Demand3 S q (members-of flats)
+  -- on a register's file: "their N times W words are equal if the register obeys"
+  pub equal : {register work answer work′ answer′ : List ℕ} {r : Register} → Answers question file register work answer work′ answer′ r → T (conforms? S r)
+      → (k : ℕ) → k < answer-need r → narrowed-word file register work′ answer′ k ≡ plain-word question register work answer k
+  -- "and otherwise each bit set in the narrowed answer is set in the plain one"
+  pub subset : {register work answer work′ answer′ : List ℕ} {r : Register} → Answers question file register work answer work′ answer′ r
+      → (k j : ℕ) → k < answer-need r → T (bitOf (narrowed-word file register work′ answer′ k) j) → T (bitOf (plain-word question register work answer k) j)

@@ -22,7 +22,7 @@ from reference.files import (
 )
 from reference.generate import ALL_KINDS, BINARY
 from tests.agreement import telling_job
-from tests.stored import digest, keep, packed, said
+from tests.stored import digest, keep, packed, renewed, said
 from tests.vectors import FILES, READERS, damaged_cases
 
 CALLS = {"check": ("sheet", calls.check), "plain": ("question", calls.plain_answer), "narrowed": ("narrowed", calls.narrowed_answer)}
@@ -48,12 +48,9 @@ def lengths(call: Call) -> bytes:
 
 def fields(row: list) -> Iterator:
     """Each call, and before it those of its files that do not stand already."""
-    standing = dict.fromkeys(FILES, b"")
+    standing: dict = {}
     for call in row:
-        for file, data in ((CALLS[call.name][0], call.first), ("register", call.register)):
-            if standing[file] != data:
-                standing[file] = data
-                yield packed(1 + FILES.index(file), data)
+        yield from renewed(standing, {1 + FILES.index(CALLS[call.name][0]): call.first, 1 + FILES.index("register"): call.register})
         yield packed(5 + list(CALLS).index(call.name), lengths(call))
 
 

@@ -21,6 +21,14 @@ def packed(tag: int, data: bytes) -> bytes:
     return bytes([tag]) + len(data).to_bytes(2, "big") + data
 
 
+def renewed(standing: dict, files: dict):
+    """The fields of those files, by tag, that do not stand already; then they stand."""
+    for tag, data in files.items():
+        if standing.get(tag, b"") != data:
+            standing[tag] = data
+            yield packed(tag, data)
+
+
 def said(*words) -> str:
     return " ".join(map(str, words)) + "\n"
 

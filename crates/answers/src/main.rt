@@ -5,7 +5,6 @@ use fields::Outcome;
 use fields::Raw;
 use libc::STDIN_FILENO;
 use libc::STDOUT_FILENO;
-ghost use Prim.Native.Nat.{_≤_};
 
 // Where the fields stand whose bodies are the files of the next call.
 struct Files {
@@ -35,10 +34,7 @@ fn outcome(o: Outcome) {
             io::write_all(STDOUT_FILENO, b"accepted");
         }
         Outcome::Refused(source, r) => {
-            io::write_all(STDOUT_FILENO, b"refused ");
-            report::number(report::wide(fields::number_of(r)));
-            report::number(report::wide(fields::source_number(source)));
-            io::print_decimal(STDOUT_FILENO, fields::place_of(r) as u64);
+            report::refused(source, r);
         }
     }
 }
@@ -50,15 +46,6 @@ fn run_check(s: &[u8], files: Files) {
     io::write_all(STDOUT_FILENO, b"\n");
 }
 
-// No word is 0 and no two are equal, so that words that are left, cleared or written all show in a digest.
-fn mark(area: &mut [u64]) {
-    let mut i = 0;
-    while i < area.len() {
-        area[i] = 18446744073709551615 - i as u64;
-        i += 1;
-    }
-}
-
 fn call(tag: u8, s: &[u8], files: Files, work: &mut [u64], answer: &mut [u64]) -> Outcome {
     let register = fields::body_at(s, files.register);
     if tag == 6 {
@@ -68,27 +55,19 @@ fn call(tag: u8, s: &[u8], files: Files, work: &mut [u64], answer: &mut [u64]) -
 }
 
 fn call_in(tag: u8, s: &[u8], files: Files, work: &mut [u64], answer: &mut [u64]) {
-    mark(work);
-    mark(answer);
+    report::mark(work);
+    report::mark(answer);
     outcome(call(tag, s, files, work, answer));
     io::write_all(STDOUT_FILENO, b" ");
     report::number(report::mix_words(0, work));
     report::end(report::mix_words(0, answer));
 }
 
-// The words that a call is lent: as many as it says, and no more than there are.
-fn lent(sizes: &[u8], at: usize, most: usize) -> usize
-    ensures { λ r. ⌜ r ≤ most ⌝ }
-{
-    let n = report::two_at(sizes, at);
-    if n < most { n } else { most }
-}
-
 fn run_answer(tag: u8, s: &[u8], files: Files, sizes: &[u8]) {
     let mut work = [0u64; 11000];
     let mut answer = [0u64; 400];
-    let n = lent(sizes, 0, 11000);
-    let m = lent(sizes, 2, 400);
+    let n = report::lent(report::two_at(sizes, 0), 11000);
+    let m = report::lent(report::two_at(sizes, 2), 400);
     call_in(tag, s, files, &mut work[..n], &mut answer[..m]);
 }
 

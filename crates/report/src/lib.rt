@@ -1,7 +1,10 @@
-// What the programs that run stored vectors share: room for their input, the numbers in it, the numbers of a line, and digests.
+// What the programs that run stored vectors share: room for their input, the numbers in it, areas that they lend, the words
+// and numbers of a line, and digests.
+use fields::Refusal;
+use fields::Source;
 use libc::STDOUT_FILENO;
 ghost use mathlib.Core.Path.{_≡_};
-ghost use Prim.Native.Nat.{_<_};
+ghost use Prim.Native.Nat.{_<_, _≤_};
 ghost use lib.ListN.{length};
 
 // Room for all vectors. Its contract keeps the proof of a `main` from unfolding so long a list.
@@ -23,6 +26,22 @@ pub fn two_at(s: &[u8], at: usize) -> usize
     0
 }
 
+// How long an area a call is lent: as long as it says, and no longer than there is.
+pub fn lent(n: usize, most: usize) -> usize
+    ensures { λ r. ⌜ r ≤ most ⌝ }
+{
+    if n < most { n } else { most }
+}
+
+// No word is 0 and no two are equal, so that words that are left, cleared or written all show in a digest.
+pub fn mark(area: &mut [u64]) {
+    let mut i = 0;
+    while i < area.len() {
+        area[i] = 18446744073709551615 - i as u64;
+        i += 1;
+    }
+}
+
 // A number of a line, and its last.
 pub fn number(n: u64) {
     io::print_decimal(STDOUT_FILENO, n);
@@ -36,6 +55,14 @@ pub fn end(n: u64) {
 
 pub fn wide(b: u8) -> u64 {
     b as u64
+}
+
+// A call's refusal: its number, file and place.
+pub fn refused(source: Source, r: Refusal) {
+    io::write_all(STDOUT_FILENO, b"refused ");
+    number(wide(fields::number_of(r)));
+    number(wide(fields::source_number(source)));
+    io::print_decimal(STDOUT_FILENO, fields::place_of(r) as u64);
 }
 
 // A digest with one number more, by its two halves. The modulus is a prime above 2^32, so a half that differs shows.

@@ -1,9 +1,11 @@
+-- `report::mark` meets its contract.
+-- Assumes nothing.
 use mathlib.Core.Path.{_≡_}
 use lib.ListN.{length}
 use borrow.Author.Needs.{needs}
 use Prim.Native.Nat.{_-_}
-use Rattle.answers.proofs.mark.Statement.{statement}
-use Rattle.answers.proofs.mark.Tie as tie
+use Rattle.report.proofs.mark.Statement.{statement}
+use Rattle.report.proofs.mark.Tie as tie
 
 abbrev Inv-loop : tie.InvT-loop
 Inv-loop area₀ i₀ area i = length area ≡ length area₀

@@ -1,0 +1,2 @@
+-- the lengths of areas that are lent
+pub mod Front

@@ -2,7 +2,9 @@
 -- Assumes nothing.
 use Prim.Native.Nat.{ℕ, zero, suc, _+_, _-_, _/_, _%_, _<_, _≤_}
 use mathlib.Core.Path.{_≡_, refl, ap, _∙_, sym, subst}
+use mathlib.Core.Bool.{Bool, true, false, cond}
 use mathlib.Core.List.{List, [], _∷_, _++_}
+use lib.Dec.{ltb, eqb}
 use lib.ListN.{length, getD}
 use native.Mathlib.Omega.{arith}
 use borrow.Author.Tests.{lt-ltb, le-ltb, eq-eqb, ne-eqb}
@@ -11,6 +13,7 @@ use Rattle.narrowed.specs.Form.{Flat, flat}
 use Rattle.narrowed.specs.Writing.{two-bytes, eight-bytes, field-bytes, symbol-bytes, symbols-bytes, member-bytes, members-bytes, encode}
 use Rattle.fields.specs.Symbols.{symbol-given, symbols-given}
 use Rattle.narrowed.specs.Given.{members-given, given}
+use Rattle.bytes.specs.Size.{symbol-size}
 use Rattle.bytes.specs.Wrote.{Wrote}
 use Rattle.bytes.proofs.Along.{wrote-more}
 
@@ -23,6 +26,16 @@ through-bytes c m g h = simp (le-ltb c 128 g, eq-eqb c 255 h)
 
 pub operator-bytes : (c m : ℕ) → 128 ≤ c → (c ≡ 255 → ⊥) → symbol-bytes (symbol-given c m) ≡ field-bytes 0x44 (c ∷ [])
 operator-bytes c m g h = simp (le-ltb c 128 g, ne-eqb c 255 h)
+
+-- the size of a symbol's field
+pub size-is : (c m : ℕ) → symbol-size c ≡ length (symbol-bytes (symbol-given c m))
+unfolding symbol-size
+size-is c m = go (ltb c 128) (eqb c 255) refl refl
+  where
+    go : (a b : Bool) → ltb c 128 ≡ a → eqb c 255 ≡ b → cond (ltb c 128) 5 (cond (eqb c 255) 11 4) ≡ length (symbol-bytes (symbol-given c m))
+    go true b e f = rw e
+    go false true e f = rw (e, f)
+    go false false e f = rw (e, f)
 
 pub step-room : (c m at : ℕ) {room : ℕ} → c < 128 → at + length (symbol-bytes (symbol-given c m)) ≤ room → at + 5 ≤ room
 step-room c m at h r = omega (arith, ap length (step-bytes c m h), r)

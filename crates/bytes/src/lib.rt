@@ -9,7 +9,21 @@ ghost use Rattle.narrowed.specs.Form.{flat};
 ghost use Rattle.narrowed.specs.Writing.{two-bytes, eight-bytes, field-bytes, symbol-bytes, symbols-bytes, member-bytes, encode};
 ghost use Rattle.fields.specs.Symbols.{symbol-given, symbols-given};
 ghost use Rattle.narrowed.specs.Given.{given};
+ghost use Rattle.bytes.specs.Size.{symbol-size};
 ghost use Rattle.bytes.specs.Wrote.{Wrote, Few};
+
+// The bytes of a symbol's field.
+pub fn symbol_size(number: u8) -> usize
+    ensures { λ r. ⌜ (r ≡ symbol-size number) × (r ≤ 11) ⌝ }
+{
+    if number < 128 {
+        return 5;
+    }
+    if number == 255 {
+        return 11;
+    }
+    4
+}
 
 fn put_byte(out: &mut [u8], at: usize, b: u8) -> usize
     requires { ⌜ at + 1 ≤ length (now out) ⌝ }

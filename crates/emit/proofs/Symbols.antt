@@ -11,7 +11,7 @@ use native.Mathlib.Omega.{arith}
 use lib.Dec.{eqb, eqb→eq}
 use lib.ListN.{length, getD, set, length-set, length-append}
 use lib.Seq.{getD-set-same, getD-set-other}
-use borrow.Author.Tests.{lt-ltb, le-ltb, ne-eqb}
+use borrow.Author.Tests.{ne-eqb}
 use Rattle.theory.specs.Lists.{tabulate}
 use Rattle.theory.specs.PathExpr.{any, through, PathExpr, Symbol, s-step, s-join, s-op, s-closure, postfix, code, codes}
 use Rattle.theory.specs.Sorting.{set-of, sets-of, Inferred, Marked}
@@ -20,7 +20,9 @@ use Rattle.theory.proofs.Sorting.{symbols-by, inferred-marked}
 use Rattle.fields.specs.Symbols.{Numbered, numbered, number-symbol, symbol-given, symbols-given}
 use Rattle.narrowed.specs.Writing.{symbol-bytes, symbols-bytes}
 use Rattle.order.specs.Arrays.{segment}
-use Rattle.emit.specs.Files.{number-of, renumbered, Width, Numbering}
+use Rattle.bytes.specs.Size.{symbol-size}
+use Rattle.bytes.proofs.Parts.{size-is}
+use Rattle.emit.specs.Files.{number-of, renumbered, Numbering}
 
 -- ---- a symbol's number
 pub other-code : (c m : ℕ) → ¬ (c ≡ 128) → c ≡ number-of c m
@@ -73,16 +75,6 @@ path-numbered p h cs ss n e f =
     ∙ renumbered-segments cs ss 0 (n - 0)
     ∙ ap (λ (k : ℕ). renumbered cs ss k 0) q
 
--- ---- the width of a field
-pub step-width : (c : ℕ) → c < 128 → Width c 5
-step-width c h = record { is = λ m. rw (lt-ltb c 128 h); at-most = omega arith }
-
-pub through-width : (c : ℕ) → c ≡ 255 → Width c 11
-through-width c e = record { is = λ m. rw e; at-most = omega arith }
-
-pub operator-width : (c : ℕ) → 128 ≤ c → ¬ (c ≡ 255) → Width c 4
-operator-width c h n = record { is = λ m. rw (le-ltb c 128 h, ne-eqb c 255 n); at-most = omega arith }
-
 -- ---- the loop: the numbers up to j are made, and the bytes of the rest are still to be counted
 pub record Going (cs ss ys : List ℕ) (n j total : ℕ) : Type 0 where
   pub within : j ≤ n
@@ -105,14 +97,14 @@ going-start cs ss n =
     }
 
 module _ {cs ss ys : List ℕ} {n j total : ℕ} (g : Going cs ss ys n j total) where
-  pub going-turn : {c w : ℕ} → j < n → n ≤ length cs → c ≡ number-of (getD ys j 0) (getD ss j 0) → Width c w → Going cs ss (set ys j c) n (j + 1) (total + w)
-  going-turn {c} {w} l h e v =
+  pub going-turn : {c w : ℕ} → j < n → n ≤ length cs → c ≡ number-of (getD ys j 0) (getD ss j 0) → w ≡ symbol-size c → w ≤ 11 → Going cs ss (set ys j c) n (j + 1) (total + w)
+  going-turn {c} {w} l h e v small =
       let q : n - j ≡ suc (n - (j + 1)) = omega arith in
       let x : c ≡ number-of (getD cs j 0) (getD ss j 0) = e ∙ ap (λ (y : ℕ). number-of y (getD ss j 0)) (g .rest j (omega arith)) in
       let f : List Numbered = renumbered cs ss (n - (j + 1)) (j + 1) in
       let b : renumbered cs ss (n - j) j ≡ symbol-given c (getD ss j 0) ∷ f = rw (q, x, add-one j) in
       let a : length (symbols-bytes (renumbered cs ss (n - j) j)) ≡ w + length (symbols-bytes f)
-      = ap (λ (l : List Numbered). length (symbols-bytes l)) b ∙ length-append (symbol-bytes (symbol-given c (getD ss j 0))) (symbols-bytes f) ∙ ap (λ (k : ℕ). k + length (symbols-bytes f)) (sym (v .is (getD ss j 0))) in
+      = ap (λ (l : List Numbered). length (symbols-bytes l)) b ∙ length-append (symbol-bytes (symbol-given c (getD ss j 0))) (symbols-bytes f) ∙ ap (λ (k : ℕ). k + length (symbols-bytes f)) (sym (v ∙ size-is c (getD ss j 0))) in
       record {
         within = omega arith;
         same-length = length-set ys j c ∙ g .same-length;
@@ -122,7 +114,7 @@ module _ {cs ss ys : List ℕ} {n j total : ℕ} (g : Going cs ss ys n j total) 
             (eq-or-lt-of-le (omega arith));
         rest = λ k m. getD-set-other ys j k c 0 (omega arith) ∙ g .rest k (omega arith);
         left = omega (arith, g .left, a);
-        at-most = omega (arith, g .at-most, v .at-most);
+        at-most = omega (arith, g .at-most);
       }
 
   pub going-over : n ≤ j → Numbering cs ss ys n total

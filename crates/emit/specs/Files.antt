@@ -12,7 +12,7 @@ use Rattle.theory.specs.Merging.{Member}
 use Rattle.theory.specs.Sorting.{grouped}
 use Rattle.fields.specs.Symbols.{Numbered, symbol-given, symbols-given}
 use Rattle.narrowed.specs.Form.{flat}
-use Rattle.narrowed.specs.Writing.{symbol-bytes, symbols-bytes, member-bytes}
+use Rattle.narrowed.specs.Writing.{symbols-bytes, member-bytes}
 use Rattle.narrowed.specs.Members.{flat-of, narrowed-file}
 use Rattle.order.specs.Arranging.{Usable}
 use Rattle.order.specs.Runs.{nodes-at}
@@ -27,11 +27,6 @@ number-of c m = cond (eqb c 128) (cond (eqb m 0) 128 255) c
 abbrev pub renumbered : List ℕ → List ℕ → ℕ → ℕ → List Numbered
 renumbered cs ss zero k = []
 renumbered cs ss (suc n) k = symbol-given (number-of (getD cs k 0) (getD ss k 0)) (getD ss k 0) ∷ renumbered cs ss n (suc k)
-
--- r bytes is the field of a symbol with number c
-pub record Width (c r : ℕ) : Type 0 where
-  pub is : (m : ℕ) → r ≡ length (symbol-bytes (symbol-given c m))
-  pub at-most : r ≤ 11
 
 -- cs became ys, the numbers of n symbols, whose fields have `total` bytes
 pub record Numbering (cs ss ys : List ℕ) (n total : ℕ) : Type 0 where

@@ -3,7 +3,7 @@ ghost use mathlib.Core.Path.{_≡_};
 ghost use Prim.Native.Nat.{_≤_};
 ghost use lib.ListN.{length};
 ghost use Rattle.order.specs.Runs.{Running};
-ghost use Rattle.emit.specs.Files.{number-of, Width, Numbering, Next, Measuring, Measured, Filing, Filed};
+ghost use Rattle.emit.specs.Files.{number-of, Numbering, Next, Measuring, Measured, Filing, Filed};
 
 // A member: its number of symbols, from set and to set, the place after its run, and the bytes of its fields.
 struct Entry {
@@ -33,19 +33,6 @@ fn number(code: u8, set: u64) -> u8
     255
 }
 
-// The bytes of a symbol's field.
-fn width(number: u8) -> usize
-    ensures { λ r. ⌜ Width number r ⌝ }
-{
-    if number < 128 {
-        return 5;
-    }
-    if number == 255 {
-        return 11;
-    }
-    4
-}
-
 // Makes the codes of n symbols numbers; the bytes of their fields.
 fn number_symbols(codes: &mut [u8], sets: &[u64], n: usize) -> usize
     requires { ⌜ (n ≤ length (now codes)) × (n ≤ length (now sets)) × (n ≤ 48) ⌝ }
@@ -56,7 +43,7 @@ fn number_symbols(codes: &mut [u8], sets: &[u64], n: usize) -> usize
     while j < n {
         let c = number(codes[j], sets[j]);
         codes[j] = c;
-        total += width(c);
+        total += bytes::symbol_size(c);
         j += 1;
     }
     total

@@ -1,7 +1,7 @@
 -- No pair of a path leads past the records.
 -- Assumes nothing.
 use mathlib.Core.Path.{_≡_}
-use mathlib.Core.Bool.{Bool, false}
+use mathlib.Core.Bool.{false}
 use Prim.Native.Nat.{ℕ, _≤_}
 use native.Mathlib.Omega.{arith}
 use lib.Dec.{T}
@@ -9,12 +9,9 @@ use Rattle.theory.specs.TransitiveClosure.{look}
 use Rattle.theory.specs.PathExpr.{Direction, forward, reverse, PathExpr, step}
 use Rattle.theory.specs.Register.{edge, Register, records, well-formed?, Holds}
 use Rattle.theory.specs.Evaluation.{step?, evaluate}
-use Rattle.theory.proofs.Tests.{bool-eq}
+use Rattle.theory.proofs.Tests.{never}
 use Rattle.theory.proofs.Sheet.{find-edge}
 use Rattle.theory.proofs.Evaluation.{holds-bounds, evaluated}
-
-never : (b : Bool) → (T b → ⊥) → b ≡ false
-never b h = bool-eq b false h (λ x. absurd x)
 
 module _ (r : Register) (formed : T (well-formed? r)) where
   pub evaluate-past : (p : PathExpr) (s t : ℕ) → records r ≤ t → look (evaluate r p) s t ≡ false

@@ -7,10 +7,11 @@ use Prim.Native.Nat.{ℕ, suc, _+_, _-_, _<_, _≤_}
 use native.Mathlib.Omega.{arith}
 use lib.ListN.{length, getD, take, drop, replicate, length-append, length-drop, length-map}
 use lib.Seq.{length-take-le, take-add, drop-at, getD-take, getD-drop}
-use Rattle.theory.specs.PathExpr.{PathExpr, postfix, code}
+use Rattle.theory.specs.PathExpr.{any, through, PathExpr, Symbol, s-step, s-join, s-op, s-closure, postfix, code}
 use Rattle.theory.specs.Postfix.{Stack}
+use Rattle.theory.specs.Sorting.{set-of, sets-of}
 use Rattle.theory.proofs.Postfix.{path-of-postfix, symbols}
-use Rattle.fields.specs.Symbols.{Numbered, numbered, number-symbol}
+use Rattle.fields.specs.Symbols.{Numbered, numbered, symbol-numbered, number-symbol}
 use Rattle.fields.proofs.Numbers.{symbol-comes}
 use Rattle.question.specs.Form.{question-symbols}
 use Rattle.question.proofs.Paths.{Known, known-codes}
@@ -20,10 +21,17 @@ use Rattle.inference.specs.Questions.{symbols-of}
 pub symbols-length : (qs : List ℕ) (i : ℕ) → i ≤ length qs → length (symbols-of qs i) ≡ i
 symbols-length qs i h = length-map (take i qs) (λ c. _) ∙ length-take-le i qs h
 
-no-sets : (cs : List ℕ) → Known cs → map (λ s. number-symbol s .set) (question-symbols cs) ≡ replicate (length cs) 0
+set-number : (s : Symbol) → set-of s ≡ number-symbol s .set
+set-number (s-step d l) = refl
+set-number (s-join any) = refl
+set-number (s-join (through m)) = refl
+set-number (s-op o) = refl
+set-number s-closure = refl
+
+no-sets : (cs : List ℕ) → Known cs → map set-of (question-symbols cs) ≡ replicate (length cs) 0
 no-sets [] h = refl
 no-sets (c ∷ cs) h =
-    ap₂ (λ (x : ℕ) (l : List ℕ). x ∷ l) (ap (λ (x : Numbered). x .set) (symbol-comes (numbered c 0) (inl (h 0 (omega arith), refl)) .1))
+    ap₂ (λ (x : ℕ) (l : List ℕ). x ∷ l) (set-number (symbol-numbered c 0) ∙ ap (λ (x : Numbered). x .set) (symbol-comes (numbered c 0) (inl (h 0 (omega arith), refl)) .1))
     (no-sets cs (λ k l. h (suc k) (omega arith)))
 
 -- the first i symbols are those of a stack, and those of its top start at o
@@ -58,7 +66,7 @@ module _ (qs : List ℕ) (p : PathExpr) (st : Stack) (o i : ℕ) (h : i ≤ leng
         inside = omega (arith, top-back);
         same-codes = ap (λ (r : PathExpr). map code (postfix r)) top-original ∙ ap (map code) top-symbols ∙ known-codes cs known-cs;
         no-sets =
-            ap (λ (r : PathExpr). map (λ s. number-symbol s .set) (postfix r)) top-original ∙ ap (map (λ s. number-symbol s .set)) top-symbols ∙ no-sets cs known-cs
+            ap (λ (r : PathExpr). sets-of r) top-original ∙ ap (map set-of) top-symbols ∙ no-sets cs known-cs
             ∙ ap (λ (n : ℕ). replicate n 0) cs-length;
       }
     where

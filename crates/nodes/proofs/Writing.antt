@@ -9,9 +9,8 @@ use lib.ListN.{length, getD, set, take, drop, replicate, length-append, length-m
 use lib.Seq.{take-suc, getD-drop}
 use Rattle.theory.specs.PathExpr.{Via, Op, PathExpr, join, op, closure, s-join, postfix, codes, code, op-code, size}
 use Rattle.theory.proofs.Lists.{sets-append}
-use Rattle.fields.specs.Symbols.{number-symbol}
+use Rattle.theory.specs.Sorting.{set-of, sets-of}
 use Rattle.fields.proofs.Numbers.{length-postfix}
-use Rattle.nodes.specs.Paths.{path-sets}
 use Rattle.nodes.specs.Expansion.{Wrote, Expanded}
 
 -- ---- one after the other
@@ -49,7 +48,7 @@ copy-more {at} s j q {xs′ = xs′} {ys′} h w =
 
 -- ---- the symbols of a path, operand by operand
 module _ (p q : PathExpr) {at mid end r : ℕ} {xs ys xs₁ ys₁ xs₂ ys₂ xs₃ ys₃ : List ℕ} where
-  pub expanded-join : (v : Via) → Expanded p at xs ys xs₁ ys₁ mid → Expanded q mid xs₁ ys₁ xs₂ ys₂ end → Wrote end (128 ∷ []) (number-symbol (s-join v) .set ∷ []) xs₂ ys₂ xs₃ ys₃ r
+  pub expanded-join : (v : Via) → Expanded p at xs ys xs₁ ys₁ mid → Expanded q mid xs₁ ys₁ xs₂ ys₂ end → Wrote end (128 ∷ []) (set-of (s-join v) ∷ []) xs₂ ys₂ xs₃ ys₃ r
       → Expanded (join v p q) at xs ys xs₃ ys₃ r
   expanded-join v a b c = wrote-as (wrote-then a (wrote-then b c)) (sym (simp map-append)) (sym (simp map-append))
 
@@ -62,5 +61,5 @@ expanded-closure p a c = wrote-as (wrote-then a c) (sym (simp map-append)) (sym 
 pub length-codes : (p : PathExpr) → length (codes p) ≡ size p
 length-codes p = length-map (postfix p) code ∙ length-postfix p
 
-pub length-path-sets : (p : PathExpr) → length (path-sets p) ≡ size p
-length-path-sets p = length-map (postfix p) (λ s. number-symbol s .set) ∙ length-postfix p
+pub length-sets-of : (p : PathExpr) → length (sets-of p) ≡ size p
+length-sets-of p = length-map (postfix p) set-of ∙ length-postfix p

@@ -6,8 +6,9 @@ use Prim.Native.Nat.{ℕ, _+_, _≤_}
 use lib.ListN.{length}
 use lib.Seq.{sets}
 use Rattle.theory.specs.PathExpr.{PathExpr, codes}
+use Rattle.theory.specs.Sorting.{sets-of}
 use Rattle.nodes.specs.Table.{node-at}
-use Rattle.nodes.specs.Paths.{path-sets, Has}
+use Rattle.nodes.specs.Paths.{Has}
 
 -- xs and ys, with cs and ss written from `at` on, are xs′ and ys′, and `end` is the place after them
 pub record Wrote (at : ℕ) (cs ss xs ys xs′ ys′ : List ℕ) (end : ℕ) : Type 0 where
@@ -21,7 +22,7 @@ pub record Wrote (at : ℕ) (cs ss xs ys xs′ ys′ : List ℕ) (end : ℕ) : T
 
 -- the symbols of a path are written
 abbrev pub Expanded : PathExpr → ℕ → List ℕ → List ℕ → List ℕ → List ℕ → ℕ → Type 0
-Expanded p at = Wrote at (codes p) (path-sets p)
+Expanded p at = Wrote at (codes p) (sets-of p)
 
 -- node i is in use, and there is room for its path at a place
 pub record Ready (qs ws : List ℕ) (used i at : ℕ) (xs ys : List ℕ) : Type 0 where

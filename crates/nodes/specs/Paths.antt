@@ -3,17 +3,18 @@
 -- Assumes nothing.
 use mathlib.Core.Path.{_≡_}
 use mathlib.Core.Bool.{cond}
-use mathlib.Core.List.{List, map}
+use mathlib.Core.List.{List}
 use mathlib.Core.Option.{Option·getD}
 use Prim.Native.Nat.{ℕ, zero, suc, _+_, _<_, _≤_}
 use lib.Dec.{ltb}
 use lib.ListN.{length, take, drop, replicate}
 use Rattle.theory.specs.KindSet.{singleton}
-use Rattle.theory.specs.PathExpr.{forward, through, PathExpr, step, join, op, closure, Symbol, s-step, s-join, s-op, s-closure, postfix, codes, size}
+use Rattle.theory.specs.PathExpr.{forward, through, PathExpr, step, join, op, closure, Symbol, s-step, s-join, s-op, s-closure, codes, size}
 use Rattle.theory.specs.Postfix.{path-of}
 use Rattle.theory.specs.Inference.{Triple, triple}
 use Rattle.theory.specs.Growth.{no-triple}
-use Rattle.fields.specs.Symbols.{symbol-numbered, number-symbol}
+use Rattle.theory.specs.Sorting.{sets-of}
+use Rattle.fields.specs.Symbols.{symbol-numbered}
 use Rattle.question.specs.Form.{question-symbols}
 use Rattle.nodes.specs.declared.Node.{Node}
 use Rattle.nodes.specs.Table.{node-at}
@@ -45,10 +46,6 @@ triple-at (suc f) qs ws i =
 unfoldable pub triple-of : List ℕ → List ℕ → ℕ → Triple
 triple-of qs ws i = triple-at (suc i) qs ws i
 
--- the sets of a path's joins, symbol by symbol; 0 where a symbol has none
-abbrev pub path-sets : PathExpr → List ℕ
-path-sets p = map (λ s. number-symbol s .set) (postfix p)
-
 -- ---- a sound table
 -- both operands stand below node i
 pub record Two (ws : List ℕ) (i : ℕ) : Type 0 where
@@ -59,7 +56,7 @@ pub record Two (ws : List ℕ) (i : ℕ) : Type 0 where
 pub record Copied (qs : List ℕ) (s n : ℕ) : Type 0 where
   pub inside : s + n ≤ length qs
   pub same-codes : codes (original qs s n) ≡ take n (drop s qs)
-  pub no-sets : path-sets (original qs s n) ≡ replicate n 0
+  pub no-sets : sets-of (original qs s n) ≡ replicate n 0
 
 -- node i is sound: a symbol, its path's number of symbols, and operands by the symbol
 pub record Good (qs ws : List ℕ) (i : ℕ) : Type 0 where

@@ -8,7 +8,8 @@ use native.Mathlib.Omega.{arith}
 use lib.ListN.{length, getD}
 use borrow.Author.Tests.{lt-ltb, le-ltb, eq-eqb, ne-eqb}
 use Rattle.theory.specs.PathExpr.{codes, before?}
-use Rattle.nodes.specs.Paths.{triple-of, path-sets}
+use Rattle.theory.specs.Sorting.{sets-of}
+use Rattle.nodes.specs.Paths.{triple-of}
 use Rattle.nodes.specs.Expansion.{Expanded, Ready}
 use Rattle.nodes.proofs.Writing.{length-codes}
 use Rattle.order.specs.Arrays.{segment}
@@ -57,8 +58,8 @@ module _ {qs ws : List ℕ} {used i : ℕ} (h : Usable qs ws used i) where
         let y = fits in
         rw (z, w .codes-are) (segment-wrote xs (codes (triple-of qs ws i .path)) (omega arith))
 
-    pub expanded-sets : length ys ≡ 48 → segment ys′ 0 r ≡ path-sets (triple-of qs ws i .path)
+    pub expanded-sets : length ys ≡ 48 → segment ys′ 0 r ≡ sets-of (triple-of qs ws i .path)
     expanded-sets ey =
-        let z : r ≡ length (path-sets (triple-of qs ws i .path)) = omega (arith, w .ends, w .as-many) in
+        let z : r ≡ length (sets-of (triple-of qs ws i .path)) = omega (arith, w .ends, w .as-many) in
         let y = fits in
-        rw (z, w .sets-are) (segment-wrote ys (path-sets (triple-of qs ws i .path)) (omega (arith, w .as-many)))
+        rw (z, w .sets-are) (segment-wrote ys (sets-of (triple-of qs ws i .path)) (omega (arith, w .as-many)))

@@ -3,7 +3,7 @@
 use mathlib.Core.Path.{_≡_, refl, sym, ap, ap₂, _∙_, subst}
 use mathlib.Core.Bool.{Bool, true, false, true≢false, false≢true}
 use mathlib.Core.Logic.{_⊎_, inl, inr, ⊎-elim}
-use mathlib.Core.List.{List, [], _∷_, map, zipWith}
+use mathlib.Core.List.{List, _∷_, map, zipWith}
 use Prim.Native.Nat.{ℕ, zero, suc, _+_, _-_, _<_, _≤_}
 use native.Mathlib.Nat.{eq-or-lt-of-le}
 use native.Mathlib.Omega.{arith}
@@ -13,14 +13,13 @@ use lib.ListN.{length, getD, set, length-set}
 use lib.Seq.{getD-set-same, getD-set-other}
 use Rattle.theory.specs.Lists.{tabulate}
 use Rattle.theory.specs.KindSet.{singleton, set-union}
-use Rattle.theory.specs.PathExpr.{any, through, PathExpr, Symbol, s-step, s-join, s-op, s-closure, postfix, codes, before?, size}
+use Rattle.theory.specs.PathExpr.{codes, before?, size}
 use Rattle.theory.specs.Merging.{Member, merged}
-use Rattle.theory.specs.Sorting.{grouped, alike?, set-of, sets-of, set-unions}
+use Rattle.theory.specs.Sorting.{grouped, alike?, sets-of, set-unions}
 use Rattle.theory.proofs.Tests.{to-true}
 use Rattle.theory.proofs.Order.{trichotomy, codes-merge, merged-linked}
 use Rattle.theory.proofs.Sorting.{ahead-unlike, ahead-unlike′, codes-alike, merge-inferred, merged-sets, group-takes, group-ends}
-use Rattle.fields.specs.Symbols.{number-symbol}
-use Rattle.nodes.specs.Paths.{triple-of, path-sets}
+use Rattle.nodes.specs.Paths.{triple-of}
 use Rattle.nodes.specs.Expansion.{Expanded, Ready}
 use Rattle.nodes.proofs.Triples.{triple-from, triple-to}
 use Rattle.nodes.proofs.Writing.{length-codes}
@@ -64,21 +63,6 @@ ored-segment {fs} {xs} {ys} {n} g =
     tabulate-same (λ k. getD ys k 0) (λ k. set-union (getD xs k 0) (getD fs k 0)) 0 (n - 0) (λ k a b. g .done k (omega arith))
     ∙ tabulate-unions (λ k. getD xs k 0) (λ k. getD fs k 0) 0 (n - 0)
 
--- ---- the sets of a path, as the table writes them
-sets-same : (p : PathExpr) → path-sets p ≡ sets-of p
-sets-same p = go (postfix p)
-  where
-    one : (s : Symbol) → number-symbol s .set ≡ set-of s
-    one (s-step d l) = refl
-    one (s-join any) = refl
-    one (s-join (through m)) = refl
-    one (s-op o) = refl
-    one s-closure = refl
-
-    go : (ss : List Symbol) → map (λ s. number-symbol s .set) ss ≡ map set-of ss
-    go [] = refl
-    go (s ∷ ss) = ap₂ {C = List ℕ} (λ x xs. x ∷ xs) (one s) (go ss)
-
 -- neither comes before the other
 neither : (a b : List ℕ) → before? a b ≡ false → before? b a ≡ false → a ≡ b
 neither a b e f = go (trichotomy a b)
@@ -118,7 +102,7 @@ module _ {qs ws : List ℕ} {used i : ℕ} {cs ss : List ℕ} {n : ℕ} (h : Tak
   taken-in ey a x b y {ss′} o =
       let e : segment cs 0 n ≡ segment xs′ 0 m = neither (segment cs 0 n) (segment xs′ 0 m) (sym a ∙ x) (sym b ∙ y) in
       let z : n ≡ m = omega (arith, length-segment cs 0 n, length-segment xs′ 0 m, ap length e) in
-      let s : segment ys′ 0 n ≡ sets-of (triple-of qs ws i .path) = ap (segment ys′ 0) z ∙ expanded-sets (h .usable) w ey ∙ sets-same (triple-of qs ws i .path) in
+      let s : segment ys′ 0 n ≡ sets-of (triple-of qs ws i .path) = ap (segment ys′ 0) z ∙ expanded-sets (h .usable) w ey in
       record {
         same-length = o .same-length;
         equal = λ t. e ∙ own-codes;
@@ -166,7 +150,7 @@ module _ {qs ws xs : List ℕ} {used n k : ℕ} {cs₀ ss₀ : List ℕ} (h : Ru
           sized = z;
           few = f;
           codes-are = expanded-codes u w (h .codes-room);
-          sets-are = expanded-sets u w (h .sets-room) ∙ sets-same (triple-of qs ws i .path);
+          sets-are = expanded-sets u w (h .sets-room);
           from-is = e .from-is ∙ ap singleton (sym (triple-from qs ws i));
           to-is = e .to-is ∙ ap singleton (sym (triple-to qs ws i));
           inferred = u .suits .inferred;

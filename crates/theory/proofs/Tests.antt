@@ -68,3 +68,6 @@ bool-eq true true f g = refl
 bool-eq true false f g = absurd (f tt)
 bool-eq false true f g = absurd (g tt)
 bool-eq false false f g = refl
+
+pub never : (b : Bool) → (T b → ⊥) → b ≡ false
+never b h = bool-eq b false h (λ x. absurd x)

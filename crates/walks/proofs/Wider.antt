@@ -1,7 +1,7 @@
 -- Over a graph of N kinds, of which the triples have those below K only, a closure has the same triples as over one of K.
 -- Assumes nothing.
 use mathlib.Core.Path.{_≡_, refl, sym, ap, ap₂, _∙_, subst}
-use mathlib.Core.Bool.{Bool, true, false, cond, _&&_, not}
+use mathlib.Core.Bool.{Bool, cond, _&&_, not}
 use mathlib.Core.List.{List, [], _∷_, _++_}
 use Prim.Native.Nat.{ℕ, zero, suc, _+_, _-_, _<_, _≤_}
 use native.Mathlib.Nat.{zero-add, suc-add}
@@ -12,14 +12,10 @@ use Rattle.theory.specs.TransitiveClosure.{look, single}
 use Rattle.theory.specs.PathExpr.{PathExpr, closure}
 use Rattle.theory.specs.Inference.{Triple, triple, between, adjacent?, reach, cyclic?, leads?, meets-cyclic?, acyclic?, walks, of-closure}
 use Rattle.theory.specs.Growth.{free, kept-closures}
-use Rattle.theory.proofs.Tests.{bool-eq}
+use Rattle.theory.proofs.Tests.{bool-eq, never}
 use Rattle.theory.proofs.TransitiveClosure.{closure-sound, closure-complete}
 use Rattle.theory.proofs.Reach.{Inside, meets-walk, walk-closure, ends}
 use Rattle.rows.proofs.Ranges.{some-same, some-cut}
-
-never : (b : Bool) → (T b → ⊥) → b ≡ false
-never true f = absurd (f tt)
-never false f = refl
 
 -- ---- lists over the numbers below N, of which those of K and more have nothing
 filter-same : {A : Type 0} (f g : A → Bool) (xs : List A) → ((x : A) → f x ≡ g x) → filter f xs ≡ filter g xs

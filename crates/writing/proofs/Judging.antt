@@ -22,7 +22,8 @@ use Rattle.narrowed.specs.Said.{segment-codes}
 use Rattle.narrowed.proofs.Filled.{codes-numbers}
 use Rattle.bytes.proofs.Parts.{symbols-many, members-many}
 use Rattle.bytes.specs.Wrote.{Few}
-use Rattle.writing.specs.Verdict.{symbol-size, symbol?, offered, path-verdict, member-verdict, members-verdict, verdict}
+use Rattle.bytes.specs.Size.{symbol-size}
+use Rattle.writing.specs.Verdict.{symbol?, offered, path-verdict, member-verdict, members-verdict, verdict}
 
 -- the first of some elements from k on
 take-more : (l : List ℕ) (k n : ℕ) → 0 < n → k + n ≤ length l → take n (drop k l) ≡ getD l k 0 ∷ take (n - 1) (drop (k + 1) l)

@@ -25,7 +25,8 @@ use Rattle.narrowed.proofs.Bytes.{word-back, eight-back}
 use Rattle.narrowed.proofs.Lies.{Lies, field-lies, ends-lie}
 use Rattle.narrowed.proofs.Symbols.{symbol-fits, symbol-short, step-back, operator-back}
 use Rattle.narrowed.proofs.Forth.{head-fits, open-fits, opened, head-body, from-back, to-back}
-use Rattle.writing.specs.Verdict.{symbol-size, symbol?, offered, path-verdict, member-verdict, members-verdict, verdict}
+use Rattle.bytes.specs.Size.{symbol-size}
+use Rattle.writing.specs.Verdict.{symbol?, offered, path-verdict, member-verdict, members-verdict, verdict}
 use Rattle.writing.proofs.Judging.{offered-got}
 
 -- only a join through a set has one

@@ -13,11 +13,8 @@ use Rattle.fields.specs.Said.{refusal-said}
 use Rattle.fields.specs.Symbols.{arity, push}
 use Rattle.narrowed.specs.Form.{Flat, order-codes, numbers}
 use Rattle.writing.specs.declared.Place.{Place}
+use Rattle.bytes.specs.Size.{symbol-size}
 use Rattle.writing.specs.declared.Place.the-variants as place
-
--- the bytes of a symbol's field
-unfoldable pub symbol-size : ℕ → ℕ
-symbol-size c = cond (ltb c 128) 5 (cond (eqb c 255) 11 4)
 
 unfoldable pub symbol? : ℕ → Bool
 symbol? c = ltb c 134 || eqb c 255

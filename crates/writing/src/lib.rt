@@ -9,25 +9,12 @@ ghost use lib.ListN.{length, take, drop};
 ghost use Rattle.fields.specs.Said.{push-said};
 ghost use Rattle.narrowed.specs.Given.{given};
 ghost use Rattle.writing.specs.Outcome.{Writes};
-ghost use Rattle.writing.specs.Verdict.{symbol-size, symbol?, offered, path-verdict, member-verdict, verdict, place-said};
+ghost use Rattle.writing.specs.Verdict.{symbol?, offered, path-verdict, member-verdict, verdict, place-said};
 
 // The place after what was judged, or why it is refused.
 pub enum Place {
     At(usize),
     Refused(Refusal),
-}
-
-// The bytes of a symbol's field.
-fn symbol_size(number: u8) -> usize
-    ensures { λ r. ⌜ (r ≡ symbol-size number) × (r ≤ 11) ⌝ }
-{
-    if number < 128 {
-        return 5;
-    }
-    if number == 255 {
-        return 11;
-    }
-    4
 }
 
 // A symbol has that number.
@@ -46,7 +33,12 @@ fn offer(q: Stack, at: usize, number: u8) -> Pushed
     ensures { λ r. ⌜ push-said r ≡ offered q at number ⌝ }
 {
     if known(number) {
-        return fields::push_symbol(q, at, at + symbol_size(number), fields::operands(number));
+        return fields::push_symbol(
+            q,
+            at,
+            at + bytes::symbol_size(number),
+            fields::operands(number),
+        );
     }
     Pushed::Refused(Refusal::OutOfRange(at))
 }
@@ -66,7 +58,7 @@ fn judge_path(numbers: &[u8], k: usize, n: u8, at: usize) -> Place
                 return Place::Refused(r);
             }
             Pushed::Stands(t) => {
-                place = place + symbol_size(c);
+                place = place + bytes::symbol_size(c);
                 i += 1;
                 q = t;
             }

@@ -9,7 +9,7 @@ use Rattle.emit.proofs.number_symbols.Tie as tie
 use Rattle.emit.proofs.number_symbols.Reads as reads
 use Rattle.emit.proofs.number_symbols.Lts as lts
 use Rattle.emit.proofs.number.Reads as number-reads
-use Rattle.emit.proofs.width.Reads as width-reads
+use Rattle.bytes.proofs.symbol_size.Reads as symbol-size-reads
 
 abbrev Inv-loop : tie.InvT-loop
 Inv-loop codes₀ sets n total₀ j₀ codes total j = Going codes₀ sets codes n j total
@@ -35,11 +35,11 @@ number-requires c κs = search needs
 slice-write-codes : tie.Need-slice-write-codes Inv-loop μ-loop
 slice-write-codes c = search needs
 
-width-requires : tie.Need-width-requires Inv-loop μ-loop
-width-requires c κs = search needs
+symbol-size-requires : tie.Need-symbol-size-requires Inv-loop μ-loop
+symbol-size-requires c κs = search needs
 
 add-total : tie.Need-add-total Inv-loop μ-loop
-add-total c = omega (arith, c .before .before .before .before .before .loop .inv .at-most, c .before .before .before .before .loop-test .taken, c .before .before .before .before .before .before .before .before .pre .2, c .width .ensures .at-most)
+add-total c = omega (arith, c .before .before .before .before .before .loop .inv .at-most, c .before .before .before .before .loop-test .taken, c .before .before .before .before .before .before .before .before .pre .2, c .symbol-size .ensures .1)
 
 add-j : tie.Need-add-j Inv-loop μ-loop
 add-j c = search needs
@@ -48,7 +48,7 @@ loop-less : tie.Need-loop-less Inv-loop μ-loop
 loop-less c = search needs
 
 loop-again : tie.Need-loop-again Inv-loop μ-loop
-loop-again c = going-turn (c .before .before .before .before .before .loop .inv) (c .before .before .before .before .loop-test .taken) (c .before .before .before .before .before .before .before .before .pre .0) (c .before .number .ensures) (c .width .ensures)
+loop-again c = going-turn (c .before .before .before .before .before .loop .inv) (c .before .before .before .before .loop-test .taken) (c .before .before .before .before .before .before .before .before .pre .0) (c .before .number .ensures) (c .symbol-size .ensures .0) (c .symbol-size .ensures .1)
 
 same-length : tie.Need-same-length Inv-loop μ-loop
 same-length c = search needs
@@ -68,7 +68,7 @@ number-symbols-spec =
     shared-slice-read-number
     number-requires
     slice-write-codes
-    width-requires
+    symbol-size-requires
     add-total
     add-j
     loop-less

@@ -1,6 +1,7 @@
 -- `writing::offer` meets its contract.
 -- Assumes nothing.
-use Rattle.writing.specs.Verdict.{symbol-size, offered}
+use Rattle.bytes.specs.Size.{symbol-size}
+use Rattle.writing.specs.Verdict.{offered}
 use borrow.Author.Needs.{needs}
 use Rattle.writing.proofs.offer.Statement.{statement}
 use Rattle.writing.proofs.offer.Tie as tie

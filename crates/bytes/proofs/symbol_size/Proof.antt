@@ -1,11 +1,11 @@
--- `writing::symbol_size` meets its contract.
+-- `bytes::symbol_size` meets its contract.
 -- Assumes nothing.
 use mathlib.Core.Path.{refl}
 use native.Mathlib.Omega.{arith}
 use borrow.Author.Tests.{lt-ltb, le-ltb, eq-eqb, ne-eqb}
-use Rattle.writing.specs.Verdict.{symbol-size}
-use Rattle.writing.proofs.symbol_size.Statement.{statement}
-use Rattle.writing.proofs.symbol_size.Tie as tie
+use Rattle.bytes.specs.Size.{symbol-size}
+use Rattle.bytes.proofs.symbol_size.Statement.{statement}
+use Rattle.bytes.proofs.symbol_size.Tie as tie
 
 returns : tie.Need-returns
 unfolding symbol-size

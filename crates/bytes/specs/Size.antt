@@ -1,0 +1,9 @@
+-- How many bytes a symbol's field takes.
+-- 01-scope.md, "Fields of a file": 43, 44, 45.
+-- Assumes nothing.
+use mathlib.Core.Bool.{cond}
+use Prim.Native.Nat.{ℕ}
+use lib.Dec.{ltb, eqb}
+
+unfoldable pub symbol-size : ℕ → ℕ
+symbol-size c = cond (ltb c 128) 5 (cond (eqb c 255) 11 4)

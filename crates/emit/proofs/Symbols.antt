@@ -16,7 +16,7 @@ use Rattle.theory.specs.Lists.{tabulate}
 use Rattle.theory.specs.PathExpr.{any, through, PathExpr, Symbol, s-step, s-join, s-op, s-closure, postfix, code, codes}
 use Rattle.theory.specs.Sorting.{set-of, sets-of, Inferred, Marked}
 use Rattle.theory.proofs.Tests.{of-true}
-use Rattle.theory.proofs.Sorting.{symbols-by, inferred-marked}
+use Rattle.theory.proofs.JoinSets.{symbols-by, inferred-marked}
 use Rattle.fields.specs.Symbols.{Numbered, numbered, number-symbol, symbol-given, symbols-given}
 use Rattle.narrowed.specs.Writing.{symbol-bytes, symbols-bytes}
 use Rattle.order.specs.Arrays.{segment}

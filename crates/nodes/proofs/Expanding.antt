@@ -14,11 +14,12 @@ use Rattle.fields.proofs.Numbers.{code-number}
 use Rattle.nodes.specs.declared.Node.{Node}
 use Rattle.nodes.specs.Table.{node-at}
 use Rattle.theory.specs.Sorting.{sets-of}
+use Rattle.theory.proofs.JoinSets.{sets-length}
 use Rattle.nodes.specs.Paths.{original, triple-of, Has}
 use Rattle.nodes.specs.Expansion.{Wrote, Expanded, Ready}
 use Rattle.nodes.proofs.Codes.{step-numbered}
 use Rattle.nodes.proofs.Nodes.{known, step-path, kept-path, kept-copied, left-has, right-has, join-path, made-op, op-path}
-use Rattle.nodes.proofs.Writing.{wrote-as, expanded-join, expanded-op, expanded-closure, length-codes, length-sets-of}
+use Rattle.nodes.proofs.Writing.{wrote-as, expanded-join, expanded-op, expanded-closure, length-codes}
 
 pub shl-singleton : (k : ℕ) → k < 64 → (1 * 2 ^ k) % 2 ^ 64 ≡ singleton k
 unfolding singleton
@@ -53,7 +54,7 @@ module _ {qs ws : List ℕ} {used i at : ℕ} {xs ys : List ℕ} (h : Ready qs w
     kept-room =
         let c = kept-copied (h .has) n e m in
         let s = sym (sized (h .has)) ∙ ap size (kept-path (h .has) n e m) in
-        let z : size (original qs (n .left) (n .right)) ≡ n .right = sym (length-sets-of (original qs (n .left) (n .right))) ∙ ap length (c .no-sets) ∙ length-replicate (n .right) 0 in
+        let z : size (original qs (n .left) (n .right)) ≡ n .right = sym (sets-length (original qs (n .left) (n .right))) ∙ ap length (c .no-sets) ∙ length-replicate (n .right) 0 in
         omega (arith, s, h .codes-room, h .sets-room, c .inside)
 
     module _ {xs₁ ys₁ : List ℕ} {mid : ℕ} (a : Wrote at (take (n .right) (drop (n .left) qs)) (replicate (n .right) 0) xs ys xs₁ ys₁ mid) where

@@ -9,7 +9,7 @@ use lib.ListN.{length, getD, set, take, drop, replicate, length-append, length-m
 use lib.Seq.{take-suc, getD-drop}
 use Rattle.theory.specs.PathExpr.{Via, Op, PathExpr, join, op, closure, s-join, postfix, codes, code, op-code, size}
 use Rattle.theory.proofs.Lists.{sets-append}
-use Rattle.theory.specs.Sorting.{set-of, sets-of}
+use Rattle.theory.specs.Sorting.{set-of}
 use Rattle.fields.proofs.Numbers.{length-postfix}
 use Rattle.nodes.specs.Expansion.{Wrote, Expanded}
 
@@ -60,6 +60,3 @@ expanded-closure p a c = wrote-as (wrote-then a c) (sym (simp map-append)) (sym 
 
 pub length-codes : (p : PathExpr) → length (codes p) ≡ size p
 length-codes p = length-map (postfix p) code ∙ length-postfix p
-
-pub length-sets-of : (p : PathExpr) → length (sets-of p) ≡ size p
-length-sets-of p = length-map (postfix p) set-of ∙ length-postfix p

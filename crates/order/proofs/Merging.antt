@@ -18,7 +18,8 @@ use Rattle.theory.specs.Merging.{Member, merged}
 use Rattle.theory.specs.Sorting.{grouped, alike?, sets-of, set-unions}
 use Rattle.theory.proofs.Tests.{to-true}
 use Rattle.theory.proofs.Order.{trichotomy, codes-merge, merged-linked}
-use Rattle.theory.proofs.Sorting.{ahead-unlike, ahead-unlike′, codes-alike, merge-inferred, merged-sets, group-takes, group-ends}
+use Rattle.theory.proofs.Sorting.{ahead-unlike, ahead-unlike′, codes-alike, group-takes, group-ends}
+use Rattle.theory.proofs.JoinSets.{merge-inferred, merged-sets}
 use Rattle.nodes.specs.Paths.{triple-of}
 use Rattle.nodes.specs.Expansion.{Expanded, Ready}
 use Rattle.nodes.proofs.Triples.{triple-from, triple-to}

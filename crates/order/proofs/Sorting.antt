@@ -17,7 +17,8 @@ use Rattle.theory.specs.Inference.{Triple, triples}
 use Rattle.theory.specs.Merging.{Member, of-triple, members}
 use Rattle.theory.specs.Sorting.{place, sorted, ahead?, grouped}
 use Rattle.theory.proofs.Lists.{tabulate-in}
-use Rattle.theory.proofs.Sorting.{sorted-map, members-sorted, triples-linked, triples-inferred}
+use Rattle.theory.proofs.Sorting.{sorted-map, members-sorted}
+use Rattle.theory.proofs.TriplePaths.{triples-linked, triples-inferred}
 use Rattle.rows.proofs.Words.{le-or-lt}
 use Rattle.nodes.specs.Paths.{triple-of}
 use Rattle.nodes.specs.Parts.{part-of}

@@ -17,7 +17,7 @@ use Rattle.theory.specs.Sheet.{Sheet}
 use Rattle.theory.specs.Inference.{Triple, triple, triple?, distinct, stepped?, between, of-step, of-join, pairs, end-to-end?, same-ends?, same-start?, joined, conjoined, branched-right, branched-left, of-op, reach, meets-cyclic?, acyclic?, walks, of-closure, triples}
 use Rattle.theory.specs.Narrowing.{short?}
 use Rattle.theory.specs.Growth.{no-triple, grown, grow, free, kept-closures}
-use Rattle.theory.proofs.Tests.{test, of-true, cond-case, bool-eq}
+use Rattle.theory.proofs.Tests.{test, of-true, cond-case, bool-eq, apart}
 use Rattle.theory.proofs.Lists.{in-guard, in-filter, some-in, in-some, every-in, in-every, in-concat-map, in-tabulate}
 use Rattle.theory.proofs.Distinct.{in-adjoin, adjoin-all-old, adjoin-all-new, adjoin-all-append, adjoin-all-longer}
 use Rattle.theory.proofs.Triples.{triple-eq, triple-refl, in-distinct, distinct-in, distinct-norepeat, in-pairs, in-between}
@@ -330,16 +330,13 @@ module _ (fs : List Triple) (norepeat : NoRepeat fs) (short : short? (walks 24 f
       go (no l) = omega arith
 
 -- ---- no triple of a part has the part's closure as its path
-impossible : {A : Type 0} → _≡_ {A = ℕ} 0 1 → A
-impossible e = absurd (omega arith)
-
 -- a walk whose path is a closure is a single triple
 level-single : (fs : List Triple) (q : PathExpr) (j : ℕ) {t : Triple} → In t (level fs j) → t .path ≡ closure q → In t fs
 level-single fs q zero m e = m
 level-single fs q (suc j) {t} m e =
     let r = in-pairs end-to-end? joined (level fs j) fs m in
     let f : t .path ≡ joined (r .fst) (r .snd) .path = ap (λ u. u .path) (r .given) in
-    impossible (cc)
+    apart cc
 
 walk-single : (fs : List Triple) (q : PathExpr) {t : Triple} → In t (walks 24 fs fs) → t .path ≡ closure q → In t fs
 walk-single fs q m e = let j = in-walks fs 24 0 m in level-single fs q (j .0) (j .1) e
@@ -349,18 +346,18 @@ pair-apart : (fits : Triple → Triple → Bool) (o : Op) (give : Triple → Tri
 pair-apart fits o give is xs ys {t} m q e =
     let r = in-pairs fits give xs ys m in
     let f : t .path ≡ op o (r .fst .path) (r .snd .path) = ap (λ u. u .path) (r .given) ∙ is (r .fst) (r .snd) in
-    impossible (cc)
+    apart cc
 
 pub closure-smaller : (S : Sheet) (o : PathExpr) {t : Triple} → In t (triples S o) → (q : PathExpr) → t .path ≡ closure q → size q < size o
 unfolding of-closure
 closure-smaller S (step d l) {t} m q e =
     let r = in-between (S .kinds) (step d l) (stepped? S d l) (in-distinct (of-step S d l) m) in
     let f : t .path ≡ step d l = ap (λ u. u .path) (r .3) in
-    impossible (cc)
+    apart cc
 closure-smaller S (join v p p′) {t} m q e =
     let r = in-pairs end-to-end? joined (triples S p) (triples S p′) (in-distinct (of-join (triples S p) (triples S p′)) m) in
     let f : t .path ≡ joined (r .fst) (r .snd) .path = ap (λ u. u .path) (r .given) in
-    impossible (cc)
+    apart cc
 closure-smaller S (op union p p′) m q e =
     ⊎-elim (λ i. let l = closure-smaller S p i q e in omega arith) (λ i. let l = closure-smaller S p′ i q e in omega arith)
     (in-append (triples S p) (in-distinct (triples S p ++ triples S p′) m))

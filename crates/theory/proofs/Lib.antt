@@ -25,6 +25,8 @@ pub mod Postfix
 pub mod Merging
 pub mod Order
 pub mod Sorting
+pub mod TriplePaths
+pub mod JoinSets
 pub mod First
 pub mod Conformance
 pub mod Refusals

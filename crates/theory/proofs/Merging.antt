@@ -4,20 +4,15 @@ use mathlib.Core.Path.{_≡_, refl, sym, ap, ap₂, _∙_, subst}
 use mathlib.Core.Logic.{inl, inr}
 use mathlib.Core.List.{List, [], _∷_, List·Memᴰ as In, List·Memᴰ·head as here, List·Memᴰ·tail as there, List·Memᴰ·not-nil as in-nil}
 use Prim.Native.Nat.{ℕ}
-use native.Mathlib.Omega.{arith}
 use lib.Dec.{T}
 use Rattle.theory.specs.KindSet.{has}
 use Rattle.theory.specs.PathExpr.{codes, before?, Via, any, through, Op, union, conjunction, branch-right, branch-left, PathExpr, step, join, op, closure, erase, same?, path-discrete}
 use Rattle.theory.specs.Register.{Register, passes, Holds}
 use Rattle.theory.specs.Inference.{Triple}
 use Rattle.theory.specs.Merging.{Member, of-triple, same-shape?, merge-via, merge, merged, insert, members}
-use Rattle.theory.proofs.Tests.{of-decided, cond-case}
+use Rattle.theory.proofs.Tests.{of-decided, cond-case, apart}
 use Rattle.theory.proofs.KindSet.{singleton-has, has-union-left, has-union-right, has-union}
 use Rattle.theory.proofs.TransitiveClosure.{closure-map}
-
--- constructors that differ are never equal
-pub apart : {A : Type 0} → _≡_ {A = ℕ} 0 1 → A
-apart e = absurd (omega arith)
 
 pub same-shape : (p q : PathExpr) → T (same-shape? p q) → erase p ≡ erase q
 unfolding same-shape? same?

@@ -4,6 +4,7 @@ use mathlib.Core.Path.{_≡_, refl, sym, subst}
 use mathlib.Core.Logic.{_⊎_, inl, inr}
 use mathlib.Core.Bool.{Bool, true, false, _&&_, _||_, not, cond}
 use Prim.Native.Nat.{ℕ}
+use native.Mathlib.Omega.{arith}
 use lib.Dec.{T, eqb, eqb-refl}
 use Rattle.theory.specs.Lists.{decided}
 
@@ -71,3 +72,7 @@ bool-eq false false f g = refl
 
 pub never : (b : Bool) → (T b → ⊥) → b ≡ false
 never b h = bool-eq b false h (λ x. absurd x)
+
+-- constructors that differ are never equal
+pub apart : {A : Type 0} → _≡_ {A = ℕ} 0 1 → A
+apart e = absurd (omega arith)

@@ -1,5 +1,5 @@
 -- Members by sorting: single members in the order of their codes, then neighbours of one shape merged. A path's join sets, beside its codes.
--- proofs/Sorting.antt: so made they are the members of specs/Merging.antt.
+-- proofs/Sorting.antt and TriplePaths.antt: so made they are the members of specs/Merging.antt.
 -- Assumes nothing.
 use mathlib.Core.Bool.{Bool, cond}
 use mathlib.Core.List.{List, [], _∷_, map, zipWith}

@@ -3,10 +3,10 @@
 use mathlib.Core.Path.{_≡_, ap}
 use mathlib.Core.List.{List}
 use mathlib.Core.Option.{some}
-use Prim.Native.Nat.{ℕ}
+use Prim.Native.Nat.{ℕ, _<_}
 use lib.Dec.{T}
 use Rattle.theory.specs.Register.{Edge, Register, records, kind}
-use Rattle.theory.specs.Sheet.{Sheet, sheet?, link-permitted?, breach, or-else}
+use Rattle.theory.specs.Sheet.{Sheet, sheet?, permits?, link-permitted?, breach, or-else}
 use Rattle.fields.specs.declared.Refusal.{Refusal}
 use Rattle.fields.specs.declared.Source.the-variants as source
 use Rattle.fields.specs.Call.{accepts, refuses}
@@ -41,13 +41,18 @@ module _ (K : ℕ) (t : List ℕ) (r : Register) (u : Failing) (h : failing-said
   pub breach-of-link : (f : Failing) → u ≡ Nowhere → failing-said f ≡ first-forbidden t r → failing-said f ≡ first-breach K t r
   breach-of-link f e g = rw (← h, e) g
 
--- the search by the sheet's numbers and table is the search by the sheet
-breach-is : (S : Sheet) (r : Register) → T (sheet? S) → Limits r → first-breach (S .kinds) (table-of (S .permitted)) r ≡ breach S r
-unfolding breach first-unknown first-forbidden tabled?
-breach-is S r ok l =
+-- the search by a table that permits what the sheet permits is the search by the sheet
+pub breach-is : (S : Sheet) (t : List ℕ) (r : Register) → ((a l b : ℕ) → a < 64 → tabled? t a l b ≡ permits? S a l b) → Limits r → first-breach (S .kinds) t r ≡ breach S r
+unfolding breach first-unknown first-forbidden
+breach-is S t r same l =
     ap (or-else (first-unknown (S .kinds) r))
-    (same-failing (link-tabled? (table-of (S .permitted)) r) (link-permitted? S r) (records r) (r .links)
-    (λ (e : Edge) m. table-permits S ok (kind r (e .from)) (e .label) (kind r (e .to)) (l .kinds (e .from))))
+    (same-failing (link-tabled? t r) (link-permitted? S r) (records r) (r .links)
+    (λ (e : Edge) m. same (kind r (e .from)) (e .label) (kind r (e .to)) (l .kinds (e .from))))
+
+-- a sheet's own table
+own-table : (S : Sheet) → T (sheet? S) → (a l b : ℕ) → a < 64 → tabled? (table-of (S .permitted)) a l b ≡ permits? S a l b
+unfolding tabled?
+own-table S ok = table-permits S ok
 
 module _ (s g : List ℕ) (o : sheet·Outcome.Outcome) (t : List ℕ) (h : Reads (read sheet-form s) o t) where
   pub sheet-refused : (x : Refusal) → o ≡ sheet·outcome.Refused x → refuses source.Sheet (number-of x) (place-of x) ≡ check-of s g
@@ -67,7 +72,7 @@ module _ (s g : List ℕ) (o : sheet·Outcome.Outcome) (t : List ℕ) (h : Reads
           let (S, d) = told-sheet s o t h k e w in
           let r = accepted-file g q z n l u in
           let i = d .table in
-          let j = breach-is S (register-in g) (accepted-sheet s S (d .reads)) (accepted-register g (register-in g) r) in
+          let j = breach-is S (table-of (S .permitted)) (register-in g) (own-table S (accepted-sheet s S (d .reads))) (accepted-register g (register-in g) r) in
           rw (d .reads, r, ← j, d .kinds, ← i) (ap obeying y)
 
       pub breach-at : (i : ℕ) → f ≡ At i → refuses source.Work 16 i ≡ check-of s g

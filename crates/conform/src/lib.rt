@@ -16,7 +16,7 @@ ghost use Rattle.sheet.specs.Table.{tabled?};
 ghost use Rattle.conform.specs.Said.{failing-said, first-unknown, first-forbidden, first-breach};
 
 // Where a test fails first, if anywhere.
-enum Failing {
+pub enum Failing {
     At(usize),
     Nowhere,
 }
@@ -72,7 +72,7 @@ fn first_forbidden(register: &[u8], n: usize, table: &[u64; 4096]) -> Failing
 }
 
 // The place of 16: that of a record, or n more than that of a link.
-fn first_breach(register: &[u8], n: usize, kinds: u8, table: &[u64; 4096]) -> Failing
+pub fn first_breach(register: &[u8], n: usize, kinds: u8, table: &[u64; 4096]) -> Failing
     requires { ⌜ Accepted (now register) × (n ≡ records (register-in (now register))) ⌝ }
     ensures { λ r. ⌜ failing-said r ≡ first-breach kinds (now (table .entry)) (register-in (now (register .entry))) ⌝ }
 {

@@ -7,7 +7,7 @@ use Prim.Native.Nat.{ℕ, _+_, _≤_}
 use native.Mathlib.Omega.{arith}
 use lib.Dec.{ltb}
 use lib.ListN.{length, take, drop}
-use lib.Seq.{sets, sets-eq, take-append-seam}
+use lib.Seq.{sets, length-sets, sets-eq, take-append-seam}
 use borrow.Author.Tests.{ltb-false}
 use Rattle.theory.specs.Sheet.{Sheet}
 use Rattle.theory.specs.Merging.{Member}
@@ -23,6 +23,13 @@ use Rattle.question.specs.Form.{question-form, question-symbols}
 use Rattle.narrowed.specs.Members.{narrowed-file}
 use Rattle.narrow.specs.Call.{result, file-of, narrow-need, settled, narrow-call}
 
+-- the area has the members' file, of the size that was told
+pub record Filed (ms : List Member) (file file′ : List ℕ) (z : Size) : Type 0 where
+  pub counted : z .members ≡ length ms
+  pub measured : z .bytes ≡ length (narrowed-file ms)
+  pub room : length (narrowed-file ms) ≤ length file
+  pub area : file′ ≡ sets file 0 (narrowed-file ms)
+
 pub record Accepted (s q file file′ : List ℕ) (z : Size) : Type 0 where
   pub sheet : Sheet
   pub sheet-reads : read sheet-form s ≡ got sheet
@@ -30,20 +37,38 @@ pub record Accepted (s q file file′ : List ℕ) (z : Size) : Type 0 where
   pub question-reads : read question-form q ≡ got codes
   pub members : List Member
   pub narrows : narrow-symbols sheet (question-symbols codes) ≡ narrowed members
-  pub counted : z .members ≡ length members
-  pub measured : z .bytes ≡ length (narrowed-file members)
-  pub room : length (narrowed-file members) ≤ length file
-  pub area : file′ ≡ sets file 0 (narrowed-file members)
+  pub filed : Filed members file file′ z
 
--- the file that was written: as many bytes of the area as the call told
-pub file-written : {s q file file′ : List ℕ} {z : Size} (a : Accepted s q file file′ z) → take (z .bytes) file′ ≡ narrowed-file (a .members)
-file-written {file = file} {file′} {z} a =
-    let bytes = narrowed-file (a .members) in
-    let e : sets file 0 bytes ≡ bytes ++ drop (0 + length bytes) file = sets-eq bytes file 0 (omega (arith, a .room)) in
-    rw (a .measured, a .area, e) (take-append-seam bytes (drop (0 + length bytes) file))
+module _ {ms : List Member} {file file′ : List ℕ} {z : Size} (a : Filed ms file file′ z) where
+  -- the file that was written: as many bytes of the area as the call told
+  pub file-written : take (z .bytes) file′ ≡ narrowed-file ms
+  file-written =
+      let bytes = narrowed-file ms in
+      let e : sets file 0 bytes ≡ bytes ++ drop (0 + length bytes) file = sets-eq bytes file 0 (omega (arith, a .room)) in
+      rw (a .measured, a .area, e) (take-append-seam bytes (drop (0 + length bytes) file))
 
-not-accepted : {A : Type 0} (x : Source) (n p : ℕ) (z : Size) → _≡_ {A = fields·Call.Outcome Size} (refuses x n p) (accepts z) → A
+  pub within : z .bytes ≤ length file′
+  within = omega (arith, a .measured, a .room, ap length (a .area), length-sets file 0 (narrowed-file ms))
+
+pub not-accepted : {A : Type 0} (x : Source) (n p : ℕ) (z : Size) → _≡_ {A = fields·Call.Outcome Size} (refuses x n p) (accepts z) → A
 not-accepted x n p z e = let w : _≡_ {A = ℕ} 0 1 = cc in absurd (omega arith)
+
+-- 14 was not told
+pub filed : (ms : List Member) (file : List ℕ) (z : Size) → file-of ms file .outcome ≡ accepts z → Filed ms file (file-of ms file .file) z
+unfolding file-of
+filed ms file z e = by-room (ltb (length file) (length (narrowed-file ms))) refl
+  where
+    by-room : (b : Bool) → ltb (length file) (length (narrowed-file ms)) ≡ b → Filed ms file (file-of ms file .file) z
+    by-room true t = not-accepted source.Work 14 (length (narrowed-file ms)) z (rw t at e)
+    by-room false t =
+        let y : accepts (size (length ms) (length (narrowed-file ms))) ≡ accepts z = rw t at e in
+        let x : size (length ms) (length (narrowed-file ms)) ≡ z = cc in
+        record {
+          counted = sym (ap (λ (w : Size). w .members) x);
+          measured = sym (ap (λ (w : Size). w .bytes) x);
+          room = ltb-false (length file) (length (narrowed-file ms)) t;
+          area = rw t;
+        }
 
 module _ (s q work file : List ℕ) (z : Size) (e : narrow-call s q work file .outcome ≡ accepts z) where
   abbrev Due : Type 0
@@ -59,12 +84,8 @@ module _ (s q work file : List ℕ) (z : Size) (e : narrow-call s q work file .o
       unfolding settled
       is-filed = is-settled ∙ rw (short, en)
 
-      by-room : (b : Bool) → ltb (length file) (length (narrowed-file ms)) ≡ b → Due
-      unfolding file-of
-      by-room true t = not-accepted source.Work 14 (length (narrowed-file ms)) z (rw (is-filed, t) at e)
-      by-room false t =
-          let y : accepts (size (length ms) (length (narrowed-file ms))) ≡ accepts z = rw (is-filed, t) at e in
-          let x : size (length ms) (length (narrowed-file ms)) ≡ z = cc in
+      is-accepted : Due
+      is-accepted =
           record {
             sheet = S;
             sheet-reads = es;
@@ -72,17 +93,14 @@ module _ (s q work file : List ℕ) (z : Size) (e : narrow-call s q work file .o
             question-reads = eq;
             members = ms;
             narrows = en;
-            counted = sym (ap (λ (w : Size). w .members) x);
-            measured = sym (ap (λ (w : Size). w .bytes) x);
-            room = ltb-false (length file) (length (narrowed-file ms)) t;
-            area = rw (is-filed, t);
+            filed = rw is-filed (filed ms file z (rw is-filed at e));
           }
 
     by-outcome : (o : Outcome) → narrow-symbols S (question-symbols cs) ≡ o → (b : Bool) → ltb (length work) narrow-need ≡ b → Due
     unfolding settled
     by-outcome o en true t = not-accepted source.Work 15 narrow-need z (rw (is-settled, t) at e)
     by-outcome (refused n i) en false t = not-accepted source.Work n i z (rw (is-settled, t, en) at e)
-    by-outcome (narrowed ms) en false t = by-room ms en t (ltb (length file) (length (narrowed-file ms))) refl
+    by-outcome (narrowed ms) en false t = is-accepted ms en t
 
   by-question : (S : Sheet) → read sheet-form s ≡ got S → (a : Answer (List ℕ)) → read question-form q ≡ a → Due
   unfolding narrow-call

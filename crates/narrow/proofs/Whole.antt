@@ -12,7 +12,7 @@ use Rattle.theory.specs.Postfix.{ended}
 use Rattle.theory.specs.Sheet.{Sheet}
 use Rattle.theory.specs.Inference.{triples}
 use Rattle.theory.specs.Merging.{members}
-use Rattle.theory.specs.Narrowing.{Outcome, narrowed, refuse, link-fault, part-fault, narrow-read, narrow-symbols}
+use Rattle.theory.specs.Narrowing.{Outcome, refused, narrowed, refuse, link-fault, part-fault, narrow-read, narrow-symbols}
 use Rattle.fields.specs.declared.Refusal.{Refusal}
 use Rattle.fields.specs.declared.Refusal.the-variants.{UnnamedLink, WorkShort}
 use Rattle.fields.specs.declared.Source.the-variants as source
@@ -39,31 +39,37 @@ module _ {qs t : List ℕ} {count K : ℕ} (h : Ready qs t count K) where
   ss = question-symbols (take count qs)
 
   -- what is left once the links are named
-  abbrev rest : Sheet → Outcome
+  abbrev pub rest : Sheet → Outcome
   rest S = refuse (part-fault S) 0 (ended ss []) (narrowed (members (triples S (h .path))))
 
   by-links : (S : Sheet) (E : ℕ) → S .link-names ≡ E → narrow-symbols S ss ≡ refuse (link-fault E) 0 ss (rest S)
   unfolding narrow-symbols
   by-links S E e = ap (narrow-read S ss) (h .is) ∙ ap (λ (n : ℕ). refuse (link-fault n) 0 ss (rest S)) e
 
-  module _ {E i : ℕ} (f : FirstUnnamed E (take count qs) i) {ws file : List ℕ} where
-    pub codes-unnamed : i < count → Narrows-codes qs ws ws t count K E file file (written.Refused source.Work (UnnamedLink i))
-    codes-unnamed l =
-        record {
-          kept = kept-refl 0 narrow-need ws;
-          files = λ S g.
-              let z = by-links S E (g .named) ∙ f .here (omega (arith, many)) (rest S) in
-              record { outcome = rw z; file = rw z };
-        }
+  module _ {E i : ℕ} (f : FirstUnnamed E (take count qs) i) where
+    pub symbols-unnamed : i < count → (S : Sheet) → S .link-names ≡ E → narrow-symbols S ss ≡ refused 11 i
+    symbols-unnamed l S e = by-links S E e ∙ f .here (omega (arith, many)) (rest S)
 
-    pub codes-named : count ≤ i → {ws′ file′ : List ℕ} {o : Written} → Infers-file qs ws ws′ t count K file file′ o → Narrows-codes qs ws ws′ t count K E file file′ o
-    codes-named l {file′ = file′} {o} g =
-        record {
-          kept = g .kept;
-          files = λ S d.
-              let z = by-links S E (d .named) ∙ f .nowhere (omega (arith, many, f .within)) (rest S) in
-              subst (λ (x : Outcome). Files (call.written x file) o file′) (sym z) (g .files S (d .sheeted) (h .path) (h .is));
-        }
+    pub symbols-named : count ≤ i → (S : Sheet) → S .link-names ≡ E → narrow-symbols S ss ≡ rest S
+    symbols-named l S e = by-links S E e ∙ f .nowhere (omega (arith, many, f .within)) (rest S)
+
+    module _ {ws file : List ℕ} where
+      pub codes-unnamed : i < count → Narrows-codes qs ws ws t count K E file file (written.Refused source.Work (UnnamedLink i))
+      codes-unnamed l =
+          record {
+            kept = kept-refl 0 narrow-need ws;
+            files = λ S g.
+                let z = symbols-unnamed l S (g .named) in
+                record { outcome = rw z; file = rw z };
+          }
+
+      pub codes-named : count ≤ i → {ws′ file′ : List ℕ} {o : Written} → Infers-file qs ws ws′ t count K file file′ o → Narrows-codes qs ws ws′ t count K E file file′ o
+      codes-named l {file′ = file′} {o} g =
+          record {
+            kept = g .kept;
+            files = λ S d.
+                subst (λ (x : Outcome). Files (call.written x file) o file′) (sym (symbols-named l S (d .named))) (g .files S (d .sheeted) (h .path) (h .is));
+          }
 
 -- ---- 15, and the work words
 pub need-is : 8192 ≡ narrow-need

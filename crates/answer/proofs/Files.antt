@@ -68,9 +68,13 @@ module _ (s : List ℕ) (o : narrowed·Outcome.Outcome) (q : Members) (h : narro
   pub file-refused : (x : Refusal) → o ≡ narrowed·outcome.Refused x → read narrowed-form s ≡ refused (number-of x) (place-of x)
   file-refused x e = told-refused _ (read narrowed-form s) (number-of x) (place-of x) (sym (ap narrowed-said e) ∙ h .outcome)
 
+  -- the members handed on are those of the file
+  pub file-given : (ms : List Flat) → read narrowed-form s ≡ got ms → WellFormed ms → given q ≡ ms
+  file-given ms a f = packed-given q ms f (subst (λ (l : List Flat). Packed l q) (ap members-in a) (h .members))
+
   pub file-accepted : Bytes s → (n : ℕ) → o ≡ narrowed·outcome.Accepted n → (read narrowed-form s ≡ got (given q)) × Readable q
   file-accepted bytes n e =
       let (ms, a, b) = onward-got (λ ms. got (length ms)) (read narrowed-form s) n (sym (h .outcome) ∙ ap narrowed-said e) in
       let f = accepted-formed s bytes ms a in
-      let g = packed-given q ms f (subst (λ (l : List Flat). Packed l q) (ap members-in a) (h .members)) in
+      let g = file-given ms a f in
       (a ∙ ap got (sym g), subst WellFormed (sym g) f)

@@ -14,6 +14,7 @@ ghost use Rattle.theory.specs.Register.{records};
 ghost use Rattle.theory.specs.Merging.{member};
 ghost use Rattle.theory.specs.Evaluation.{plain-answer, narrowed-answer, member-answer};
 ghost use Rattle.theory.specs.Words.{row-words};
+ghost use Rattle.fields.specs.declared.Outcome.the-variants as outcome;
 ghost use Rattle.narrowed.specs.Given.{given};
 ghost use Rattle.register.specs.Form.{register-in};
 ghost use Rattle.register.specs.Ahead.{Accepted};
@@ -22,7 +23,7 @@ ghost use Rattle.answer.specs.Calls.{answered, asked, members-of, plain-
 ghost use Rattle.answer.specs.Said.{Answers, Fills, Adds, Readable};
 
 // The words of a row of n records.
-fn row_words(n: usize) -> usize
+pub fn row_words(n: usize) -> usize
     requires { ⌜ n ≤ 1024 ⌝ }
     ensures { λ w. ⌜ w ≡ row-words n ⌝ }
 {
@@ -176,7 +177,25 @@ fn add_members(
     }
 }
 
-// 14; or the pairs of the members, as the answer's words.
+// The pairs of the members, as the answer's words.
+pub fn set_members(
+    q: Members,
+    register: &[u8],
+    n: usize,
+    w: usize,
+    work: &mut [u64],
+    answer: &mut [u64],
+)
+    requires { ⌜ Readable q × Ground (now register) n w × (28 * (n * w) ≤ length (now work)) × (n * w ≤ length (now answer)) ⌝ }
+    ensures { λ _. ⌜ Fills n w (narrowed-answer (register-in (now (register .entry))) (members-of (given q))) outcome.Accepted
+        (now (work .entry)) (now (work .exit)) (now (answer .entry)) (now (answer .exit)) ⌝ }
+{
+    let room = n * w;
+    rows::clear(answer, 0, room);
+    add_members(q, register, n, w, work, answer);
+}
+
+// 14; or the pairs of the members.
 fn narrowed_words(
     q: Members,
     register: &[u8],
@@ -193,8 +212,7 @@ fn narrowed_words(
     if answer.len() < room {
         return Outcome::Refused(Source::Work, Refusal::AreaShort(room));
     }
-    rows::clear(answer, 0, room);
-    add_members(q, register, n, w, work, answer);
+    set_members(q, register, n, w, work, answer);
     Outcome::Accepted
 }
 

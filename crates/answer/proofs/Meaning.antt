@@ -10,7 +10,7 @@ use native.Mathlib.Omega.{arith}
 use lib.Dec.{T, ltb}
 use lib.ListN.{length, getD, drop, List·getD-append}
 use lib.Seq.{sets, sets-eq}
-use borrow.Author.Tests.{lt-ltb, ltb-false}
+use borrow.Author.Tests.{lt-ltb, le-ltb, ltb-false}
 use Rattle.bits.specs.Bit.{bitOf}
 use Rattle.theory.specs.PathExpr.{PathExpr}
 use Rattle.theory.specs.Postfix.{path-of}
@@ -38,6 +38,12 @@ bit-at r ws s t = bitOf (getD ws (s * row-words (records r) + t / 64) 0) (t % 64
 
 not-accepted : {A : Type 0} (n p : ℕ) → _≡_ {A = Outcome (Unit {0})} (refuses source.Work n p) (accepts tt) → A
 not-accepted n p e = let z : _≡_ {A = ℕ} 0 1 = cc in absurd (omega arith)
+
+-- with words enough nothing is refused
+pub answered-enough : (r : Register) (f : ℕ → ℕ → Bool) (work answer : List ℕ) → work-need r ≤ length work → answer-need r ≤ length answer
+    → answered r f work answer ≡ result (accepts tt) (zeroed (work-need r) work) (sets answer 0 (answer-words (records r) f))
+unfolding answered
+answered-enough r f work answer h l = rw (le-ltb (length work) (work-need r) h, le-ltb (length answer) (answer-need r) l)
 
 -- the area's bit is that of the definition
 module _ (r : Register) (f : ℕ → ℕ → Bool) (work answer : List ℕ) (ok : answered r f work answer .outcome ≡ accepts tt) where
@@ -74,13 +80,17 @@ module _ (q s work answer : List ℕ) (r : Register) (er : read register-form s 
   formed = accepted-register s r er .formed
 
   -- a plain answer
-  module _ (cs : List ℕ) (p : PathExpr) (eq : read question-form q ≡ got cs) (ep : path-of (question-symbols cs) ≡ some p) (ok : plain-call q s work answer .outcome ≡ accepts tt) where
+  module _ (cs : List ℕ) (p : PathExpr) (eq : read question-form q ≡ got cs) (ep : path-of (question-symbols cs) ≡ some p) where
     pub same : plain-call q s work answer ≡ answered r (asked r (some p)) work answer
     unfolding plain-call
     same = rw (eq, er, ep)
 
+  module _ (cs : List ℕ) (p : PathExpr) (eq : read question-form q ≡ got cs) (ep : path-of (question-symbols cs) ≡ some p) (ok : plain-call q s work answer .outcome ≡ accepts tt) where
+    abbrev is : plain-call q s work answer ≡ answered r (asked r (some p)) work answer
+    is = same cs p eq ep
+
     bit : (i t : ℕ) → i < records r → t / 64 < row-words (records r) → bit-at r (plain-call q s work answer .answer) i t ≡ ltb t (records r) && plain-answer r p i t
-    bit i t h l = ap (λ x. bit-at r (x .answer) i t) same ∙ bit-answered r (asked r (some p)) work answer (sym (ap (λ x. x .outcome) same) ∙ ok) i t h l
+    bit i t h l = ap (λ x. bit-at r (x .answer) i t) is ∙ bit-answered r (asked r (some p)) work answer (sym (ap (λ x. x .outcome) is) ∙ ok) i t h l
 
     pub plain-pairs : (i t : ℕ) → i < records r → t / 64 < row-words (records r)
         → (T (bit-at r (plain-call q s work answer .answer) i t) → Holds r p i t) × (Holds r p i t → T (bit-at r (plain-call q s work answer .answer) i t))
@@ -90,16 +100,20 @@ module _ (q s work answer : List ℕ) (r : Register) (er : read register-form s 
     )
 
   -- a narrowed answer
-  module _ (ms : List Flat) (eq : read narrowed-form q ≡ got ms) (ok : narrowed-call q s work answer .outcome ≡ accepts tt) where
+  module _ (ms : List Flat) (eq : read narrowed-form q ≡ got ms) where
     pub same-narrowed : narrowed-call q s work answer ≡ answered r (narrowed-answer r (members-of ms)) work answer
     unfolding narrowed-call
     same-narrowed = rw (eq, er)
 
+  module _ (ms : List Flat) (eq : read narrowed-form q ≡ got ms) (ok : narrowed-call q s work answer .outcome ≡ accepts tt) where
+    abbrev is-narrowed : narrowed-call q s work answer ≡ answered r (narrowed-answer r (members-of ms)) work answer
+    is-narrowed = same-narrowed ms eq
+
     bit-narrowed : (i t : ℕ) → i < records r → t / 64 < row-words (records r)
         → bit-at r (narrowed-call q s work answer .answer) i t ≡ ltb t (records r) && narrowed-answer r (members-of ms) i t
     bit-narrowed i t h l =
-        ap (λ x. bit-at r (x .answer) i t) same-narrowed
-        ∙ bit-answered r (narrowed-answer r (members-of ms)) work answer (sym (ap (λ x. x .outcome) same-narrowed) ∙ ok) i t h l
+        ap (λ x. bit-at r (x .answer) i t) is-narrowed
+        ∙ bit-answered r (narrowed-answer r (members-of ms)) work answer (sym (ap (λ x. x .outcome) is-narrowed) ∙ ok) i t h l
 
     pub narrowed-pairs : (i t : ℕ) → i < records r → t / 64 < row-words (records r)
         → (T (bit-at r (narrowed-call q s work answer .answer) i t) → Answer r (members-of ms) i t)

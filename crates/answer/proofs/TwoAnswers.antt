@@ -44,11 +44,11 @@ module _
     (accepted : plain-call question register work answer .outcome ≡ accepts tt)
     (accepted′ : narrowed-call (narrowed-file ms) register work′ answer′ .outcome ≡ accepts tt) where
   plain-same : plain-call question register work answer ≡ answered r (plain-answer r q) work answer
-  plain-same = same question register work answer r er cs q eq ep accepted
+  plain-same = same question register work answer r er cs q eq ep
 
   narrowed-same : narrowed-call (narrowed-file ms) register work′ answer′ ≡ answered r (narrowed-answer r ms) work′ answer′
   narrowed-same =
-      same-narrowed (narrowed-file ms) register work′ answer′ r er (map flat-of ms) (narrowed-back S ok q plain ms e) accepted′
+      same-narrowed (narrowed-file ms) register work′ answer′ r er (map flat-of ms) (narrowed-back S ok q plain ms e)
       ∙ ap (λ (l : List Member). answered r (narrowed-answer r l) work′ answer′) (members-back ms (narrow-fits S ok q plain ms e .each))
 
   abbrev plain-words : List ℕ

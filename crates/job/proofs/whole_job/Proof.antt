@@ -1,0 +1,103 @@
+-- `job::whole_job` meets its contract.
+-- Assumes nothing.
+use borrow.Author.Needs.{needs}
+use Rattle.job.proofs.whole_job.Statement.{statement}
+use Rattle.job.proofs.whole_job.Tie as tie
+use Rattle.job.proofs.whole_job.Reads as reads
+use Rattle.job.proofs.whole_job.Lts as lts
+use Rattle.job.proofs.job_in.Reads as job-in-reads
+use Rattle.question.proofs.read.Reads as read-reads
+use Rattle.register.proofs.read.Reads as read-reads′
+use Rattle.sheet.proofs.read.Reads as read-reads′′
+use Rattle.sheet.proofs.Told.{refused-sheet, told-sheet}
+use Rattle.question.proofs.Told.{refused-question, told-question}
+use Rattle.register.proofs.Told.{refused-file, accepted-file, accepted-records}
+use Rattle.narrow.proofs.Given.{taken}
+use Rattle.job.proofs.Whole.{sheet-refused, question-refused, register-refused, files-read, tells, asked}
+use Rattle.job.proofs.Accepted.{with-plain}
+use mathlib.Core.Path.{sym}
+
+read-requires : tie.Need-read-requires
+read-requires c κs = search needs
+
+enum-known-outcome : tie.Need-enum-known-outcome
+enum-known-outcome c = search needs
+
+enum-known-outcome-2 : tie.Need-enum-known-outcome-2
+enum-known-outcome-2 c = search needs
+
+read-requires-2 : tie.Need-read-requires-2
+read-requires-2 c κs = search needs
+
+enum-known-read : tie.Need-enum-known-read
+enum-known-read c = search needs
+
+enum-known-read-2 : tie.Need-enum-known-read-2
+enum-known-read-2 c = search needs
+
+read-requires-3 : tie.Need-read-requires-3
+read-requires-3 c κs = search needs
+
+enum-known-r : tie.Need-enum-known-r
+enum-known-r c = search needs
+
+enum-known-n : tie.Need-enum-known-n
+enum-known-n c = search needs
+
+job-in-requires : tie.Need-job-in-requires
+job-in-requires c κs =
+    let (S, d) = told-sheet _ _ _ (c .before .before .before .before .before .before .before .before .before .before .before .before .before .before .before .before .before .before .before .read .ensures) _ _ (c .before .before .before .before .before .before .before .before .before .before .before .before .before .before .before .before .before .outcome2 .given .1) in
+    let (cs, g) = told-question _ _ _ (c .before .before .before .before .before .before .before .before .before .before .before .before .before .before .before .read2 .ensures) _ (c .before .before .before .before .before .before .before .before .before .before .before .before .before .read4 .given .1) in
+    let e = c .before .before .before .before .before .before .before .before .before .n .given .1 in
+    (asked d g, accepted-file _ _ (c .before .before .before .before .before .before .before .before .before .before .before .read5 .ensures) _ _ e, sym (accepted-records _ _ (c .before .before .before .before .before .before .before .before .before .before .before .read5 .ensures) _ _ e))
+
+returns : tie.Need-returns
+returns c = with-plain _ _ _ _ _ _ (sheet-refused _ _ _ _ _ _ _ (refused-sheet _ _ _ (c .before .before .before .read .ensures) _ (c .before .outcome .given .1)))
+
+returns-2 : tie.Need-returns-2
+returns-2 c =
+    let (S, d) = told-sheet _ _ _ (c .before .before .before .before .before .before .before .read .ensures) _ _ (c .before .before .before .before .before .outcome2 .given .1) in
+    with-plain _ _ _ _ _ _ (question-refused _ _ _ _ _ _ S (d .reads) _ (refused-question _ _ _ (c .before .before .before .read2 .ensures) _ (c .before .read3 .given .1)))
+
+returns-3 : tie.Need-returns-3
+returns-3 c =
+    let (S, d) = told-sheet _ _ _ (c .before .before .before .before .before .before .before .before .before .before .before .read .ensures) _ _ (c .before .before .before .before .before .before .before .before .before .outcome2 .given .1) in
+    let (cs, g) = told-question _ _ _ (c .before .before .before .before .before .before .before .read2 .ensures) _ (c .before .before .before .before .before .read4 .given .1) in
+    with-plain _ _ _ _ _ _ (register-refused _ _ _ _ _ _ S (d .reads) cs (g .reads) _ (refused-file _ _ (c .before .before .before .read5 .ensures) _ (c .before .r .given .1)))
+
+same-length : tie.Need-same-length
+same-length c = search needs
+
+same-length-2 : tie.Need-same-length-2
+same-length-2 c = search needs
+
+same-length-3 : tie.Need-same-length-3
+same-length-3 c = search needs
+
+returns-4 : tie.Need-returns-4
+returns-4 c =
+    let (S, d) = told-sheet _ _ _ (c .before .before .before .before .before .before .before .before .before .before .before .before .before .before .before .before .before .before .before .before .before .before .before .before .before .before .read .ensures) _ _ (c .before .before .before .before .before .before .before .before .before .before .before .before .before .before .before .before .before .before .before .before .before .before .before .before .outcome2 .given .1) in
+    let (cs, g) = told-question _ _ _ (c .before .before .before .before .before .before .before .before .before .before .before .before .before .before .before .before .before .before .before .before .before .before .read2 .ensures) _ (c .before .before .before .before .before .before .before .before .before .before .before .before .before .before .before .before .before .before .before .before .read4 .given .1) in
+    with-plain _ _ _ _ _ _ (files-read _ _ _ _ _ _ S (d .reads) cs (g .reads) _ _ _ _ _ (accepted-file _ _ (c .before .before .before .before .before .before .before .before .before .before .before .before .before .before .before .before .before .before .read5 .ensures) _ _ (c .before .before .before .before .before .before .before .before .before .before .before .before .before .before .before .before .n .given .1)) (taken d g) (tells d) (c .before .before .before .before .before .before .job-in .ensures))
+
+pub whole-job-spec : {M : Type 1} → statement M
+whole-job-spec =
+    tie.close
+    (tie.spec
+    read-requires
+    enum-known-outcome
+    enum-known-outcome-2
+    read-requires-2
+    enum-known-read
+    enum-known-read-2
+    read-requires-3
+    enum-known-r
+    enum-known-n
+    job-in-requires
+    returns
+    returns-2
+    returns-3
+    same-length
+    same-length-2
+    same-length-3
+    returns-4)

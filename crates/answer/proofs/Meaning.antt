@@ -89,6 +89,9 @@ module _ (q s work answer : List ℕ) (r : Register) (er : read register-form s 
     abbrev is : plain-call q s work answer ≡ answered r (asked r (some p)) work answer
     is = same cs p eq ep
 
+    pub plain-word : (k : ℕ) → k < answer-need r → getD (plain-call q s work answer .answer) k 0 ≡ getD (answer-words (records r) (plain-answer r p)) k 0
+    plain-word k h = ap (λ x. getD (x .answer) k 0) is ∙ word-answered r (asked r (some p)) work answer (sym (ap (λ x. x .outcome) is) ∙ ok) k h
+
     bit : (i t : ℕ) → i < records r → t / 64 < row-words (records r) → bit-at r (plain-call q s work answer .answer) i t ≡ ltb t (records r) && plain-answer r p i t
     bit i t h l = ap (λ x. bit-at r (x .answer) i t) is ∙ bit-answered r (asked r (some p)) work answer (sym (ap (λ x. x .outcome) is) ∙ ok) i t h l
 

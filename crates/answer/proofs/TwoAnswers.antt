@@ -28,7 +28,7 @@ use Rattle.narrowed.specs.Members.{flat-of, narrowed-file}
 use Rattle.narrowed.proofs.Formed.{narrowed-back}
 use Rattle.narrowed.proofs.Paths.{path-back}
 use Rattle.answer.specs.Calls.{answer-need, answered, with-path, members-of, plain-call, narrowed-call}
-use Rattle.answer.proofs.Meaning.{word-answered, same, same-narrowed}
+use Rattle.answer.proofs.Meaning.{word-answered, plain-word, same-narrowed}
 
 -- the members come back from their file
 pub members-back : (ms : List Member) → ((m : Member) → In m ms → MemberFits m) → members-of (map flat-of ms) ≡ ms
@@ -43,9 +43,6 @@ module _
     (r : Register) (er : read register-form register ≡ got r) (work answer work′ answer′ : List ℕ)
     (accepted : plain-call question register work answer .outcome ≡ accepts tt)
     (accepted′ : narrowed-call (narrowed-file ms) register work′ answer′ .outcome ≡ accepts tt) where
-  plain-same : plain-call question register work answer ≡ answered r (plain-answer r q) work answer
-  plain-same = same question register work answer r er cs q eq ep
-
   narrowed-same : narrowed-call (narrowed-file ms) register work′ answer′ ≡ answered r (narrowed-answer r ms) work′ answer′
   narrowed-same =
       same-narrowed (narrowed-file ms) register work′ answer′ r er (map flat-of ms) (narrowed-back S ok q plain ms e)
@@ -58,7 +55,7 @@ module _
   narrowed-words = narrowed-call (narrowed-file ms) register work′ answer′ .answer
 
   plain-at : (k : ℕ) → k < answer-need r → getD plain-words k 0 ≡ getD (answer-words (records r) (plain-answer r q)) k 0
-  plain-at k h = ap (λ x. getD (x .answer) k 0) plain-same ∙ word-answered r (plain-answer r q) work answer (sym (ap (λ x. x .outcome) plain-same) ∙ accepted) k h
+  plain-at = plain-word question register work answer r er cs q eq ep accepted
 
   narrowed-at : (k : ℕ) → k < answer-need r → getD narrowed-words k 0 ≡ getD (answer-words (records r) (narrowed-answer r ms)) k 0
   narrowed-at k h =

@@ -1,5 +1,5 @@
--- Demand 3, whole: a sheet's file, a question's file, and the file that narrowing wrote of them.
--- 01-scope.md, "How far a contract reaches", point 5. narrow-call, plain-call and narrowed-call are what the contracts of the calls cite.
+-- Demand 3, whole: a sheet's file, a question's file, and the file that narrowing or the whole job wrote of them.
+-- 01-scope.md, "How far a contract reaches", point 5. narrow-call, plain-call, narrowed-call and job-call are what the contracts of the calls cite.
 -- Assumes nothing.
 use mathlib.Core.Path.{_≡_}
 use mathlib.Core.List.{List}
@@ -22,6 +22,7 @@ use Rattle.register.specs.Form.{register-form}
 use Rattle.narrowed.specs.Form.{Flat, narrowed-form}
 use Rattle.narrow.specs.Call.{narrow-call}
 use Rattle.answer.specs.Calls.{answer-need, members-of, plain-call, narrowed-call}
+use Rattle.job.specs.Call.{job-call}
 
 -- narrowing took the sheet and the question, and told of a file of so many members and bytes
 abbrev pub Took : List ℕ → List ℕ → List ℕ → List ℕ → Size → Type 0
@@ -66,3 +67,27 @@ pub record Agrees (sheet question file : List ℕ) (z : Size) : Type 0 where
   -- "and otherwise each bit set in the narrowed answer is set in the plain one"
   pub subset : {register work answer work′ answer′ : List ℕ} {r : Register} → Answers question file register work answer work′ answer′ r
       → (k j : ℕ) → k < answer-need r → T (bitOf (narrowed-word file register work′ answer′ k) j) → T (bitOf (plain-word question register work answer k) j)
+
+-- ---- "The same holds of the file and the narrowed answer that the whole job gives."
+-- the job took the three files, and told of a file of so many members and bytes
+abbrev pub JobTook : List ℕ → List ℕ → List ℕ → List ℕ → List ℕ → List ℕ → Size → Type 0
+JobTook sheet question register work answer area z = job-call sheet question register work answer area .outcome ≡ accepts z
+
+-- the file that it wrote, and word k of its answer
+abbrev pub job-file : List ℕ → List ℕ → List ℕ → List ℕ → List ℕ → List ℕ → Size → List ℕ
+job-file sheet question register work answer area z = take (z .bytes) (job-call sheet question register work answer area .file)
+
+abbrev pub job-word : List ℕ → List ℕ → List ℕ → List ℕ → List ℕ → List ℕ → ℕ → ℕ
+job-word sheet question register work answer area k = getD (job-call sheet question register work answer area .answer) k 0
+
+pub record JobAgrees (sheet question register work answer area : List ℕ) (z : Size) : Type 0 where
+  pub file-agrees : Agrees sheet question (job-file sheet question register work answer area z) z
+  -- the register obeys the sheet
+  pub r : Register
+  pub register-reads : read register-form register ≡ got r
+  pub conforms : (S : Sheet) → read sheet-form sheet ≡ got S → T (conforms? S r)
+  -- its answer's words are those of a narrowed answer of its file and of a plain answer of the question, in any areas in which these are not refused
+  pub narrowed-same : (work′ answer′ : List ℕ) → narrowed-call (job-file sheet question register work answer area z) register work′ answer′ .outcome ≡ accepts tt
+      → (k : ℕ) → k < answer-need r → job-word sheet question register work answer area k ≡ narrowed-word (job-file sheet question register work answer area z) register work′ answer′ k
+  pub plain-same : (work′ answer′ : List ℕ) → plain-call question register work′ answer′ .outcome ≡ accepts tt
+      → (k : ℕ) → k < answer-need r → job-word sheet question register work answer area k ≡ plain-word question register work′ answer′ k

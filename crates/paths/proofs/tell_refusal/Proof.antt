@@ -1,0 +1,34 @@
+-- `paths::tell_refusal` meets its contract.
+-- Assumes nothing.
+use borrow.Author.Needs.{needs}
+use Rattle.paths.proofs.tell_refusal.Statement.{statement}
+use Rattle.paths.proofs.tell_refusal.Tie as tie
+
+place-of-requires : tie.Need-place-of-requires
+place-of-requires c κs = search needs
+
+source-number-requires : tie.Need-source-number-requires
+source-number-requires c κs = search needs
+
+wide-requires : tie.Need-wide-requires
+wide-requires c κs = search needs
+
+number-of-requires : tie.Need-number-of-requires
+number-of-requires c κs = search needs
+
+wide-requires-2 : tie.Need-wide-requires-2
+wide-requires-2 c κs = search needs
+
+returns : tie.Need-returns
+returns c = cc
+
+pub tell-refusal-spec : {M : Type 1} → statement M
+tell-refusal-spec =
+    tie.close
+    (tie.spec
+    place-of-requires
+    source-number-requires
+    wide-requires
+    number-of-requires
+    wide-requires-2
+    returns)

@@ -1,0 +1,43 @@
+-- What a caller in C is told of a call: its outcome in three numbers, and the areas that were lent.
+-- 01-scope.md, "Refused on the state's account": "The calls are also exported for our fleet office program in C"; "The form each place needs": "a definition gives this paper's number and values for each case".
+-- Assumes nothing.
+use mathlib.Core.Path.{_≡_}
+use mathlib.Core.List.{List}
+use Prim.Native.Nat.{ℕ}
+use Rattle.fields.specs.Call.{Outcome, accepts, refuses, Size}
+use Rattle.fields.specs.Said.{source-number}
+use Rattle.narrow.specs.Call as narrow
+use Rattle.answer.specs.Calls as answer
+
+-- the result of the C function, and what it leaves at its last two pointers
+pub record Told : Type 0 where
+  pub number : ℕ
+  pub first : ℕ
+  pub second : ℕ
+
+abbrev pub tells : ℕ → ℕ → ℕ → Told
+tells number first second = record { number = number; first = first; second = second }
+
+-- a refusal: its number, its place, and the number of what it is about
+abbrev pub told-by : {A : Type 0} → (A → Told) → Outcome A → Told
+told-by f (accepts x) = f x
+told-by f (refuses s n p) = tells n p (source-number s)
+
+-- of a call that has nothing more to tell
+abbrev pub told : Outcome (Unit {0}) → Told
+told o = told-by (λ _. tells 0 0 0) o
+
+-- of a call that writes a file: the numbers of its members and of its bytes
+abbrev pub told-file : Outcome Size → Told
+told-file o = told-by (λ z. tells 0 (z .members) (z .bytes)) o
+
+-- ---- the outcome as told, and both areas, are what is due
+pub record Answers (due : answer.Result) (t : Told) (xs ys : List ℕ) : Type 0 where
+  pub outcome : t ≡ told (due .outcome)
+  pub work : xs ≡ due .work
+  pub answer : ys ≡ due .answer
+
+pub record Narrows (due : narrow.Result) (t : Told) (xs ys : List ℕ) : Type 0 where
+  pub outcome : t ≡ told-file (due .outcome)
+  pub work : xs ≡ due .work
+  pub file : ys ≡ due .file

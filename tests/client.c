@@ -130,14 +130,14 @@ static void register_head(File *f, const char *kinds, int records, int links)
 
 /* ---- what is expected */
 
-static const char *part; /* the case that runs */
+static const char *part; /* what runs */
 static int faults;       /* in it */
 static int passed, failed;
 
 static void expect(bool holds, const char *what)
 {
     if (!holds) {
-        printf("case %s: %s\n", part, what);
+        printf("%s: not as due: %s\n", part, what);
         faults++;
     }
 }
@@ -150,7 +150,7 @@ static void begin(const char *name)
 
 static void end(void)
 {
-    printf("case %s: %s\n", part, faults == 0 ? "passed" : "failed");
+    printf("%s: %s\n", part, faults == 0 ? "passed" : "failed");
     *(faults == 0 ? &passed : &failed) += 1;
 }
 
@@ -350,20 +350,20 @@ typedef struct {
 } Case;
 
 static const Case cases[10] = {
-    {"1 (carries/sealed)", {CARRIES, SEALED, JOIN}, 1, {{CAB, SHOP, {CARRIES, SEALED, THROUGH(METER)}}}, "02"},
-    {"2 (sealed)", {SEALED}, 1, {{CAB | METER, SHOP, {SEALED}}}, "0212"},
-    {"3 (reverse sealed)", {SEALED_REVERSE}, 1, {{SHOP, CAB | METER, {SEALED_REVERSE}}}, "2021"},
-    {"4 (chain of under)",
+    {"case 1, carries/sealed", {CARRIES, SEALED, JOIN}, 1, {{CAB, SHOP, {CARRIES, SEALED, THROUGH(METER)}}}, "02"},
+    {"case 2, sealed", {SEALED}, 1, {{CAB | METER, SHOP, {SEALED}}}, "0212"},
+    {"case 3, reverse sealed", {SEALED_REVERSE}, 1, {{SHOP, CAB | METER, {SEALED_REVERSE}}}, "2021"},
+    {"case 4, chain of under",
      {UNDER, CHAIN},
      2,
      {{CAB | FLEET, FLEET | DISTRICT, {UNDER}}, {CAB, DISTRICT, {UNDER, UNDER, THROUGH(FLEET)}}},
      "0304345354"},
-    {"5 (chain of replaces)", {REPLACES, CHAIN}, 1, {{CARD, CARD, {REPLACES, CHAIN}}}, ""},
-    {"6 (loads/chain of replaces)", {LOADS, REPLACES, CHAIN, JOIN}, 1, {{METER, CARD, {LOADS, REPLACES, CHAIN, THROUGH(CARD)}}}, ""},
-    {"7 (carries[sealed])", {CARRIES, SEALED, BRANCH_RIGHT}, 1, {{CAB, METER, {CARRIES, SEALED, BRANCH_RIGHT}}}, "01"},
-    {"8 (carries/replaces)", {CARRIES, REPLACES, JOIN}, 0, {{0, 0, {0}}}, ""},
-    {"9 (carries both sealed)", {CARRIES, SEALED, BOTH}, 0, {{0, 0, {0}}}, ""},
-    {"10 (chain of sealed/reverse sealed)",
+    {"case 5, chain of replaces", {REPLACES, CHAIN}, 1, {{CARD, CARD, {REPLACES, CHAIN}}}, ""},
+    {"case 6, loads/chain of replaces", {LOADS, REPLACES, CHAIN, JOIN}, 1, {{METER, CARD, {LOADS, REPLACES, CHAIN, THROUGH(CARD)}}}, ""},
+    {"case 7, carries[sealed]", {CARRIES, SEALED, BRANCH_RIGHT}, 1, {{CAB, METER, {CARRIES, SEALED, BRANCH_RIGHT}}}, "01"},
+    {"case 8, carries/replaces", {CARRIES, REPLACES, JOIN}, 0, {{0, 0, {0}}}, ""},
+    {"case 9, carries both sealed", {CARRIES, SEALED, BOTH}, 0, {{0, 0, {0}}}, ""},
+    {"case 10, chain of sealed/reverse sealed",
      {SEALED, SEALED_REVERSE, JOIN, CHAIN},
      1,
      {{CAB | METER, CAB | METER, {SEALED, SEALED_REVERSE, JOIN, CHAIN}}},
@@ -432,7 +432,7 @@ static void program_areas(void)
 static void case_11(void)
 {
     static File twice;
-    begin("11 (the register and the program's areas)");
+    begin("case 11, the register and the program's areas");
     check(&sheet, &reg, told(PATHS_ACCEPTED, 0, 0));
     sheet_head(&twice, 6, 5);
     put_triple(&twice, 0, 0, 1);
@@ -444,7 +444,7 @@ static void case_11(void)
 
 static void case_12(void)
 {
-    begin("12 (a register that does not obey)");
+    begin("case 12, a register that does not obey");
     take(&cases[3]);
     answer_accepts(paths_answer, &question, &breaking, six_rows("0304333443445354"));
     answer_accepts(paths_answer_narrowed, &narrowed, &breaking, six_rows("0304345354"));
@@ -542,7 +542,7 @@ static void empty_files(void)
 
 static void case_13(void)
 {
-    begin("13 (edges)");
+    begin("case 13, edges");
     symbols_32();
     pairs_128();
     symbols_48();
@@ -554,7 +554,7 @@ static void case_13(void)
 static void short_areas(void)
 {
     static const Symbol unnamed[] = {UNDER, FORWARD(5), JOIN, 0};
-    begin("of areas too short, and of a link without a name");
+    begin("areas too short, and a link without a name");
     take(&cases[3]);
     for (int none = 0; none < 2; none++) {
         narrow(&sheet, &question, none ? 0 : 8191, none ? 0 : 100, told(PATHS_WORK_SHORT, 8192, PATHS_IN_WORK), NULL);

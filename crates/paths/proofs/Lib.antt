@@ -1,2 +1,4 @@
 -- demand 3 of the calls
 pub mod Agreement
+-- what C is told
+pub mod Told

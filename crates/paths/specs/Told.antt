@@ -4,7 +4,7 @@
 use mathlib.Core.Path.{_≡_}
 use mathlib.Core.List.{List}
 use Prim.Native.Nat.{ℕ}
-use Rattle.fields.specs.Call.{Outcome, accepts, refuses, Size}
+use Rattle.fields.specs.Call.{Outcome, accepts, refuses, Size, size}
 use Rattle.fields.specs.Said.{source-number}
 use Rattle.narrow.specs.Call as narrow
 use Rattle.answer.specs.Calls as answer
@@ -31,13 +31,22 @@ told o = told-by (λ _. tells 0 0 0) o
 abbrev pub told-file : Outcome Size → Told
 told-file o = told-by (λ z. tells 0 (z .members) (z .bytes)) o
 
--- ---- the outcome as told, and both areas, are what is due
+-- ---- the outcome is told, and 0 of acceptance alone
+pub record Tells (o : Outcome (Unit {0})) (t : Told) : Type 0 where
+  pub is : t ≡ told o
+  pub only : t .number ≡ 0 → o ≡ accepts tt
+
+pub record Tells-file (o : Outcome Size) (t : Told) : Type 0 where
+  pub is : t ≡ told-file o
+  pub only : t .number ≡ 0 → o ≡ accepts (size (t .first) (t .second))
+
+-- ---- the outcome and both areas are what is due
 pub record Answers (due : answer.Result) (t : Told) (xs ys : List ℕ) : Type 0 where
-  pub outcome : t ≡ told (due .outcome)
+  pub outcome : Tells (due .outcome) t
   pub work : xs ≡ due .work
   pub answer : ys ≡ due .answer
 
 pub record Narrows (due : narrow.Result) (t : Told) (xs ys : List ℕ) : Type 0 where
-  pub outcome : t ≡ told-file (due .outcome)
+  pub outcome : Tells-file (due .outcome) t
   pub work : xs ≡ due .work
   pub file : ys ≡ due .file

@@ -9,7 +9,10 @@ ghost use Rattle.fields.specs.Said.{number-of, place-of, source-number, outcome
 ghost use Rattle.conform.specs.Check.{check-of};
 ghost use Rattle.narrow.specs.Call.{narrow-call};
 ghost use Rattle.answer.specs.Calls.{plain-call, narrowed-call};
-ghost use Rattle.paths.specs.Told.{tells, told, told-file, Answers, Narrows};
+ghost use Rattle.paths.specs.Told.{tells, Tells, Tells-file, Answers, Narrows};
+
+// What a call that is accepted returns; every refusal has a number of its own.
+const ACCEPTED: u64 = 0;
 
 fn wide(x: u8) -> u64
     ensures { λ r. ⌜ r ≡ x ⌝ }
@@ -27,26 +30,26 @@ fn tell_refusal(s: Source, r: Refusal, first: &mut u64, second: &mut u64) -> u64
 }
 
 fn tell(o: Outcome, first: &mut u64, second: &mut u64) -> u64
-    ensures { λ n. ⌜ tells n (now (first .exit)) (now (second .exit)) ≡ told (outcome-said o) ⌝ }
+    ensures { λ n. ⌜ Tells (outcome-said o) (tells n (now (first .exit)) (now (second .exit))) ⌝ }
 {
     match o {
         Outcome::Accepted => {
             *first = 0;
             *second = 0;
-            0
+            ACCEPTED
         }
         Outcome::Refused(s, r) => tell_refusal(s, r, first, second),
     }
 }
 
 fn tell_file(o: Written, first: &mut u64, second: &mut u64) -> u64
-    ensures { λ n. ⌜ tells n (now (first .exit)) (now (second .exit)) ≡ told-file (written-said o) ⌝ }
+    ensures { λ n. ⌜ Tells-file (written-said o) (tells n (now (first .exit)) (now (second .exit))) ⌝ }
 {
     match o {
         Written::File(members, bytes) => {
             *first = members as u64;
             *second = bytes as u64;
-            0
+            ACCEPTED
         }
         Written::Refused(s, r) => tell_refusal(s, r, first, second),
     }
@@ -60,7 +63,7 @@ pub extern "C" fn paths_check(
     first: &mut u64,
     second: &mut u64,
 ) -> u64
-    ensures { λ n. ⌜ tells n (now (first .exit)) (now (second .exit)) ≡ told (check-of (now (sheet .entry)) (now (register .entry))) ⌝ }
+    ensures { λ n. ⌜ Tells (check-of (now (sheet .entry)) (now (register .entry))) (tells n (now (first .exit)) (now (second .exit))) ⌝ }
 {
     tell(conform::check(sheet, register), first, second)
 }

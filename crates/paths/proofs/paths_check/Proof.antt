@@ -3,8 +3,6 @@
 use borrow.Author.Needs.{needs}
 use Rattle.paths.proofs.paths_check.Statement.{statement}
 use Rattle.paths.proofs.paths_check.Tie as tie
-use mathlib.Core.Path.{ap, _∙_}
-use Rattle.paths.specs.Told.{told}
 
 check-requires : tie.Need-check-requires
 check-requires c κs = search needs
@@ -13,7 +11,7 @@ tell-requires : tie.Need-tell-requires
 tell-requires c κs = search needs
 
 returns : tie.Need-returns
-returns c = c .tell .ensures ∙ ap told (c .before .before .before .check .ensures)
+returns c = rw (c .before .before .before .check .ensures) at (c .tell .ensures)
 
 pub paths-check-spec : {M : Type 1} → statement M
 paths-check-spec = tie.close (tie.spec check-requires tell-requires returns)

@@ -3,8 +3,6 @@
 use borrow.Author.Needs.{needs}
 use Rattle.paths.proofs.paths_narrow.Statement.{statement}
 use Rattle.paths.proofs.paths_narrow.Tie as tie
-use mathlib.Core.Path.{ap, _∙_}
-use Rattle.paths.specs.Told.{told-file}
 
 narrowing-requires : tie.Need-narrowing-requires
 narrowing-requires c κs = search needs
@@ -19,7 +17,7 @@ same-length-2 : tie.Need-same-length-2
 same-length-2 c = search needs
 
 returns : tie.Need-returns
-returns c = let h = c .before .before .before .before .before .before .before .narrowing .ensures in record { outcome = c .tell-file .ensures ∙ ap told-file (h .outcome); work = h .work; file = h .file }
+returns c = let h = c .before .before .before .before .before .before .before .narrowing .ensures in record { outcome = rw (h .outcome) at (c .tell-file .ensures); work = h .work; file = h .file }
 
 pub paths-narrow-spec : {M : Type 1} → statement M
 paths-narrow-spec =

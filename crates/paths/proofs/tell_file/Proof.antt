@@ -3,9 +3,7 @@
 use borrow.Author.Needs.{needs}
 use Rattle.paths.proofs.tell_file.Statement.{statement}
 use Rattle.paths.proofs.tell_file.Tie as tie
-use mathlib.Core.Path.{sym, ap, _∙_}
-use Rattle.fields.specs.Said.{written-said}
-use Rattle.paths.specs.Told.{told-file}
+use Rattle.paths.proofs.Told.{tells-written, tells-unwritten}
 
 enum-known-o : tie.Need-enum-known-o
 enum-known-o c = search needs
@@ -17,10 +15,10 @@ tell-refusal-requires : tie.Need-tell-refusal-requires
 tell-refusal-requires c κs = search needs
 
 returns : tie.Need-returns
-returns c = cc
+returns c = tells-written (c .before .o .given .1)
 
 returns-2 : tie.Need-returns-2
-returns-2 c = c .tell-refusal .ensures ∙ ap (λ x. told-file (written-said x)) (sym (c .before .before .before .before .o2 .given .1))
+returns-2 c = tells-unwritten (c .before .before .before .before .o2 .given .1) (c .tell-refusal .ensures)
 
 pub tell-file-spec : {M : Type 1} → statement M
 tell-file-spec =

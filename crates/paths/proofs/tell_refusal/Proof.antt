@@ -3,6 +3,8 @@
 use borrow.Author.Needs.{needs}
 use Rattle.paths.proofs.tell_refusal.Statement.{statement}
 use Rattle.paths.proofs.tell_refusal.Tie as tie
+use mathlib.Core.Path.{_∙_}
+use Rattle.paths.proofs.Told.{tells-same}
 
 place-of-requires : tie.Need-place-of-requires
 place-of-requires c κs = search needs
@@ -20,7 +22,7 @@ wide-requires-2 : tie.Need-wide-requires-2
 wide-requires-2 c κs = search needs
 
 returns : tie.Need-returns
-returns c = cc
+returns c = tells-same (c .wide2 .ensures ∙ c .before .number-of .ensures) (c .before .before .before .before .place-of .ensures) (c .before .before .wide .ensures ∙ c .before .before .before .source-number .ensures)
 
 pub tell-refusal-spec : {M : Type 1} → statement M
 tell-refusal-spec =

@@ -1,0 +1,49 @@
+-- What is told, number by number; and 0 is told of acceptance alone.
+-- Assumes nothing.
+use mathlib.Core.Path.{_≡_, refl, sym, ap, _∙_}
+use Prim.Native.Nat.{ℕ}
+use native.Mathlib.Omega.{arith}
+use Rattle.fields.specs.declared.Refusal.{Refusal}
+use Rattle.fields.specs.declared.Refusal.the-variants.{Truncated, Unexpected, OutOfRange, NotAscending, WrongEnd, Operands, UnnamedLink, TooMany, TooLong, AreaShort, WorkShort, Breach}
+use Rattle.fields.specs.declared.Source.{Source}
+use Rattle.fields.specs.declared.Outcome as declared·Outcome
+use Rattle.fields.specs.declared.Outcome.the-variants as outcome
+use Rattle.fields.specs.declared.Written as declared·Written
+use Rattle.fields.specs.declared.Written.the-variants as written
+use Rattle.fields.specs.Said.{number-of, place-of, source-number, outcome-said, written-said}
+use Rattle.paths.specs.Told.{Told, tells, Tells, Tells-file}
+
+pub tells-same : {a b c a′ b′ c′ : ℕ} → a ≡ a′ → b ≡ b′ → c ≡ c′ → tells a b c ≡ tells a′ b′ c′
+tells-same e f g = cc
+
+-- no refusal has number 0
+numbered : (r : Refusal) → number-of r ≡ 0 → ⊥
+numbered (Truncated p) e = omega arith
+numbered (Unexpected p) e = omega arith
+numbered (OutOfRange p) e = omega arith
+numbered (NotAscending p) e = omega arith
+numbered (WrongEnd p) e = omega arith
+numbered (Operands p) e = omega arith
+numbered (UnnamedLink p) e = omega arith
+numbered (TooMany p) e = omega arith
+numbered (TooLong p) e = omega arith
+numbered (AreaShort p) e = omega arith
+numbered (WorkShort p) e = omega arith
+numbered (Breach p) e = omega arith
+
+-- nor is one told by 0
+untold : (r : Refusal) {t : Told} {p f : ℕ} → t ≡ tells (number-of r) p f → t .number ≡ 0 → ⊥
+untold r e z = numbered r (sym (ap (λ x. x .number) e) ∙ z)
+
+-- ---- of each outcome
+pub tells-accepted : {o : declared·Outcome.Outcome} → o ≡ outcome.Accepted → Tells (outcome-said o) (tells 0 0 0)
+tells-accepted e = rw e (record { is = refl; only = λ z. refl })
+
+pub tells-refused : {o : declared·Outcome.Outcome} {s : Source} {r : Refusal} {t : Told} → o ≡ outcome.Refused s r → t ≡ tells (number-of r) (place-of r) (source-number s) → Tells (outcome-said o) t
+tells-refused {r = r} e f = rw e (record { is = f; only = λ z. absurd (untold r f z) })
+
+pub tells-written : {o : declared·Written.Written} {m b : ℕ} → o ≡ written.File m b → Tells-file (written-said o) (tells 0 m b)
+tells-written e = rw e (record { is = refl; only = λ z. refl })
+
+pub tells-unwritten : {o : declared·Written.Written} {s : Source} {r : Refusal} {t : Told} → o ≡ written.Refused s r → t ≡ tells (number-of r) (place-of r) (source-number s) → Tells-file (written-said o) t
+tells-unwritten {r = r} e f = rw e (record { is = f; only = λ z. absurd (untold r f z) })

@@ -42,7 +42,8 @@
  * that first and second differ, and that no area overlaps a file or another area. Files may overlap.
  *
  * No call has state, takes memory from the heap or calls anything but memcpy, memmove and memset; every call returns. Threads may call
- * at once, each with areas of its own. STACK
+ * at once, each with areas of its own. 256 KiB of stack are enough; measured: paths_check 65 KiB, paths_narrow 68 KiB, paths_answer
+ * 2 KiB, paths_answer_narrowed 114 KiB.
  *
  * All this is proved of the calls, for any bytes and areas (docs/MAP.md); not covered are the compiler's back end and this header.
  */

@@ -116,6 +116,16 @@ uint64_t paths_answer_narrowed(const uint8_t *narrowed, size_t narrowed_length,
                                uint64_t *answer, size_t answer_length,
                                uint64_t *first, uint64_t *second);
 
+/* The whole job: narrows the question by the sheet, checks the register, writes the file and its answer on the register. Where it is
+ * accepted the answer is also that of the question itself. */
+uint64_t paths_job(const uint8_t *sheet, size_t sheet_length,
+                   const uint8_t *question, size_t question_length,
+                   const uint8_t *register_file, size_t register_length,
+                   uint64_t *work, size_t work_length,
+                   uint64_t *answer, size_t answer_length,
+                   uint8_t *file, size_t file_length,
+                   uint64_t *first, uint64_t *second);
+
 #ifdef __cplusplus
 }
 #endif

@@ -301,6 +301,34 @@ static void answer(Answering *call, const File *asked, const File *reg, size_t w
     free(area.at);
 }
 
+static void job(const File *sheet, const File *question, const File *reg, const size_t lengths[3], Told due, const uint64_t *words, const File *written)
+{
+    size_t n = records_of(reg);
+    Bytes s = lent(sheet), q = lent(question), r = lent(reg), file = marked_bytes(lengths[2]);
+    Words work = marked_words(lengths[0]), area = marked_words(lengths[1]);
+    Told t = unset;
+    t.number = paths_job(s.at, s.length, q.at, q.length, r.at, r.length, work.at, work.length, area.at, area.length, file.at, file.length,
+                         &t.first, &t.second);
+    expect(same_told(t, due), "outcome of the whole job");
+    expect_work(work, due, PATHS_JOB_WORK(n));
+    expect_answer(area, due, words, PATHS_ANSWER_WORDS(n));
+    expect_file(file, due, written);
+    free(s.at);
+    free(q.at);
+    free(r.at);
+    free(file.at);
+    free(work.at);
+    free(area.at);
+}
+
+/* The areas that the program lends. */
+static const size_t program[3] = {8192, 256, 65536};
+
+static void job_refuses(const File *sheet, const File *question, const File *reg, Told due)
+{
+    job(sheet, question, reg, program, due, NULL, NULL);
+}
+
 /* The areas as long as needed, and longer. */
 static void narrow_accepts(const File *sheet, const File *question, size_t members, const File *written)
 {
@@ -316,12 +344,21 @@ static void answer_accepts(Answering *call, const File *asked, const File *reg, 
     answer(call, asked, reg, PATHS_ANSWER_WORK(n) + 3, PATHS_ANSWER_WORDS(n) + 5, told(PATHS_ACCEPTED, 0, 0), words);
 }
 
+static void job_accepts(const File *sheet, const File *question, const File *reg, size_t members, const uint64_t *words, const File *written)
+{
+    size_t n = records_of(reg);
+    const size_t exact[3] = {PATHS_JOB_WORK(n), PATHS_ANSWER_WORDS(n), written->length};
+    Told due = told(PATHS_ACCEPTED, members, written->length);
+    job(sheet, question, reg, exact, due, words, written);
+    job(sheet, question, reg, program, due, words, written);
+}
+
 /* ---- the sheet, the register and the questions of the cases */
 
 enum { CARRIES = FORWARD(0), LOADS = FORWARD(1), REPLACES = FORWARD(2), SEALED = FORWARD(3), UNDER = FORWARD(4), SEALED_REVERSE = REVERSE(3) };
 enum { CAB = 1, METER = 2, CARD = 4, SHOP = 8, FLEET = 16, DISTRICT = 32 };
 
-static File sheet, reg, breaking, question, narrowed, empty;
+static File sheet, reg, breaking, none, question, narrowed, empty; /* none: a register without records */
 
 static void case_files(void)
 {
@@ -333,6 +370,7 @@ static void case_files(void)
         put_triple(&sheet, triples[i][0], triples[i][1], triples[i][2]);
     register_head(&reg, "013450", 6, 6);
     register_head(&breaking, "013450", 6, 7);
+    register_head(&none, "0", 0, 0);
     for (int i = 0; i < 7; i++) {
         put_link(&breaking, links[i][0], links[i][1], links[i][2]);
         if (i != BREAKING)
@@ -394,6 +432,7 @@ static void starred(const Case *c)
     narrow_accepts(&sheet, &question, c->count, &narrowed);
     answer_accepts(paths_answer, &question, &reg, six_rows(c->pairs));
     answer_accepts(paths_answer_narrowed, &narrowed, &reg, six_rows(c->pairs));
+    job_accepts(&sheet, &question, &reg, c->count, six_rows(c->pairs), &narrowed);
 }
 
 static void case_1(void)
@@ -413,20 +452,26 @@ static void line_register(File *f, int records)
         put_link(f, i, 0, i + 1);
 }
 
-/* The areas of the program: 128 records pass, 129 meet 15. */
+/* The areas of the program: 128 records pass, 129 meet 15. One kind with a link to itself: the chain is kept. */
 static void program_areas(void)
 {
     static const Symbol chain[] = {FORWARD(0), CHAIN, 0};
-    static File line;
+    static const Member kept = {CAB, CAB, {FORWARD(0), CHAIN}};
+    static File line, loop;
     static uint64_t rows[256];
+    sheet_head(&loop, 1, 1);
+    put_triple(&loop, 0, 0, 0);
+    narrowed_file(&narrowed, &kept, 1);
     for (size_t s = 0; s < 128; s++)
         for (size_t t = s + 1; t < 128; t++)
             rows[s * 2 + t / 64] |= (uint64_t)1 << t % 64;
     question_file(&question, chain);
     line_register(&line, 128);
     answer(paths_answer, &question, &line, 8192, 256, told(PATHS_ACCEPTED, 0, 0), rows);
+    job_accepts(&loop, &question, &line, 1, rows, &narrowed);
     line_register(&line, 129);
     answer(paths_answer, &question, &line, 8192, 256, told(PATHS_WORK_SHORT, 28 * 129 * 3, PATHS_IN_WORK), NULL);
+    job_refuses(&loop, &question, &line, told(PATHS_WORK_SHORT, 28 * 129 * 3, PATHS_IN_WORK));
 }
 
 static void case_11(void)
@@ -438,6 +483,8 @@ static void case_11(void)
     put_triple(&twice, 0, 0, 1);
     put_triple(&twice, 0, 0, 1);
     check(&twice, &reg, told(PATHS_NOT_ASCENDING, 11, PATHS_IN_SHEET));
+    take(&cases[3]);
+    job_refuses(&twice, &question, &reg, told(PATHS_NOT_ASCENDING, 11, PATHS_IN_SHEET));
     program_areas();
     end();
 }
@@ -449,6 +496,7 @@ static void case_12(void)
     answer_accepts(paths_answer, &question, &breaking, six_rows("0304333443445354"));
     answer_accepts(paths_answer_narrowed, &narrowed, &breaking, six_rows("0304345354"));
     check(&sheet, &breaking, told(PATHS_BREACH, 11, PATHS_IN_WORK));
+    job_refuses(&sheet, &question, &breaking, told(PATHS_BREACH, 11, PATHS_IN_WORK));
     end();
 }
 
@@ -462,6 +510,7 @@ static void symbols_32(void)
     chains[32] = CHAIN;
     question_file(&question, chains);
     answer(paths_answer, &question, &reg, 168, 6, told(PATHS_OUT_OF_RANGE, 0, PATHS_IN_QUESTION), NULL);
+    job_refuses(&sheet, &question, &reg, told(PATHS_OUT_OF_RANGE, 0, PATHS_IN_QUESTION));
 }
 
 /* One link with so many permitted pairs, from kinds 0, 1, 2. */
@@ -481,8 +530,10 @@ static void pairs_128(void)
     narrowed_file(&narrowed, &all, 1);
     pairs_sheet(&crowd, 128);
     narrow_accepts(&crowd, &question, 1, &narrowed);
+    job_accepts(&crowd, &question, &none, 1, NULL, &narrowed);
     pairs_sheet(&crowd, 129);
     narrow(&crowd, &question, 8192, 400, told(PATHS_TOO_MANY, 0, PATHS_IN_WORK), NULL);
+    job_refuses(&crowd, &question, &none, told(PATHS_TOO_MANY, 0, PATHS_IN_WORK));
 }
 
 /* Of a walk of so many hops of links 0 and 1 that ends in kind 22, and then link 3 and a chain of link 2. */
@@ -523,8 +574,10 @@ static void symbols_48(void)
     narrowed_file(&narrowed, members, 11);
     question_file(&question, passes);
     narrow_accepts(&line, &question, 11, &narrowed);
+    job_accepts(&line, &question, &none, 11, NULL, &narrowed);
     question_file(&question, fails);
     narrow(&line, &question, 8192, 20000, told(PATHS_TOO_LONG, 9, PATHS_IN_WORK), NULL);
+    job_refuses(&line, &question, &none, told(PATHS_TOO_LONG, 9, PATHS_IN_WORK));
 }
 
 static void empty_files(void)
@@ -538,6 +591,9 @@ static void empty_files(void)
     answer(paths_answer, &question, &empty, 168, 6, told(PATHS_WRONG_END, 0, PATHS_IN_REGISTER), NULL);
     answer(paths_answer_narrowed, &empty, &reg, 168, 6, told(PATHS_WRONG_END, 0, PATHS_IN_NARROWED), NULL);
     answer(paths_answer_narrowed, &narrowed, &empty, 168, 6, told(PATHS_WRONG_END, 0, PATHS_IN_REGISTER), NULL);
+    job_refuses(&empty, &question, &reg, told(PATHS_WRONG_END, 0, PATHS_IN_SHEET));
+    job_refuses(&sheet, &empty, &reg, told(PATHS_WRONG_END, 0, PATHS_IN_QUESTION));
+    job_refuses(&sheet, &question, &empty, told(PATHS_WRONG_END, 0, PATHS_IN_REGISTER));
 }
 
 static void case_13(void)
@@ -550,22 +606,41 @@ static void case_13(void)
     end();
 }
 
-/* 11, 14 and 15, which no case has: one element too few, and none. */
-static void short_areas(void)
+/* 14 and 15, which no case has: one element too few, or none at all. */
+static void short_areas(bool bare)
+{
+    size_t bytes = narrowed.length;
+    const size_t no_work[3] = {bare ? 0 : 8191, bare ? 0 : 6, bare ? 0 : bytes};
+    const size_t no_answer[3] = {8192, bare ? 0 : 5, bare ? 0 : bytes};
+    const size_t no_file[3] = {8192, 6, bare ? 0 : bytes - 1};
+    narrow(&sheet, &question, no_work[0], no_work[2], told(PATHS_WORK_SHORT, 8192, PATHS_IN_WORK), NULL);
+    narrow(&sheet, &question, no_file[0], no_file[2], told(PATHS_AREA_SHORT, bytes, PATHS_IN_WORK), NULL);
+    answer(paths_answer, &question, &reg, bare ? 0 : 167, no_work[1], told(PATHS_WORK_SHORT, 168, PATHS_IN_WORK), NULL);
+    answer(paths_answer, &question, &reg, 168, no_answer[1], told(PATHS_AREA_SHORT, 6, PATHS_IN_WORK), NULL);
+    answer(paths_answer_narrowed, &narrowed, &reg, bare ? 0 : 167, no_work[1], told(PATHS_WORK_SHORT, 168, PATHS_IN_WORK), NULL);
+    answer(paths_answer_narrowed, &narrowed, &reg, 168, no_answer[1], told(PATHS_AREA_SHORT, 6, PATHS_IN_WORK), NULL);
+    job(&sheet, &question, &reg, no_work, told(PATHS_WORK_SHORT, 8192, PATHS_IN_WORK), NULL, NULL);
+    job(&sheet, &question, &reg, no_answer, told(PATHS_AREA_SHORT, 6, PATHS_IN_WORK), NULL, NULL);
+    job(&sheet, &question, &reg, no_file, told(PATHS_AREA_SHORT, bytes, PATHS_IN_WORK), NULL, NULL);
+}
+
+/* 11, which no case has, and which stands before 16. */
+static void unnamed_link(void)
 {
     static const Symbol unnamed[] = {UNDER, FORWARD(5), JOIN, 0};
-    begin("areas too short, and a link without a name");
-    take(&cases[3]);
-    for (int none = 0; none < 2; none++) {
-        narrow(&sheet, &question, none ? 0 : 8191, none ? 0 : 100, told(PATHS_WORK_SHORT, 8192, PATHS_IN_WORK), NULL);
-        narrow(&sheet, &question, 8192, none ? 0 : narrowed.length - 1, told(PATHS_AREA_SHORT, narrowed.length, PATHS_IN_WORK), NULL);
-        answer(paths_answer, &question, &reg, none ? 0 : 167, none ? 0 : 6, told(PATHS_WORK_SHORT, 168, PATHS_IN_WORK), NULL);
-        answer(paths_answer, &question, &reg, 168, none ? 0 : 5, told(PATHS_AREA_SHORT, 6, PATHS_IN_WORK), NULL);
-        answer(paths_answer_narrowed, &narrowed, &reg, none ? 0 : 167, none ? 0 : 6, told(PATHS_WORK_SHORT, 168, PATHS_IN_WORK), NULL);
-        answer(paths_answer_narrowed, &narrowed, &reg, 168, none ? 0 : 5, told(PATHS_AREA_SHORT, 6, PATHS_IN_WORK), NULL);
-    }
     question_file(&question, unnamed);
     narrow(&sheet, &question, 8192, 100, told(PATHS_UNNAMED_LINK, 1, PATHS_IN_WORK), NULL);
+    job_refuses(&sheet, &question, &reg, told(PATHS_UNNAMED_LINK, 1, PATHS_IN_WORK));
+    job_refuses(&sheet, &question, &breaking, told(PATHS_UNNAMED_LINK, 1, PATHS_IN_WORK));
+}
+
+static void other_refusals(void)
+{
+    begin("areas too short, and a link without a name");
+    take(&cases[3]);
+    short_areas(false);
+    short_areas(true);
+    unnamed_link();
     end();
 }
 
@@ -580,7 +655,7 @@ int main(void)
     case_11();
     case_12();
     case_13();
-    short_areas();
+    other_refusals();
     printf("%d passed, %d failed\n", passed, failed);
     return failed == 0 ? 0 : 1;
 }

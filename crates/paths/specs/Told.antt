@@ -8,6 +8,7 @@ use Rattle.fields.specs.Call.{Outcome, accepts, refuses, Size, size}
 use Rattle.fields.specs.Said.{source-number}
 use Rattle.narrow.specs.Call as narrow
 use Rattle.answer.specs.Calls as answer
+use Rattle.job.specs.Call as job
 
 -- the result of the C function, and what it leaves at its last two pointers
 pub record Told : Type 0 where
@@ -40,7 +41,7 @@ pub record Tells-file (o : Outcome Size) (t : Told) : Type 0 where
   pub is : t ≡ told-file o
   pub only : t .number ≡ 0 → o ≡ accepts (size (t .first) (t .second))
 
--- ---- the outcome and both areas are what is due
+-- ---- the outcome and the areas are what is due
 pub record Answers (due : answer.Result) (t : Told) (xs ys : List ℕ) : Type 0 where
   pub outcome : Tells (due .outcome) t
   pub work : xs ≡ due .work
@@ -50,3 +51,14 @@ pub record Narrows (due : narrow.Result) (t : Told) (xs ys : List ℕ) : Type 0 
   pub outcome : Tells-file (due .outcome) t
   pub work : xs ≡ due .work
   pub file : ys ≡ due .file
+
+pub record Jobs (due : job.Result) (t : Told) (xs ys zs : List ℕ) : Type 0 where
+  pub outcome : Tells-file (due .outcome) t
+  pub work : xs ≡ due .work
+  pub answer : ys ≡ due .answer
+  pub file : zs ≡ due .file
+
+-- where 0 is told the plain answer of the question is accepted, and its words are these
+pub record Plain (due : answer.Result) (t : Told) (ys : List ℕ) : Type 0 where
+  pub accepted : t .number ≡ 0 → due .outcome ≡ accepts tt
+  pub answer : t .number ≡ 0 → ys ≡ due .answer

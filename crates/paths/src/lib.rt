@@ -9,7 +9,8 @@ ghost use Rattle.fields.specs.Said.{number-of, place-of, source-number, outcome
 ghost use Rattle.conform.specs.Check.{check-of};
 ghost use Rattle.narrow.specs.Call.{narrow-call};
 ghost use Rattle.answer.specs.Calls.{plain-call, narrowed-call};
-ghost use Rattle.paths.specs.Told.{tells, Tells, Tells-file, Answers, Narrows};
+ghost use Rattle.job.specs.Call.{job-call};
+ghost use Rattle.paths.specs.Told.{tells, Tells, Tells-file, Answers, Narrows, Jobs, Plain};
 
 // What a call that is accepted returns; every refusal has a number of its own.
 const ACCEPTED: u64 = 0;
@@ -126,4 +127,24 @@ pub extern "C" fn paths_answer_narrowed(
         first,
         second,
     )
+}
+
+// Narrows the question by the sheet, checks the register, writes the narrowed file and its answer on the register.
+#[no_mangle]
+pub extern "C" fn paths_job(
+    sheet: &[u8],
+    question: &[u8],
+    register: &[u8],
+    work: &mut [u64],
+    answer: &mut [u64],
+    file: &mut [u8],
+    first: &mut u64,
+    second: &mut u64,
+) -> u64
+    ensures { λ n. ⌜ Jobs (job-call (now (sheet .entry)) (now (question .entry)) (now (register .entry)) (now (work .entry)) (now (answer .entry)) (now (file .entry)))
+        (tells n (now (first .exit)) (now (second .exit))) (now (work .exit)) (now (answer .exit)) (now (file .exit)) ⌝ }
+    ensures { λ n. ⌜ Plain (plain-call (now (question .entry)) (now (register .entry)) (now (work .entry)) (now (answer .entry)))
+        (tells n (now (first .exit)) (now (second .exit))) (now (answer .exit)) ⌝ }
+{
+    tell_file(job::whole_job(sheet, question, register, work, answer, file), first, second)
 }

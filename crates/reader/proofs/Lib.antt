@@ -1,0 +1,2 @@
+-- what a reader owns
+pub mod Held

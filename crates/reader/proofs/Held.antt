@@ -24,7 +24,13 @@ use Rattle.reader.specs.declared.Reader.{Reader}
 use Rattle.reader.proofs.Reader as T
 use Rattle.reader.proofs.Reader.Laws as T′
 
--- the struct's type, over a signature's lifetimes
+-- the struct and its laws, over a signature's one lifetime
+abbrev pub D : Lfts 1 → Declared
+D κs = T.the-type (namedLft 1 0 tt κs)
+
+abbrev pub L : (κs : Lfts 1) → LL.Laws (D κs)
+L κs = T′.the-laws (namedLft 1 0 tt κs)
+
 abbrev pub B : Lfts 1 → RattleType
 B κs = T.the-row (namedLft 1 0 tt κs)
 
@@ -42,23 +48,20 @@ abbrev pub OwnSrc : Lft → Reader → Fml
 OwnSrc κ d = ShrSlice (named 0) κ u8 .own (d .src) (src-val d ∷ [])
 
 module _ {M : Type 1} (𝓤 : URA M) (H : Heap 𝓤) (A : Atoms 𝓤) (W : Given 𝓤 H A) (κ : Lft) (d : Reader) where
-  abbrev D : Declared
-  D = T.the-type (namedLft 1 0 tt (κ, tt))
+  abbrev κs : Lfts 1
+  κs = (κ, tt)
 
-  abbrev L : LL.Laws D
-  L = T′.the-laws (namedLft 1 0 tt (κ, tt))
-
-  abbrev fields : Values (D .parts)
-  fields = (d .src, (d .at, tt))
+  abbrev parts : Values (D κs .parts)
+  parts = (d .src, (d .at, tt))
 
   -- the struct is Copy, so what it owns is had twice
   pub own-twice : ent 𝓤 (sem 𝓤 H A (Own κ d)) (sep 𝓤 (sem 𝓤 H A (Own κ d)) (sem 𝓤 H A (Own κ d)))
-  own-twice = LL.copy D (T′.the-copy (namedLft 1 0 tt (κ, tt))) 𝓤 H A W .twice d (mach d ∷ [])
+  own-twice = LL.copy (D κs) (T′.the-copy (namedLft 1 0 tt κs)) 𝓤 H A W .twice d (mach d ∷ [])
 
   -- one copy is opened for src, the other is kept
   pub src-out : ent 𝓤 (sem 𝓤 H A (Own κ d)) (sep 𝓤 (sem 𝓤 H A (OwnSrc κ d)) (sem 𝓤 H A (Own κ d)))
   src-out =
       qed W (‵ (Own κ d) ∷ []) ∵ use1 W (‵ (Own κ d) ⊛ ‵ (Own κ d)) own-twice $ split ! $
-      use1 W (given (mach d ∷ [] ≡ mach d ∷ []) (‵ (all-own (D .parts) L fields))) (own-open 𝓤 H A W D L fields (mach d)) $ learn ! (λ _. use1 W (‵ (ownAt (D .parts) L 0 (d .src)) ⊛ ‵ (rest (D .parts) L 0 fields)) (own-out 𝓤 H A W (D .parts) L 0 fields) $ split ! $
+      use1 W (given (mach d ∷ [] ≡ mach d ∷ []) (‵ (all-own (D κs .parts) (L κs) parts))) (own-open 𝓤 H A W (D κs) (L κs) parts (mach d)) $ learn ! (λ _. use1 W (‵ (ownAt (D κs .parts) (L κs) 0 (d .src)) ⊛ ‵ (rest (D κs .parts) (L κs) 0 parts)) (own-out 𝓤 H A W (D κs .parts) (L κs) 0 parts) $ split ! $
       -- [what src owns; what at owns; what the struct owns]
       move ! (1 ∷ []) $ drop ! $ frame ! $ done !)

@@ -1,2 +1,2 @@
--- what a reader owns
+-- what a reader owns, for each walk
 pub mod Held

@@ -1,12 +1,14 @@
-// A reader of fields that holds a file which it does not own, and a cursor in it. Each function takes the struct apart and
-// leaves the work to a function of `fields` over the slice and the place.
+// A reader of fields: it holds a file that it does not own, and a cursor. No function over a struct that holds a slice is covered
+// by the borrow checker, so there are few, each a proof by hand, and the work is left to `fields`, over the slice and the place.
 use fields::Due;
 use fields::Seen;
 ghost use mathlib.Core.Path.{_≡_};
+ghost use Prim.Native.Nat.{_+_, _<_, _^_};
 ghost use Rattle.fields.specs.Reading.{field-at};
 ghost use Rattle.fields.specs.Raw.{body-in};
 ghost use Rattle.fields.specs.Said.{field-said};
 
+// The file, and the place of its next field.
 pub struct Reader<'a> {
     pub src: &'a [u8],
     pub at: usize,
@@ -33,9 +35,13 @@ pub fn body<'a>(r: Reader<'a>) -> &'a [u8]
     fields::body_at(r.src, r.at)
 }
 
-// The cursor at another place of the same file.
-pub fn moved<'a>(r: Reader<'a>, at: usize) -> Reader<'a>
-    ensures { λ q. ⌜ (q .src ≡ r .entry .src) × (q .at ≡ at) ⌝ }
+// Past the field at the cursor, whose body has this length.
+pub fn past<'a>(r: Reader<'a>, len: u16) -> Reader<'a>
+    requires { ⌜ r .at + 3 + len < 2 ^ 64 ⌝ }
+    ensures { λ q. ⌜ (q .src ≡ r .entry .src) × (q .at ≡ r .entry .at + 3 + len) ⌝ }
 {
-    Reader { src: r.src, at }
+    Reader {
+        src: r.src,
+        at: r.at + 3 + len as usize,
+    }
 }

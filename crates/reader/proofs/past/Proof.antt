@@ -1,5 +1,5 @@
 -- `reader::past` meets its contract: a walk of its MIR, by hand. A struct is made anew of the slice that the one passed holds, and the place after the field.
--- The struct is Copy: what it owns is had twice, one copy is kept whole for the exit, and the other, with the facts of the new place in those of at's, is what the result owns.
+-- The struct is Copy: what it owns is had twice, one copy is kept whole for the exit, and the other, with the facts of the new place for those of at, is what the result owns.
 -- Assumes nothing.
 use mathlib.Core.Path.{refl}
 use native.Mathlib.Omega.{arith}

@@ -1,7 +1,7 @@
 -- What an accepted job says: the three files were read, the register obeys, the area has the file of the members, and the answer is theirs and the question's.
 -- Assumes nothing.
-use mathlib.Core.Path.{_≡_, refl, sym, ap, subst, _∙_}
-use mathlib.Core.Bool.{Bool, true, false, cond}
+use mathlib.Core.Path.{_≡_, refl, sym, ap, _∙_}
+use mathlib.Core.Bool.{Bool, true, false}
 use mathlib.Core.List.{List}
 use mathlib.Core.Option.{Option, none, some}
 use Prim.Native.Nat.{ℕ, _≤_}
@@ -23,9 +23,8 @@ use Rattle.fields.specs.declared.Source.{Source}
 use Rattle.fields.specs.declared.Source.the-variants as source
 use Rattle.fields.specs.declared.Written.{Written}
 use Rattle.fields.specs.Answer.{Answer, got, refused as refused-file}
-use Rattle.fields.specs.Call.{accepts, refuses, Size, zeroed}
+use Rattle.fields.specs.Call.{accepts, Size, zeroed}
 use Rattle.fields.specs.Reading.{read}
-use Rattle.fields.specs.Said.{written-said}
 use Rattle.sheet.specs.Form.{sheet-form}
 use Rattle.sheet.proofs.Ranges.{accepted-sheet}
 use Rattle.question.specs.Form.{question-form, question-symbols}

@@ -1,6 +1,6 @@
 -- The larger of the two needs.
 -- Assumes nothing.
-use mathlib.Core.Path.{_≡_, sym, ap, refl, _∙_, subst}
+use mathlib.Core.Path.{_≡_, sym, refl}
 use mathlib.Core.Bool.{Bool, true, false, cond}
 use Prim.Native.Nat.{ℕ, _<_, _≤_}
 use native.Mathlib.Omega.{arith}

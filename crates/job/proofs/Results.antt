@@ -6,19 +6,18 @@ use mathlib.Core.List.{List, [], _∷_, map}
 use mathlib.Core.Option.{Option, none, some}
 use Prim.Native.Nat.{ℕ, suc, _*_, _<_, _≤_}
 use native.Mathlib.Omega.{arith}
-use lib.Dec.{T}
 use lib.ListN.{length, take}
 use lib.Seq.{sets}
 use borrow.Author.Tests.{le-ltb}
 use Rattle.theory.specs.PathExpr.{PathExpr, Symbol}
 use Rattle.theory.specs.Postfix.{path-of, ended}
 use Rattle.theory.specs.Register.{Register, records}
-use Rattle.theory.specs.Sheet.{Sheet, sheet?, breach}
+use Rattle.theory.specs.Sheet.{Sheet, breach}
 use Rattle.theory.specs.Merging.{Member, members}
 use Rattle.theory.specs.Narrowing.{Outcome, refused, narrowed, refuse, unless, part-fault, short?, few?, narrow, narrow-symbols, Fits}
 use Rattle.theory.specs.Inference.{triples}
 use Rattle.theory.specs.Evaluation.{narrowed-answer}
-use Rattle.theory.specs.Words.{row-words, answer-words}
+use Rattle.theory.specs.Words.{answer-words}
 use Rattle.theory.proofs.Postfix.{postfix-path-of}
 use Rattle.theory.proofs.Members.{narrow-fits}
 use Rattle.theory.proofs.Demand3.{narrow-postfix}
@@ -34,28 +33,26 @@ use Rattle.fields.specs.Call.{size}
 use Rattle.fields.specs.Reading.{read}
 use Rattle.question.specs.Form.{question-symbols}
 use Rattle.register.specs.Form.{register-in}
-use Rattle.register.specs.Ahead.{Accepted}
 use Rattle.conform.specs.declared.Failing.{Failing}
 use Rattle.conform.specs.declared.Failing.the-variants.{At, Nowhere}
 use Rattle.conform.specs.Said.{failing-said, first-breach}
 use Rattle.conform.proofs.Checked.{breach-is}
 use Rattle.narrowed.specs.Form.{narrowed-form}
-use Rattle.narrowed.specs.Members.{flat-of, narrowed-file}
+use Rattle.narrowed.specs.Members.{flat-of}
 use Rattle.narrowed.proofs.Formed.{narrowed-file-read, fits-formed}
 use Rattle.evaluation.specs.Ground.{Ground}
 use Rattle.evaluation.proofs.Grounds.{limits}
-use Rattle.rows.specs.Kept.{Kept}
 use Rattle.rows.proofs.Words.{kept-refl, kept-trans, kept-in}
-use Rattle.narrow.specs.Call.{narrow-need, file-of}
+use Rattle.narrow.specs.Call.{narrow-need}
 use Rattle.narrow.specs.Call as narrow·Call
-use Rattle.narrow.specs.Said.{Files, FirstUnnamed, Handed, Ready, Infers-file}
+use Rattle.narrow.specs.Said.{Files, FirstUnnamed, Infers-file}
 use Rattle.narrow.proofs.Whole.{rest, symbols-unnamed, symbols-named}
 use Rattle.narrow.proofs.Accepted.{Filed, filed, file-written, within, not-accepted}
 use Rattle.answer.specs.Calls.{members-of}
 use Rattle.answer.specs.Said as answer·Said
 use Rattle.answer.proofs.TwoAnswers.{members-back}
-use Rattle.job.specs.Call.{larger, if-accepted, with-breach, completed}
-use Rattle.job.specs.Said.{Gives, HasMembers, Answers-file, Tells, Asked, Roomy, due, Completes}
+use Rattle.job.specs.Call.{larger, with-breach, completed}
+use Rattle.job.specs.Said.{Gives, HasMembers, Answers-file, Tells, Asked, due, Completes}
 use Rattle.job.proofs.Needs.{larger-both}
 
 -- ---- 16

@@ -1,12 +1,12 @@
 -- The call as a whole: 14 for the answer before what comes of narrowing, 15 before that, the files before all.
 -- Assumes nothing.
-use mathlib.Core.Path.{_≡_, sym, ap, ap₂, subst, _∙_}
+use mathlib.Core.Path.{_≡_, sym, ap, _∙_}
 use mathlib.Core.List.{List}
 use Prim.Native.Nat.{ℕ, _*_, _<_, _≤_}
 use native.Mathlib.Omega.{arith}
 use lib.ListN.{length, take}
 use borrow.Author.Tests.{lt-ltb, le-ltb}
-use Rattle.theory.specs.Register.{Register, records}
+use Rattle.theory.specs.Register.{Register}
 use Rattle.theory.specs.Sheet.{Sheet}
 use Rattle.theory.specs.Words.{row-words}
 use Rattle.fields.specs.declared.Refusal.{Refusal}

@@ -109,7 +109,19 @@ fn job_words(
     if answer.len() < need {
         return Written::Refused(Source::Work, Refusal::AreaShort(need));
     }
-    job_codes(codes, count, table, kinds, links, register, n, w, work, answer, file)
+    job_codes(
+        codes,
+        count,
+        table,
+        kinds,
+        links,
+        register,
+        n,
+        w,
+        work,
+        answer,
+        file,
+    )
 }
 
 // 15; or what comes of it, after which the work words are zero.
@@ -133,7 +145,19 @@ fn job_in(
     if work.len() < need {
         return Written::Refused(Source::Work, Refusal::WorkShort(need));
     }
-    let o = job_words(codes, count, table, kinds, links, register, n, w, work, answer, file);
+    let o = job_words(
+        codes,
+        count,
+        table,
+        kinds,
+        links,
+        register,
+        n,
+        w,
+        work,
+        answer,
+        file,
+    );
     rows::clear(work, 0, need);
     o
 }

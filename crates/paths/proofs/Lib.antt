@@ -2,3 +2,5 @@
 pub mod Agreement
 -- what C is told
 pub mod Told
+-- how a file is judged
+pub mod Judging

@@ -1,15 +1,22 @@
--- What a caller in C is told of a call: its outcome in three numbers, and the areas that were lent.
+-- What a caller is told: how a file is judged; in C, the outcome of a call in three numbers, and the areas that were lent.
 -- 01-scope.md, "Refused on the state's account": "The calls are also exported for our fleet office program in C"; "The form each place needs": "a definition gives this paper's number and values for each case".
 -- Assumes nothing.
 use mathlib.Core.Path.{_≡_}
 use mathlib.Core.List.{List}
 use Prim.Native.Nat.{ℕ}
-use Rattle.fields.specs.Call.{Outcome, accepts, refuses, Size, size}
+use Rattle.fields.specs.declared.Source.{Source}
+use Rattle.fields.specs.Answer.{Answer}
+use Rattle.fields.specs.Call.{Outcome, accepts, refuses, reading, Size, size}
 use Rattle.fields.specs.Said.{source-number}
 use Rattle.narrow.specs.Call as narrow
 use Rattle.answer.specs.Calls as answer
 use Rattle.job.specs.Call as job
 
+-- how a file is judged: accepted, or refused by number and place
+abbrev pub judged : {A : Type 0} → Source → Answer A → Outcome (Unit {0})
+judged s a = reading a (refuses s) (λ _. accepts tt)
+
+-- ---- in C
 -- the result of the C function, and what it leaves at its last two pointers
 pub record Told : Type 0 where
   pub number : ℕ

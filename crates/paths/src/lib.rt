@@ -1,16 +1,24 @@
-// The calls for programs in C (include/paths.h). Each hands its areas on to the call and tells the outcome in three numbers: specs/Told.antt.
+// The public calls. Those for programs in C (include/paths.h) hand their areas on and tell the outcome in three numbers: specs/Told.antt.
 // What holds of the calls together (demand 3) is in specs/Agreement.antt.
 use fields::Outcome;
 use fields::Refusal;
 use fields::Source;
 use fields::Written;
+use narrowed::Members;
 ghost use mathlib.Core.Path.{_≡_};
 ghost use Rattle.fields.specs.Said.{number-of, place-of, source-number, outcome-said, written-said};
+ghost use Rattle.fields.specs.declared.Source.the-variants as source;
+ghost use Rattle.fields.specs.Reading.{read};
+ghost use Rattle.sheet.specs.Form.{sheet-form};
+ghost use Rattle.question.specs.Form.{question-form};
+ghost use Rattle.narrowed.specs.Form.{narrowed-form};
+ghost use Rattle.register.specs.Form.{register-form};
+ghost use Rattle.writing.specs.Outcome.{Writes};
 ghost use Rattle.conform.specs.Check.{check-of};
 ghost use Rattle.narrow.specs.Call.{narrow-call};
 ghost use Rattle.answer.specs.Calls.{plain-call, narrowed-call};
 ghost use Rattle.job.specs.Call.{job-call};
-ghost use Rattle.paths.specs.Told.{tells, Tells, Tells-file, Answers, Narrows, Jobs, Plain};
+ghost use Rattle.paths.specs.Told.{judged, tells, Tells, Tells-file, Answers, Narrows, Jobs, Plain};
 
 // What a call that is accepted returns; every refusal has a number of its own.
 const ACCEPTED: u64 = 0;
@@ -55,6 +63,63 @@ fn tell_file(o: Written, first: &mut u64, second: &mut u64) -> u64
         Written::Refused(s, r) => tell_refusal(s, r, first, second),
     }
 }
+
+// ---- how each file is judged, and the writer
+
+// Is it the file of a sheet?
+pub fn judge_sheet(file: &[u8]) -> Outcome
+    ensures { λ o. ⌜ outcome-said o ≡ judged source.Sheet (read sheet-form (now (file .entry))) ⌝ }
+{
+    let s = sheet::read(file);
+    let outcome = s.outcome;
+    match outcome {
+        sheet::Outcome::Refused(r) => Outcome::Refused(Source::Sheet, r),
+        sheet::Outcome::Accepted(_, _) => Outcome::Accepted,
+    }
+}
+
+// Of a question?
+pub fn judge_question(file: &[u8]) -> Outcome
+    ensures { λ o. ⌜ outcome-said o ≡ judged source.Question (read question-form (now (file .entry))) ⌝ }
+{
+    let q = question::read(file);
+    let outcome = q.outcome;
+    match outcome {
+        question::Outcome::Refused(r) => Outcome::Refused(Source::Question, r),
+        question::Outcome::Accepted(_) => Outcome::Accepted,
+    }
+}
+
+// Of a narrowed question?
+pub fn judge_narrowed(file: &[u8]) -> Outcome
+    ensures { λ o. ⌜ outcome-said o ≡ judged source.Narrowed (read narrowed-form (now (file .entry))) ⌝ }
+{
+    let q = narrowed::read(file);
+    let outcome = q.outcome;
+    match outcome {
+        narrowed::Outcome::Refused(r) => Outcome::Refused(Source::Narrowed, r),
+        narrowed::Outcome::Accepted(_) => Outcome::Accepted,
+    }
+}
+
+// Of a register?
+pub fn judge_register(file: &[u8]) -> Outcome
+    ensures { λ o. ⌜ outcome-said o ≡ judged source.Register (read register-form (now (file .entry))) ⌝ }
+{
+    match register::read(file) {
+        register::Outcome::Refused(r) => Outcome::Refused(Source::Register, r),
+        register::Outcome::Accepted(_, _) => Outcome::Accepted,
+    }
+}
+
+// Writes members of any contents as a narrowed question's file.
+pub fn write(members: Members, area: &mut [u8]) -> writing::Written
+    ensures { λ r. ⌜ Writes members (now (area .entry)) r (now (area .exit)) ⌝ }
+{
+    writing::write(members, area)
+}
+
+// ---- check, narrowing, answers and the whole job, for C
 
 // Does a register obey a sheet?
 #[no_mangle]
@@ -146,5 +211,9 @@ pub extern "C" fn paths_job(
     ensures { λ n. ⌜ Plain (plain-call (now (question .entry)) (now (register .entry)) (now (work .entry)) (now (answer .entry)))
         (tells n (now (first .exit)) (now (second .exit))) (now (answer .exit)) ⌝ }
 {
-    tell_file(job::whole_job(sheet, question, register, work, answer, file), first, second)
+    tell_file(
+        job::whole_job(sheet, question, register, work, answer, file),
+        first,
+        second,
+    )
 }

@@ -1,0 +1,34 @@
+-- `paths::paths_job` meets its contract.
+-- Assumes nothing.
+use borrow.Author.Needs.{needs}
+use Rattle.paths.proofs.paths_job.Statement.{statement}
+use Rattle.paths.proofs.paths_job.Tie as tie
+
+whole-job-requires : tie.Need-whole-job-requires
+whole-job-requires c κs = search needs
+
+tell-file-requires : tie.Need-tell-file-requires
+tell-file-requires c κs = search needs
+
+same-length : tie.Need-same-length
+same-length c = search needs
+
+same-length-2 : tie.Need-same-length-2
+same-length-2 c = search needs
+
+same-length-3 : tie.Need-same-length-3
+same-length-3 c = search needs
+
+returns : tie.Need-returns
+returns c = let h = c .before .before .before .before .before .before .before .before .before .whole-job .ensures in let t = c .tell-file .ensures in (record { outcome = rw (h .0 .outcome) at t; work = h .0 .work; answer = h .0 .answer; file = h .0 .file }, record { accepted = λ z. h .1 .accepted _ (t .only z); answer = λ z. h .1 .answer _ (t .only z) })
+
+pub paths-job-spec : {M : Type 1} → statement M
+paths-job-spec =
+    tie.close
+    (tie.spec
+    whole-job-requires
+    tell-file-requires
+    same-length
+    same-length-2
+    same-length-3
+    returns)

@@ -18,6 +18,7 @@ use Rattle.theory.specs.Narrowing.{Outcome, refused, narrowed, narrow-symbols}
 use Rattle.theory.specs.Evaluation.{plain-answer, narrowed-answer}
 use Rattle.theory.specs.Words.{answer-words}
 use Rattle.theory.proofs.Conformance.{breach-exact}
+use Rattle.theory.proofs.Demand3.{narrow-path}
 use Rattle.theory.proofs.Answers.{answer-words-equal}
 use Rattle.fields.specs.declared.Source.{Source}
 use Rattle.fields.specs.declared.Source.the-variants as source
@@ -39,7 +40,6 @@ use Rattle.answer.proofs.Meaning.{same, answered-enough}
 use Rattle.job.specs.Call.{result, job-need, with-answer, completed, with-breach, filled, settled, job-call}
 use Rattle.job.specs.Said.{Jobs, Plain}
 use Rattle.job.proofs.Needs.{larger-both}
-use Rattle.job.proofs.Results.{narrow-path}
 
 pub record Accepted (s q g work answer answer′ file file′ : List ℕ) (z : Size) : Type 0 where
   pub narrowing : narrow·Accepted.Accepted s q file file′ z

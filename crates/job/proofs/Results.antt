@@ -9,18 +9,17 @@ use native.Mathlib.Omega.{arith}
 use lib.ListN.{length, take}
 use lib.Seq.{sets}
 use borrow.Author.Tests.{le-ltb}
-use Rattle.theory.specs.PathExpr.{PathExpr, Symbol}
-use Rattle.theory.specs.Postfix.{path-of, ended}
+use Rattle.theory.specs.PathExpr.{PathExpr}
+use Rattle.theory.specs.Postfix.{ended}
 use Rattle.theory.specs.Register.{Register, records}
 use Rattle.theory.specs.Sheet.{Sheet, breach}
 use Rattle.theory.specs.Merging.{Member, members}
-use Rattle.theory.specs.Narrowing.{Outcome, refused, narrowed, refuse, unless, part-fault, short?, few?, narrow, narrow-symbols, Fits}
+use Rattle.theory.specs.Narrowing.{Outcome, refused, narrowed, refuse, unless, part-fault, short?, few?, Fits}
 use Rattle.theory.specs.Inference.{triples}
 use Rattle.theory.specs.Evaluation.{narrowed-answer}
 use Rattle.theory.specs.Words.{answer-words}
-use Rattle.theory.proofs.Postfix.{postfix-path-of}
 use Rattle.theory.proofs.Members.{narrow-fits}
-use Rattle.theory.proofs.Demand3.{narrow-postfix}
+use Rattle.theory.proofs.Demand3.{narrow-path}
 use Rattle.fields.specs.declared.Refusal.{Refusal}
 use Rattle.fields.specs.declared.Refusal.the-variants.{UnnamedLink, Breach}
 use Rattle.fields.specs.declared.Outcome.the-variants as outcome
@@ -70,11 +69,6 @@ before-parts S j i (p ∷ ps) ms = by-part (short? (triples S p)) (few? (triples
     by-part false b o e = refl
     by-part true false o e = refl
     by-part true true o e = e
-
--- ---- a question's path
--- its narrowing is that of its symbols
-pub narrow-path : (S : Sheet) (q : PathExpr) (ss : List Symbol) → path-of ss ≡ some q → narrow S q ≡ narrow-symbols S ss
-narrow-path S q ss e = sym (narrow-postfix S q) ∙ ap (narrow-symbols S) (postfix-path-of ss q e)
 
 -- ---- the results
 module _ (r : Register) (file answer : List ℕ) {file′ : List ℕ} where

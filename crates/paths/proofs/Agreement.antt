@@ -10,7 +10,7 @@ use Rattle.theory.specs.Sheet.{Sheet, sheet?, conforms?}
 use Rattle.theory.specs.Narrowing.{narrowed, narrow}
 use Rattle.theory.specs.Demand3.{Demand3}
 use Rattle.theory.proofs.Members.{narrow-fits}
-use Rattle.theory.proofs.Demand3.{demand3}
+use Rattle.theory.proofs.Demand3.{demand3, narrow-path}
 use Rattle.fields.specs.Answer.{Answer, got}
 use Rattle.fields.specs.Call.{Size}
 use Rattle.fields.specs.Reading.{read}
@@ -26,7 +26,6 @@ use Rattle.answer.specs.Calls.{members-of}
 use Rattle.answer.proofs.Meaning.{plain-word}
 use Rattle.answer.proofs.TwoAnswers.{members-back, words-equal, bits-subset}
 use Rattle.job.specs.Call.{job-call}
-use Rattle.job.proofs.Results.{narrow-path}
 use Rattle.job.proofs.Accepted.{register-conforms, plainly}
 use Rattle.job.proofs.Accepted as job·Accepted
 use Rattle.paths.specs.Agreement.{Took, file-written, Agrees, JobTook, job-file, JobAgrees}

@@ -120,7 +120,10 @@ narrow-postfix S q =
     ap (narrow-read S (postfix q)) (path-of-postfix q)
     ∙ ap (λ ps. refuse (link-fault (S .link-names)) 0 (postfix q) (refuse (part-fault S) 0 ps (narrowed (members (triples S q))))) (ended-parts q)
 
+pub narrow-path : (S : Sheet) (q : PathExpr) (ss : List Symbol) → path-of ss ≡ some q → narrow S q ≡ narrow-symbols S ss
+narrow-path S q ss e = sym (narrow-postfix S q) ∙ ap (narrow-symbols S) (postfix-path-of ss q e)
+
 pub demand3-symbols : (S : Sheet) → T (sheet? S) → (ss : List Symbol) (q : PathExpr) → path-of ss ≡ some q → T (plain? q)
     → (ms : List Member) → narrow-symbols S ss ≡ narrowed ms → Demand3 S q ms
 demand3-symbols S ok ss q read plain ms e =
-    demand3 S ok q plain ms (sym (narrow-postfix S q) ∙ ap (narrow-symbols S) (postfix-path-of ss q read) ∙ e)
+    demand3 S ok q plain ms (narrow-path S q ss read ∙ e)

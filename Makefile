@@ -1,8 +1,12 @@
-.PHONY: run test lib client
+.PHONY: run program test lib client
 
 # The main job on the example fleet.
-run:
-	@python3 -m reference.program example
+run: program
+	@cd example && ../target/bin/paths_main
+
+# The program, at target/bin/paths_main: proves what is not proved yet, since only a proved crate is built.
+program:
+	@rt check paths_main >&2
 
 # Everything that must hold, from nothing.
 test:

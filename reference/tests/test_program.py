@@ -40,6 +40,14 @@ class Output(ProgramTest):
             self.assertEqual(done.stdout, cases.CASE_11_OUTPUT.encode())
             self.assertEqual(done.stderr, b"")
 
+    def test_the_example_and_the_files_of_the_proved_program(self):
+        for folder in ("example", os.path.join("crates", "paths_main", "data")):
+            self.assertEqual(program.run(os.path.join(ROOT, folder)), cases.CASE_11_OUTPUT)
+            for name in ("sheet", "question", "register"):
+                self.assertEqual(program.content(os.path.join(ROOT, folder, name)),
+                                 program.content(os.path.join(self.folder, name)))
+        self.assertEqual(program.content(os.path.join(ROOT, "crates", "paths_main", "stdout")), cases.CASE_11_OUTPUT.encode())
+
     def test_case_12(self):
         self.put("register", register_bytes(cases.BREAKING_REGISTER))
         self.prints("refused 16 in work at 11\n")

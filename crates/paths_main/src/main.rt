@@ -1,0 +1,114 @@
+// Runs the whole job on the files sheet, question and register of the working directory, and prints what came of it.
+// Assumed are the contracts of the C library's calls (crates libc and os): that they return, and keep to their buffers.
+use fields::Source;
+use fields::Written;
+use libc::STDOUT_FILENO;
+ghost use mathlib.Core.Path.{_≡_};
+ghost use Prim.Native.Nat.{_≤_};
+ghost use lib.ListN.{length};
+ghost use Rattle.io.specs.Counts.{Counts};
+ghost use Rattle.register.specs.Form.{register-in};
+ghost use Rattle.bytes.specs.Wrote.{Wrote};
+ghost use Rattle.paths_main.specs.Output.{zeros, printed, Prints, Fits, answer-of};
+
+// What is lent: 8,192 words of work, 256 of the answer, 65,536 bytes for the narrowed file.
+fn work_words() -> [u64; 8192]
+    ensures { λ r. ⌜ (r ≡ zeros 8192) × (8192 ≡ length r) ⌝ }
+{
+    [0; 8192]
+}
+
+fn answer_words() -> [u64; 256]
+    ensures { λ r. ⌜ (r ≡ zeros 256) × (256 ≡ length r) ⌝ }
+{
+    [0; 256]
+}
+
+fn file_bytes() -> [u8; 65536]
+    ensures { λ r. ⌜ (r ≡ zeros 65536) × (65536 ≡ length r) ⌝ }
+{
+    [0; 65536]
+}
+
+// Room for what is printed: 8 bytes for each of the pairs of 128 records, and the first line.
+fn page() -> [u8; 131128]
+    ensures { λ r. ⌜ 131128 ≡ length r ⌝ }
+{
+    [0; 131128]
+}
+
+// What is printed of an accepted job. Its register is read once more for the number of records.
+fn put_answer(out: &mut [u8], members: usize, answer: &[u64], register: &[u8]) -> usize
+    requires { ⌜ Fits (now register) (now answer) × (131128 ≤ length (now out)) ⌝ }
+    ensures { λ r. ⌜ Wrote (now (out .entry)) (now (out .exit)) 0 r (answer-of members (now (answer .entry)) (register-in (now (register .entry)))) ⌝ }
+{
+    match register::read(register) {
+        register::Outcome::Refused(r) => text::put_refusal(out, 0, Source::Register, r),
+        register::Outcome::Accepted(n, _) => text::put_answer(
+            out,
+            0,
+            members,
+            answer,
+            n,
+            answer::row_words(n),
+        ),
+    }
+}
+
+// Puts what is printed of the three files at the start of out, and answers how many bytes that are.
+fn run(sheet: &[u8], question: &[u8], register: &[u8], out: &mut [u8]) -> usize
+    requires { ⌜ 131128 ≤ length (now out) ⌝ }
+    ensures { λ r. ⌜ Prints (printed (now (sheet .entry)) (now (question .entry)) (now (register .entry))) r (now (out .exit)) ⌝ }
+{
+    let mut work = work_words();
+    let mut answer = answer_words();
+    let mut file = file_bytes();
+    match job::whole_job(sheet, question, register, &mut work, &mut answer, &mut file) {
+        Written::Refused(source, r) => text::put_refusal(out, 0, source, r),
+        Written::File(members, _) => put_answer(out, members, &answer, register),
+    }
+}
+
+// Reads what there is, up to the room's length, and answers how many bytes that are; none where a read fails.
+fn contents(fd: i32, room: &mut [u8]) -> usize
+    ensures { λ r. ⌜ Counts r (now (room .exit)) ⌝ }
+{
+    let mut at = 0;
+    while at < room.len() {
+        let got = libc::read(fd, &mut room[at..]);
+        if got < 0 {
+            return 0;
+        }
+        let more = io::count(got, &room[at..]);
+        if more == 0 {
+            return at;
+        }
+        at += more;
+    }
+    at
+}
+
+// The first bytes of a file, up to the room's length; none of one that cannot be opened or read.
+fn load(name: &[u8], room: &mut [u8]) -> usize
+    ensures { λ r. ⌜ Counts r (now (room .exit)) ⌝ }
+{
+    let fd = os::open_read(name);
+    if fd < 0 {
+        return 0;
+    }
+    let n = contents(fd, room);
+    libc::close(fd);
+    n
+}
+
+fn main() {
+    let mut sheet = io::large_buffer();
+    let mut question = io::large_buffer();
+    let mut register = io::large_buffer();
+    let s = load(b"sheet", &mut sheet);
+    let q = load(b"question", &mut question);
+    let r = load(b"register", &mut register);
+    let mut out = page();
+    let n = run(&sheet[..s], &question[..q], &register[..r], &mut out);
+    io::write_all(STDOUT_FILENO, &out[..n]);
+}

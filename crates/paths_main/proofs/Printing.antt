@@ -18,7 +18,7 @@ use Rattle.fields.specs.declared.Refusal.{Refusal}
 use Rattle.fields.specs.declared.Written.{Written}
 use Rattle.fields.specs.declared.Written.the-variants as written
 use Rattle.fields.specs.Answer.{got, refused}
-use Rattle.fields.specs.Call.{size}
+use Rattle.fields.specs.Call.{Size, accepts, size}
 use Rattle.fields.specs.Reading.{read}
 use Rattle.fields.specs.Said.{number-of, place-of, written-said}
 use Rattle.register.specs.declared.Outcome as register·Outcome
@@ -64,6 +64,15 @@ small n h = go (leb n 128) refl
         let rows : 3 ≤ row-words n = omega arith in
         absurd (omega (arith, mul-le-mul many rows))
 
+pub accepted-job : (s q g : List ℕ) (z : Size) → job-of s q g .outcome ≡ accepts z
+    → job·Accepted.Accepted s q g (zeros 8192) (zeros 256) (job-of s q g .answer) (zeros 65536) (job-of s q g .file) z
+unfolding job-of
+accepted-job s q g z e = job·Accepted.accepted s q g (zeros 8192) (zeros 256) (zeros 65536) z e
+
+pub job-register : (s q g : List ℕ) (z : Size) (e : job-of s q g .outcome ≡ accepts z) → register-in g ≡ accepted-job s q g z e .register
+unfolding register-in
+job-register s q g z e = ap value-of (accepted-job s q g z e .register-reads)
+
 module _ (s q g : List ℕ) {o : Written} {work answer file : List ℕ} (j : Jobs (job-of s q g) o work answer file) where
   printed-refused : (f : Source) (r : Refusal) → o ≡ written.Refused f r → printed s q g ≡ refusal-text f (number-of r) (place-of r)
   unfolding printed
@@ -74,19 +83,20 @@ module _ (s q g : List ℕ) {o : Written} {work answer file : List ℕ} (j : Job
     unfolding printed
     printed-accepted = rw (← j .outcome, e, ← j .answer)
 
-    accepted : job·Accepted.Accepted s q g (zeros 8192) (zeros 256) (job-of s q g .answer) (zeros 65536) (job-of s q g .file) (size m b)
-    unfolding job-of
-    accepted = job·Accepted.accepted s q g (zeros 8192) (zeros 256) (zeros 65536) (size m b) (sym (j .outcome) ∙ ap written-said e)
+    abbrev told : job-of s q g .outcome ≡ accepts (size m b)
+    told = sym (j .outcome) ∙ ap written-said e
 
-    is-register : register-in g ≡ accepted .register
-    unfolding register-in
-    is-register = ap value-of (accepted .register-reads)
+    abbrev job : job·Accepted.Accepted s q g (zeros 8192) (zeros 256) (job-of s q g .answer) (zeros 65536) (job-of s q g .file) (size m b)
+    job = accepted-job s q g (size m b) told
+
+    abbrev is-register : register-in g ≡ job .register
+    is-register = job-register s q g (size m b) told
 
     fits : Fits g answer
     fits = record {
-      accepted = accepted .register-reads ∙ ap got (sym is-register);
-      few = rw is-register (small (records (accepted .register)) (omega (arith, larger-both narrow-need (work-need (accepted .register)) .1, accepted .enough, zeros-length 8192)));
-      room = rw is-register (omega (arith, accepted .room, zeros-length 256, ap length (j .answer ∙ accepted .words), length-sets (zeros 256) 0 (answer-words (records (accepted .register)) (narrowed-answer (accepted .register) (accepted .narrowing .members)))));
+      accepted = job .register-reads ∙ ap got (sym is-register);
+      few = rw is-register (small (records (job .register)) (omega (arith, larger-both narrow-need (work-need (job .register)) .1, job .enough, zeros-length 8192)));
+      room = rw is-register (omega (arith, job .room, zeros-length 256, ap length (j .answer ∙ job .words), length-sets (zeros 256) 0 (answer-words (records (job .register)) (narrowed-answer (job .register) (job .narrowing .members)))));
     }
 
 -- ---- the code's call, with the areas as it lends them

@@ -8,3 +8,5 @@ pub mod Lines
 pub mod Decimal
 -- how long a text can be
 pub mod Room
+-- answers that agree have one text
+pub mod Same

@@ -14,6 +14,7 @@ use Rattle.register.specs.Ahead.{Accepted}
 use Rattle.job.specs.Call.{Result, job-call}
 use Rattle.text.specs.Text.{answer-text, text-of}
 
+-- an area as the program lends it
 unfoldable pub zeros : ℕ → List ℕ
 zeros n = replicate n 0
 
@@ -21,6 +22,7 @@ zeros n = replicate n 0
 unfoldable pub job-of : List ℕ → List ℕ → List ℕ → Result
 job-of sheet question register = job-call sheet question register (zeros 8192) (zeros 256) (zeros 65536)
 
+-- what comes of it, as text
 unfoldable pub printed : List ℕ → List ℕ → List ℕ → List ℕ
 printed sheet question register = text-of (job-of sheet question register .outcome) (records (register-in register)) (job-of sheet question register .answer)
 
@@ -29,7 +31,7 @@ pub record Prints (text : List ℕ) (n : ℕ) (area : List ℕ) : Type 0 where
   pub within : n ≤ length area
   pub bytes : take n area ≡ text
 
--- ---- what the code computes on the way
+-- ---- what the code computes on the way; nothing that is printed rests on it
 -- the text of an answer on a register
 abbrev pub answer-of : ℕ → List ℕ → Register → List ℕ
 answer-of members words r = answer-text members (pair-at words 0 (row-words (records r))) (records r)

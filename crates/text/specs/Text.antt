@@ -20,7 +20,7 @@ abbrev pub last-digits : ℕ → ℕ → List ℕ
 last-digits zero n = []
 last-digits (suc k) n = cond (ltb n 10) ((48 + n) ∷ []) (last-digits k (n / 10) ++ ((48 + n % 10) ∷ []))
 
--- the decimal digits of a number below 2^64
+-- the decimal digits of a number of 64 bits, of which it has at most 20
 unfoldable pub decimal : ℕ → List ℕ
 decimal n = last-digits 20 n
 
@@ -33,21 +33,32 @@ line s t = decimal s ++ (32 ∷ (decimal t ++ (10 ∷ [])))
 unfoldable pub row-lines : (ℕ → Bool) → ℕ → ℕ → List ℕ
 row-lines f s n = concat-map (line s) (filter f (range n))
 
--- and for each s below n
+-- the same for each s below n
 unfoldable pub lines : (ℕ → ℕ → Bool) → ℕ → List ℕ
 lines f n = concat-map (λ s. row-lines (f s) s n) (range n)
 
+-- how many pairs that are
 unfoldable pub count : (ℕ → ℕ → Bool) → ℕ → ℕ
 count f n = length (concat-map (λ s. filter (f s) (range n)) (range n))
 
--- ---- the whole text
--- `members m pairs p`, and the pairs
-unfoldable pub answer-text : ℕ → (ℕ → ℕ → Bool) → ℕ → List ℕ
-answer-text m f n =
-    ((109 ∷ 101 ∷ 109 ∷ 98 ∷ 101 ∷ 114 ∷ 115 ∷ 32 ∷ []) ++ decimal m)
-    ++ (((32 ∷ 112 ∷ 97 ∷ 105 ∷ 114 ∷ 115 ∷ 32 ∷ []) ++ decimal (count f n)) ++ ((10 ∷ []) ++ lines f n))
+-- ---- words, in ASCII
+-- `members `
+abbrev pub members-word : List ℕ
+members-word = 109 ∷ 101 ∷ 109 ∷ 98 ∷ 101 ∷ 114 ∷ 115 ∷ 32 ∷ []
 
--- ` in sheet`, ` in question`, ` in narrowed`, ` in register`, ` in work`
+-- ` pairs `
+abbrev pub pairs-word : List ℕ
+pairs-word = 32 ∷ 112 ∷ 97 ∷ 105 ∷ 114 ∷ 115 ∷ 32 ∷ []
+
+-- `refused `
+abbrev pub refused-word : List ℕ
+refused-word = 114 ∷ 101 ∷ 102 ∷ 117 ∷ 115 ∷ 101 ∷ 100 ∷ 32 ∷ []
+
+-- ` at `
+abbrev pub at-word : List ℕ
+at-word = 32 ∷ 97 ∷ 116 ∷ 32 ∷ []
+
+-- `sheet`, `question`, `narrowed`, `register`, `work`
 abbrev pub name-of : Source → List ℕ
 name-of Sheet = 115 ∷ 104 ∷ 101 ∷ 101 ∷ 116 ∷ []
 name-of Question = 113 ∷ 117 ∷ 101 ∷ 115 ∷ 116 ∷ 105 ∷ 111 ∷ 110 ∷ []
@@ -55,13 +66,18 @@ name-of Narrowed = 110 ∷ 97 ∷ 114 ∷ 114 ∷ 111 ∷ 119 ∷ 101 ∷ 100 �
 name-of Register = 114 ∷ 101 ∷ 103 ∷ 105 ∷ 115 ∷ 116 ∷ 101 ∷ 114 ∷ []
 name-of Work = 119 ∷ 111 ∷ 114 ∷ 107 ∷ []
 
+-- ` in `, and the name
 abbrev pub in-source : Source → List ℕ
 in-source f = 32 ∷ 105 ∷ 110 ∷ 32 ∷ name-of f
 
+-- ---- the whole text
+-- `members m pairs p`, and the pairs
+unfoldable pub answer-text : ℕ → (ℕ → ℕ → Bool) → ℕ → List ℕ
+answer-text m f n = (members-word ++ decimal m) ++ ((pairs-word ++ decimal (count f n)) ++ ((10 ∷ []) ++ lines f n))
+
 -- `refused n in f at p`
 unfoldable pub refusal-text : Source → ℕ → ℕ → List ℕ
-refusal-text f n p =
-    ((114 ∷ 101 ∷ 102 ∷ 117 ∷ 115 ∷ 101 ∷ 100 ∷ 32 ∷ []) ++ decimal n) ++ (in-source f ++ (((32 ∷ 97 ∷ 116 ∷ 32 ∷ []) ++ decimal p) ++ (10 ∷ [])))
+refusal-text f n p = (refused-word ++ decimal n) ++ (in-source f ++ ((at-word ++ decimal p) ++ (10 ∷ [])))
 
 -- of a call's outcome, and the words of its answer on n records
 abbrev pub text-of : Outcome Size → ℕ → List ℕ → List ℕ

@@ -37,7 +37,7 @@ fn page() -> [u8; 131128]
     [0; 131128]
 }
 
-// What is printed of an accepted job. Its register is read once more for the number of records.
+// What is printed of an accepted job. Its register is read once more for the number of records, and so is never refused here.
 fn put_answer(out: &mut [u8], members: usize, answer: &[u64], register: &[u8]) -> usize
     requires { ⌜ Fits (now register) (now answer) × (131128 ≤ length (now out)) ⌝ }
     ensures { λ r. ⌜ Wrote (now (out .entry)) (now (out .exit)) 0 r (answer-of members (now (answer .entry)) (register-in (now (register .entry)))) ⌝ }

@@ -1,12 +1,10 @@
 -- Laws of the table of tags, from a row on.
 -- Assumes nothing.
-use Prim.Native.Nat.{ℕ, _+_, _<_, _≤_}
+use Prim.Native.Nat.{ℕ}
 use mathlib.Core.Path.{_≡_, refl, sym, ap, _∙_}
 use mathlib.Core.Bool.{Bool, true, false, cond, not, _&&_, _||_, true≢false, false≢true}
 use mathlib.Core.List.{List, [], _∷_}
-use lib.ListN.{length, getD, drop, drop-of-length-le}
-use lib.Seq.{drop-cons}
-use native.Mathlib.Numerals.{add-one}
+use lib.ListN.{getD}
 use Rattle.fields.specs.declared.File.{File}
 use Rattle.fields.specs.declared.Row.{Row}
 use Rattle.fields.specs.Table.{rows, allowed, matching, among, length-in, tag-length}
@@ -14,22 +12,12 @@ use Rattle.fields.proofs.Bools.{and-left, and-right}
 use borrow.Author.Tests.{eqb-true}
 use lib.Dec.{eqb}
 
-module _ (rs : List Row) (f : File) (t n i : ℕ) (d : Row) (h : i < length rs) where
-  -- the rows from i on: row i, and those from i + 1 on
-  pub among-at : among (drop i rs) f t n ≡ (matching (getD rs i d) f t n || among (drop (i + 1) rs) f t n)
-  unfolding among
-  among-at = rw (add-one, drop-cons rs i d h)
+abbrev row-at : ℕ → Row
+row-at i = getD rows i (0, 0, false, false, false, false)
 
-  pub among-hit : matching (getD rs i d) f t n ≡ true → true ≡ among (drop i rs) f t n
-  among-hit e = rw (among-at, e)
-
-  pub among-miss : matching (getD rs i d) f t n ≡ false → among (drop i rs) f t n ≡ among (drop (i + 1) rs) f t n
-  among-miss e = rw (among-at, e)
-
--- no row is left
-pub among-end : (rs : List Row) (f : File) (t n i : ℕ) → length rs ≤ i → false ≡ among (drop i rs) f t n
-unfolding among
-among-end rs f t n i h = rw (drop-of-length-le rs h)
+-- what row i says of its own tag, it says of a tag that is equal
+pub by-row : (i : ℕ) (f : File) (t n : ℕ) → t ≡ row-at i .0 → matching (row-at i) f (row-at i .0) n ≡ among rows f (row-at i .0) n → matching (row-at i) f t n ≡ among rows f t n
+by-row i f t n e h = rw e h
 
 -- ---- the rule of the table: each tag has one length
 abbrev tagged : ℕ → List Row → Bool

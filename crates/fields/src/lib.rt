@@ -150,18 +150,25 @@ fn matches(row: Row, file: File, tag: u8, len: u16) -> bool
     false
 }
 
-// The table has the tag with this length for the file.
+// The table has the tag with this length for the file. Each tag names its row by a constant, since a row at an index that is only known
+// when it runs costs a copy of the whole table.
 fn own(file: File, tag: u8, len: u16) -> bool
     ensures { λ r. ⌜ r ≡ among rows file tag len ⌝ }
 {
-    let mut i: usize = 0;
-    while i < 11 {
-        if matches(ROWS[i], file, tag, len) {
-            return true;
-        }
-        i += 1;
+    match tag {
+        0x11 => matches(ROWS[0], file, tag, len),
+        0x12 => matches(ROWS[1], file, tag, len),
+        0x21 => matches(ROWS[2], file, tag, len),
+        0x31 => matches(ROWS[3], file, tag, len),
+        0x32 => matches(ROWS[4], file, tag, len),
+        0x33 => matches(ROWS[5], file, tag, len),
+        0x41 => matches(ROWS[6], file, tag, len),
+        0x42 => matches(ROWS[7], file, tag, len),
+        0x43 => matches(ROWS[8], file, tag, len),
+        0x44 => matches(ROWS[9], file, tag, len),
+        0x45 => matches(ROWS[10], file, tag, len),
+        _ => false,
     }
-    false
 }
 
 // What is due at a place: the tags lo to hi; whether the file may end there; whether it must.

@@ -17,7 +17,7 @@ use Rattle.theory.specs.Lists.{some?, range}
 use Rattle.theory.specs.Evaluation.{join?}
 use Rattle.rows.specs.Row.{row-bit, Row}
 use Rattle.rows.proofs.Words.{le-or-lt}
-use Rattle.rows.proofs.Ranges.{some-suc, some-same, some-add, some-skip, some-cut}
+use Rattle.rows.proofs.Ranges.{some-suc, some-same, some-none, some-no, some-add, some-skip, some-cut}
 use Rattle.rows.proofs.Rows.{row-is, row-then, row-same}
 use Rattle.relation.specs.Pairs.{pair-at, Made, CleanRow, taken, taken-row}
 use Rattle.relation.proofs.Combining.{row-ahead}
@@ -168,6 +168,13 @@ words-all {xs = xs} ms m d q n w p r hm hn c =
   where
     none : (t z : ℕ) → n ≤ z → z / 64 < w → by-row xs ms d q w t z ≡ false
     none t z l h = ap (λ (b : Bool). b && (pair-at xs q w z t && row-bit ms 0 z)) (clean-past xs d n w z c h l)
+
+-- an empty row takes nothing in
+pub row-none : (xs ms : List ℕ) (d q n w : ℕ) → some? (row-bit xs d) (range (64 * w)) ≡ false → n ≤ 64 * w → Row d w (λ t. some? (by-row xs ms d q w t) (range n)) xs xs
+row-none xs ms d q n w e hn =
+    row-is (row-same d w xs) (λ t h.
+    some-no (row-bit xs d) (64 * w) t e (omega arith)
+    ∙ sym (some-none (by-row xs ms d q w t) n (λ z l. ap (λ (b : Bool). b && (pair-at xs q w z t && row-bit ms 0 z)) (some-no (row-bit xs d) (64 * w) z e (omega arith)))))
 
 -- ---- the rows of the relation at p, one after another
 pub join-more : {xs ys zs : List ℕ} {s : ℕ} (ms : List ℕ) (p q n w : ℕ) → Made p s w (join? n (row-bit ms 0) (pair-at xs p w) (pair-at xs q w)) xs ys

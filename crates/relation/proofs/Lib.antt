@@ -4,11 +4,13 @@ pub mod Making
 pub mod Combining
 -- rows with no bit of n or more
 pub mod Clean
--- one pair more
+-- one row written, one pair more
 pub mod Pair
 -- joins
 pub mod Joining
 -- branches
 pub mod Branches
+-- the rows that are not empty
+pub mod Listing
 -- the transitive closure
 pub mod Closing

@@ -12,6 +12,7 @@ ghost use Rattle.theory.specs.PathExpr.{union, conjunction, branch-right, branc
 ghost use Rattle.theory.specs.Evaluation.{join?, op?};
 ghost use Rattle.rows.specs.Row.{row-bit, Row, mask-of};
 ghost use Rattle.relation.specs.Pairs.{pair-at, Made, Clean, CleanRow, taken, taken-row, through};
+ghost use Rattle.relation.specs.Sources.{Sources};
 
 // The relation at b has the pair (s, t) too.
 pub fn set_pair(work: &mut [u64], b: usize, n: usize, w: usize, s: usize, t: usize)
@@ -48,14 +49,16 @@ fn take_row(row: &mut [u64], work: &[u64], d: usize, q: usize, n: usize, w: usiz
     }
 }
 
-// The row at d becomes the union of the rows z of the relation at q, for each z that the row at d and the mask have.
+// The row at d becomes the union of the rows z of the relation at q, for each z that the row at d and the mask have. An empty one stays.
 fn join_row(work: &mut [u64], d: usize, q: usize, n: usize, w: usize, mask: &[u64])
     requires { ⌜ (d + w ≤ q) × (q + n * w ≤ length (now work)) × (w ≤ 16) × (n ≤ 64 * w) × (w ≤ length (now mask)) × CleanRow (now work) d n w ⌝ }
     ensures { λ _. ⌜ Row d w (λ t. some? (λ z. row-bit (now (work .entry)) d z && (pair-at (now (work .entry)) q w z t && row-bit (now (mask .entry)) 0 z)) (range n)) (now (work .entry)) (now (work .exit)) ⌝ }
 {
-    let mut row = [0u64; 16];
-    take_row(&mut row, work, d, q, n, w, mask);
-    rows::copy(work, d, &row, 0, w);
+    if rows::any(work, d, w) {
+        let mut row = [0u64; 16];
+        take_row(&mut row, work, d, q, n, w, mask);
+        rows::copy(work, d, &row, 0, w);
+    }
 }
 
 // The relation at p becomes its join with the one at q, through the records that the mask has.
@@ -177,35 +180,71 @@ fn close_row(work: &mut [u64], d: usize, w: usize, k: usize, row: &[u64])
     }
 }
 
-fn close_rows(work: &mut [u64], b: usize, n: usize, w: usize, k: usize, row: &[u64])
-    requires { ⌜ (b + n * w ≤ length (now work)) × (n ≤ 64 * w) × (k < n) × (w ≤ length (now row)) ⌝ }
-    requires { ⌜ ((t : ℕ) → t / 64 < w → row-bit (now row) 0 t ≡ pair-at (now work) b w k t) ⌝ }
+fn close_rows(
+    work: &mut [u64],
+    b: usize,
+    n: usize,
+    w: usize,
+    k: usize,
+    row: &[u64],
+    list: &[usize],
+    count: usize,
+)
+    requires { ⌜ (b + n * w ≤ length (now work)) × (n ≤ 64 * w) × (k < n) × (w ≤ length (now row)) × (count ≤ length (now list)) ⌝ }
+    requires { ⌜ ((t : ℕ) → t / 64 < w → row-bit (now row) 0 t ≡ pair-at (now work) b w k t) × Sources (now list) count (now work) b n w ⌝ }
     ensures { λ _. ⌜ Made b n w (through k (pair-at (now (work .entry)) b w)) (now (work .entry)) (now (work .exit)) ⌝ }
 {
-    for s in 0..n {
-        close_row(work, b + s * w, w, k, row);
+    for i in 0..count {
+        close_row(work, b + list[i] * w, w, k, row);
     }
 }
 
-// One round of Warshall's. Row k is copied first, so that no word of it lies where the round writes; an empty one adds nothing.
-fn close_through(work: &mut [u64], b: usize, n: usize, w: usize, k: usize)
-    requires { ⌜ (b + n * w ≤ length (now work)) × (n ≤ 64 * w) × (k < n) × (w ≤ 16) ⌝ }
+// One round of Warshall's. Row k is copied first, so that no word of it lies where the round writes; an empty one adds nothing, and an
+// empty row takes nothing in, so that only the rows in the list are looked at.
+fn close_through(
+    work: &mut [u64],
+    b: usize,
+    n: usize,
+    w: usize,
+    k: usize,
+    list: &[usize],
+    count: usize,
+)
+    requires { ⌜ (b + n * w ≤ length (now work)) × (n ≤ 64 * w) × (k < n) × (w ≤ 16) × (count ≤ length (now list)) × Sources (now list) count (now work) b n w ⌝ }
     ensures { λ _. ⌜ Made b n w (through k (pair-at (now (work .entry)) b w)) (now (work .entry)) (now (work .exit)) ⌝ }
 {
     let mut row = [0u64; 16];
     rows::copy(&mut row, 0, work, b + k * w, w);
     if rows::any(&row, 0, w) {
-        close_rows(work, b, n, w, k, &row);
+        close_rows(work, b, n, w, k, &row, list, count);
     }
 }
 
-// The relation at b becomes its transitive closure.
+// The list becomes the rows of the relation at b that are not empty; their number.
+fn occupied(list: &mut [usize], work: &[u64], b: usize, n: usize, w: usize) -> usize
+    requires { ⌜ (b + n * w ≤ length (now work)) × (n ≤ length (now list)) ⌝ }
+    ensures { λ c. ⌜ (c ≤ n) × (length (now (list .exit)) ≡ length (now (list .entry))) × Sources (now (list .exit)) c (now (work .entry)) b n w ⌝ }
+{
+    let mut count = 0;
+    for s in 0..n {
+        if rows::any(work, b + s * w, w) {
+            list[count] = s;
+            count = count + 1;
+        }
+    }
+    count
+}
+
+// The relation at b becomes its transitive closure. A round adds a pair only to a row that has one, so that the rows with one are listed
+// once.
 pub fn closure(work: &mut [u64], b: usize, n: usize, w: usize)
     requires { ⌜ (b + n * w ≤ length (now work)) × (n ≤ 64 * w) × (w ≤ 16) × Clean (now work) b n w ⌝ }
     ensures { λ _. ⌜ Made b n w (look (closure? n (pair-at (now (work .entry)) b w))) (now (work .entry)) (now (work .exit)) ⌝ }
 {
+    let mut list = [0usize; 1024];
+    let count = occupied(&mut list, work, b, n, w);
     for k in 0..n {
-        close_through(work, b, n, w, k);
+        close_through(work, b, n, w, k, &list, count);
     }
 }
 

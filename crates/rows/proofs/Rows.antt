@@ -71,7 +71,7 @@ module _ {d w : ℕ} {xs ys : List ℕ} (rs : List ℕ) (s : ℕ) where
   }
 
 -- ---- one bit
-eq-or-ne : (a b : ℕ) → (a ≡ b) ⊎ (a ≡ b → ⊥)
+pub eq-or-ne : (a b : ℕ) → (a ≡ b) ⊎ (a ≡ b → ⊥)
 eq-or-ne a b = ⊎-elim (λ l. ⊎-elim inl (λ m. inr (omega arith)) (eq-or-lt-of-le l)) (λ l. inr (omega arith)) (le-or-lt a b)
 
 -- two tests that hold together

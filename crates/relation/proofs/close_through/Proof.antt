@@ -1,9 +1,9 @@
 -- `relation::close_through` meets its contract.
 -- Assumes nothing.
-use mathlib.Core.Path.{sym, _∙_}
-use Rattle.relation.proofs.Closing.{close-none}
-use Rattle.relation.proofs.Making.{row-le}
 use native.Mathlib.Omega.{arith}
+use mathlib.Core.Path.{sym, _∙_}
+use Rattle.relation.proofs.Making.{row-le}
+use Rattle.relation.proofs.Closing.{close-none}
 use borrow.Author.Needs.{needs}
 use Rattle.relation.proofs.close_through.Statement.{statement}
 use Rattle.relation.proofs.close_through.Tie as tie
@@ -17,13 +17,13 @@ slice-aggregate-copy : tie.Need-slice-aggregate-copy
 slice-aggregate-copy c = search needs
 
 mul-copy : tie.Need-mul-copy
-mul-copy c = omega (arith, row-le (c .before .before .before .args .w) (c .before .before .before .pre .2))
+mul-copy c = omega (arith, row-le (c .before .before .before .before .args .w) (c .before .before .before .before .pre .2))
 
 add-copy : tie.Need-add-copy
-add-copy c = omega (arith, row-le (c .before .before .before .args .w) (c .before .before .before .pre .2))
+add-copy c = omega (arith, row-le (c .before .before .before .before .args .w) (c .before .before .before .before .pre .2))
 
 copy-requires : tie.Need-copy-requires
-copy-requires c κs = omega (arith, row-le (c .before .before .before .args .w) (c .before .before .before .pre .2))
+copy-requires c κs = omega (arith, row-le (c .before .before .before .before .args .w) (c .before .before .before .before .pre .2))
 
 slice-aggregate-any : tie.Need-slice-aggregate-any
 slice-aggregate-any c = search needs
@@ -35,7 +35,9 @@ slice-aggregate-close-rows : tie.Need-slice-aggregate-close-rows
 slice-aggregate-close-rows c = search needs
 
 close-rows-requires : tie.Need-close-rows-requires
-close-rows-requires c κs = search needs
+close-rows-requires c κs =
+    let p = c .before .before .before .before .before .before .before .before .before .before .before .pre in
+    ((p .0, p .1, p .2, search needs, p .4), (search needs, p .5))
 
 same-length : tie.Need-same-length
 same-length c = search needs
@@ -47,7 +49,7 @@ same-length-2 : tie.Need-same-length-2
 same-length-2 c = search needs
 
 returns-2 : tie.Need-returns-2
-returns-2 c = close-none _ _ (c .before .before .before .before .before .before .before .before .args .k) _ (c .before .before .before .before .copy .ensures) (sym (c .before .any .ensures) ∙ c .if1 .left)
+returns-2 c = close-none _ _ (c .before .before .before .before .before .before .before .before .before .args .k) _ (c .before .before .before .before .copy .ensures) (sym (c .before .any .ensures) ∙ c .if1 .left)
 
 pub close-through-spec : {M : Type 1} → statement M
 close-through-spec =

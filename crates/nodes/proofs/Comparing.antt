@@ -37,6 +37,10 @@ decides-no n = record { holds = λ e. absurd (false≢true e); fails = λ e. n }
 decides-as : {P Q : Type 0} {r : Bool} → (P → Q) → (Q → P) → Decides P r → Decides Q r
 decides-as f g d = record { holds = λ e. f (d .holds e); fails = λ e q. d .fails e (g q) }
 
+-- one node has one path
+pub same-node : (q ws : List ℕ) {a b : ℕ} → a ≡ b → Decides (triple-of q ws a .path ≡ triple-of q ws b .path) true
+same-node q ws e = decides-yes (ap (λ (i : ℕ). triple-of q ws i .path) e)
+
 -- ---- parts of a list
 pub take-both : (q : List ℕ) (s t j : ℕ) → s + j < length q → t + j < length q → take j (drop s q) ≡ take j (drop t q) → getD q (s + j) 0 ≡ getD q (t + j) 0
     → take (j + 1) (drop s q) ≡ take (j + 1) (drop t q)

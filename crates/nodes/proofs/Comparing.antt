@@ -126,6 +126,9 @@ module _ {qs ws : List ℕ} {used a b : ℕ} (ha : Has qs ws used a) (hb : Has q
       pub lefts-differ : ¬ Left → Same false
       lefts-differ k = decides-no (λ e. k (operands e .0))
 
+      pub rights-differ : ¬ (node-at ws (x .right) .made ≡ node-at ws (y .right) .made) → Same false
+      rights-differ k = decides-no (λ e. k (sym (last-made (rights-has .0) _ refl) ∙ ap last-code (operands e .1) ∙ last-made (rights-has .1) _ refl))
+
       pub same-rights : {r : Bool} → (x .made ≡ 128 → node-at ws (x .left) .to ≡ node-at ws (y .left) .to) → Left → Decides Right r → Same r
       same-rights k el d = decides-as alike (λ e. operands e .1) d
         where

@@ -4,7 +4,7 @@ use mathlib.Core.Logic.{⊎-elim}
 use borrow.Author.Tests.{not-true, not-false}
 use Rattle.nodes.specs.declared.Node.{Node}
 use Rattle.nodes.proofs.Nodes.{left-less, right-less, kept-copied}
-use Rattle.nodes.proofs.Comparing.{same-node, made-differ, same-steps, same-kept, lefts-has, rights-has, kinds-differ, lefts-differ, same-rights}
+use Rattle.nodes.proofs.Comparing.{same-node, made-differ, same-steps, same-kept, lefts-has, rights-has, kinds-differ, lefts-differ, rights-differ, same-rights}
 use mathlib.Core.Path.{sym, ap, _∙_, subst}
 use native.Mathlib.Omega.{arith}
 use Prim.Native.Nat.{ℕ, _<_}
@@ -53,28 +53,37 @@ same-path-returns-4 : (t : ℕ) → same-path-lts.Need-returns-4 (callees t) (sa
 same-path-returns-4 t c = same-kept (c .before .before .before .before .before .before .before .before .before .before .pre .1 .0) (c .before .before .before .before .before .before .before .before .before .before .pre .1 .1) (c .before .before .before .before .before .before .load .ensures .is) (c .before .before .before .before .before .load2 .ensures .is) (c .before .before .before .if2 .left) (c .before .if4 .taken) (c .same-codes .ensures)
 
 same-path-load-requires-3 : (t : ℕ) → same-path-lts.Need-load-requires-3 (callees t) (same-path-at t) same-path.Post
-same-path-load-requires-3 t c κs = let h = lefts-has (c .before .before .before .before .before .before .before .before .before .before .pre .1 .0) (c .before .before .before .before .before .before .before .before .before .before .pre .1 .1) (c .before .before .before .before .before .before .load .ensures .is) (c .before .before .before .before .before .load2 .ensures .is) (c .before .before .before .if2 .left) (c .before .before .if3 .left) (c .before .if4 .left) .0 in omega arith
+same-path-load-requires-3 t c κs = let h = rights-has (c .before .before .before .before .before .before .before .before .before .pre .1 .0) (c .before .before .before .before .before .before .before .before .before .pre .1 .1) (c .before .before .before .before .before .load .ensures .is) (c .before .before .before .before .load2 .ensures .is) (c .before .before .if2 .left) (c .before .if3 .left) (c .if4 .left) .0 in omega (arith, h .in-use, h .in-table)
 
 same-path-load-requires-4 : (t : ℕ) → same-path-lts.Need-load-requires-4 (callees t) (same-path-at t) same-path.Post
-same-path-load-requires-4 t c κs = let h = lefts-has (c .before .before .before .before .before .before .before .before .before .before .before .pre .1 .0) (c .before .before .before .before .before .before .before .before .before .before .before .pre .1 .1) (c .before .before .before .before .before .before .before .load .ensures .is) (c .before .before .before .before .before .before .load2 .ensures .is) (c .before .before .before .before .if2 .left) (c .before .before .before .if3 .left) (c .before .before .if4 .left) .1 in omega arith
+same-path-load-requires-4 t c κs = let h = rights-has (c .before .before .before .before .before .before .before .before .before .before .pre .1 .0) (c .before .before .before .before .before .before .before .before .before .before .pre .1 .1) (c .before .before .before .before .before .before .load .ensures .is) (c .before .before .before .before .before .load2 .ensures .is) (c .before .before .before .if2 .left) (c .before .before .if3 .left) (c .before .if4 .left) .1 in omega (arith, h .in-use, h .in-table)
 
 same-path-returns-5 : (t : ℕ) → same-path-lts.Need-returns-5 (callees t) (same-path-at t) same-path.Post
-same-path-returns-5 t c = kinds-differ (c .before .before .before .before .before .before .before .before .before .before .before .before .before .before .before .pre .1 .0) (c .before .before .before .before .before .before .before .before .before .before .before .before .before .before .before .pre .1 .1) (c .before .before .before .before .before .before .before .before .before .before .before .load .ensures .is) (c .before .before .before .before .before .before .before .before .before .before .load2 .ensures .is) (c .before .before .before .before .before .before .before .before .if2 .left) (c .before .before .before .before .before .before .before .if3 .left) (c .before .before .before .before .before .before .if4 .left) (c .before .before .before .before .before .if5 .taken) (λ e. c .if6 .taken (ap (λ (n : Node). n .to) (c .before .before .before .before .load3 .ensures .is) ∙ e ∙ sym (ap (λ (n : Node). n .to) (c .before .before .before .load4 .ensures .is))))
+same-path-returns-5 t c = rights-differ (c .before .before .before .before .before .before .before .before .before .before .before .before .before .before .pre .1 .0) (c .before .before .before .before .before .before .before .before .before .before .before .before .before .before .pre .1 .1) (c .before .before .before .before .before .before .before .before .before .before .load .ensures .is) (c .before .before .before .before .before .before .before .before .before .load2 .ensures .is) (c .before .before .before .before .before .before .before .if2 .left) (c .before .before .before .before .before .before .if3 .left) (c .before .before .before .before .before .if4 .left) (λ e. c .if5 .taken (ap (λ (n : Node). n .made) (c .before .before .before .before .load3 .ensures .is) ∙ e ∙ sym (ap (λ (n : Node). n .made) (c .before .before .before .load4 .ensures .is))))
 
-same-path-same-path-requires : (t : ℕ) → same-path-lts.Need-same-path-requires (callees t) (same-path-at t) same-path.Post
-same-path-same-path-requires t c κs = (subst (λ (j : ℕ). c .before .before .before .before .before .before .load .result .left < j) (c .before .before .before .before .before .before .before .before .before .before .pre .0) (left-less (c .before .before .before .before .before .before .before .before .before .before .pre .1 .0) _ (c .before .before .before .before .before .before .load .ensures .is) (c .before .before .if3 .left) (c .before .if4 .left)), lefts-has (c .before .before .before .before .before .before .before .before .before .before .pre .1 .0) (c .before .before .before .before .before .before .before .before .before .before .pre .1 .1) (c .before .before .before .before .before .before .load .ensures .is) (c .before .before .before .before .before .load2 .ensures .is) (c .before .before .before .if2 .left) (c .before .before .if3 .left) (c .before .if4 .left))
+same-path-load-requires-5 : (t : ℕ) → same-path-lts.Need-load-requires-5 (callees t) (same-path-at t) same-path.Post
+same-path-load-requires-5 t c κs = let h = lefts-has (c .before .before .before .before .before .before .before .before .before .before .before .before .before .before .before .pre .1 .0) (c .before .before .before .before .before .before .before .before .before .before .before .before .before .before .before .pre .1 .1) (c .before .before .before .before .before .before .before .before .before .before .before .load .ensures .is) (c .before .before .before .before .before .before .before .before .before .before .load2 .ensures .is) (c .before .before .before .before .before .before .before .before .if2 .left) (c .before .before .before .before .before .before .before .if3 .left) (c .before .before .before .before .before .before .if4 .left) .0 in omega arith
+
+same-path-load-requires-6 : (t : ℕ) → same-path-lts.Need-load-requires-6 (callees t) (same-path-at t) same-path.Post
+same-path-load-requires-6 t c κs = let h = lefts-has (c .before .before .before .before .before .before .before .before .before .before .before .before .before .before .before .before .pre .1 .0) (c .before .before .before .before .before .before .before .before .before .before .before .before .before .before .before .before .pre .1 .1) (c .before .before .before .before .before .before .before .before .before .before .before .before .load .ensures .is) (c .before .before .before .before .before .before .before .before .before .before .before .load2 .ensures .is) (c .before .before .before .before .before .before .before .before .before .if2 .left) (c .before .before .before .before .before .before .before .before .if3 .left) (c .before .before .before .before .before .before .before .if4 .left) .1 in omega arith
 
 same-path-returns-6 : (t : ℕ) → same-path-lts.Need-returns-6 (callees t) (same-path-at t) same-path.Post
-same-path-returns-6 t c = lefts-differ (c .before .before .before .before .before .before .before .before .before .before .before .before .pre .1 .0) (c .before .before .before .before .before .before .before .before .before .before .before .before .pre .1 .1) (c .before .before .before .before .before .before .before .before .load .ensures .is) (c .before .before .before .before .before .before .before .load2 .ensures .is) (c .before .before .before .before .before .if2 .left) (c .before .before .before .before .if3 .left) (c .before .before .before .if4 .left) (c .before .same-path .ensures .fails (not-true _ (c .if7 .taken)))
+same-path-returns-6 t c = kinds-differ (c .before .before .before .before .before .before .before .before .before .before .before .before .before .before .before .before .before .before .before .before .pre .1 .0) (c .before .before .before .before .before .before .before .before .before .before .before .before .before .before .before .before .before .before .before .before .pre .1 .1) (c .before .before .before .before .before .before .before .before .before .before .before .before .before .before .before .before .load .ensures .is) (c .before .before .before .before .before .before .before .before .before .before .before .before .before .before .before .load2 .ensures .is) (c .before .before .before .before .before .before .before .before .before .before .before .before .before .if2 .left) (c .before .before .before .before .before .before .before .before .before .before .before .before .if3 .left) (c .before .before .before .before .before .before .before .before .before .before .before .if4 .left) (c .before .before .before .before .before .if6 .taken) (λ e. c .if7 .taken (ap (λ (n : Node). n .to) (c .before .before .before .before .load5 .ensures .is) ∙ e ∙ sym (ap (λ (n : Node). n .to) (c .before .before .before .load6 .ensures .is))))
 
-same-path-same-path-requires-2 : (t : ℕ) → same-path-lts.Need-same-path-requires-2 (callees t) (same-path-at t) same-path.Post
-same-path-same-path-requires-2 t c κs = (subst (λ (j : ℕ). c .before .before .before .before .before .before .before .before .load .result .right < j) (c .before .before .before .before .before .before .before .before .before .before .before .before .pre .0) (right-less (c .before .before .before .before .before .before .before .before .before .before .before .before .pre .1 .0) _ (c .before .before .before .before .before .before .before .before .load .ensures .is) (c .before .before .before .before .if3 .left) (c .before .before .before .if4 .left)), rights-has (c .before .before .before .before .before .before .before .before .before .before .before .before .pre .1 .0) (c .before .before .before .before .before .before .before .before .before .before .before .before .pre .1 .1) (c .before .before .before .before .before .before .before .before .load .ensures .is) (c .before .before .before .before .before .before .before .load2 .ensures .is) (c .before .before .before .before .before .if2 .left) (c .before .before .before .before .if3 .left) (c .before .before .before .if4 .left))
+same-path-same-path-requires : (t : ℕ) → same-path-lts.Need-same-path-requires (callees t) (same-path-at t) same-path.Post
+same-path-same-path-requires t c κs = (subst (λ (j : ℕ). c .before .before .before .before .before .before .before .before .before .before .before .load .result .left < j) (c .before .before .before .before .before .before .before .before .before .before .before .before .before .before .before .pre .0) (left-less (c .before .before .before .before .before .before .before .before .before .before .before .before .before .before .before .pre .1 .0) _ (c .before .before .before .before .before .before .before .before .before .before .before .load .ensures .is) (c .before .before .before .before .before .before .before .if3 .left) (c .before .before .before .before .before .before .if4 .left)), lefts-has (c .before .before .before .before .before .before .before .before .before .before .before .before .before .before .before .pre .1 .0) (c .before .before .before .before .before .before .before .before .before .before .before .before .before .before .before .pre .1 .1) (c .before .before .before .before .before .before .before .before .before .before .before .load .ensures .is) (c .before .before .before .before .before .before .before .before .before .before .load2 .ensures .is) (c .before .before .before .before .before .before .before .before .if2 .left) (c .before .before .before .before .before .before .before .if3 .left) (c .before .before .before .before .before .before .if4 .left))
 
 same-path-returns-7 : (t : ℕ) → same-path-lts.Need-returns-7 (callees t) (same-path-at t) same-path.Post
-same-path-returns-7 t c =
-    same-rights (c .before .before .before .before .before .before .before .before .before .before .before .before .before .pre .1 .0) (c .before .before .before .before .before .before .before .before .before .before .before .before .before .pre .1 .1) (c .before .before .before .before .before .before .before .before .before .load .ensures .is) (c .before .before .before .before .before .before .before .before .load2 .ensures .is) (c .before .before .before .before .before .before .if2 .left) (c .before .before .before .before .before .if3 .left) (c .before .before .before .before .if4 .left)
-    (⊎-elim (λ w j. sym (ap (λ (n : Node). n .to) (w .1 .ensures .is)) ∙ w .5 .left ∙ ap (λ (n : Node). n .to) (w .2 .ensures .is)) (λ w j. absurd (w .left j)) (c .before .before .before .if5 .came))
-    (c .before .before .same-path .ensures .holds (not-false _ (c .before .if7 .left))) (c .same-path2 .ensures)
+same-path-returns-7 t c = lefts-differ (c .before .before .before .before .before .before .before .before .before .before .before .before .before .before .before .before .before .pre .1 .0) (c .before .before .before .before .before .before .before .before .before .before .before .before .before .before .before .before .before .pre .1 .1) (c .before .before .before .before .before .before .before .before .before .before .before .before .before .load .ensures .is) (c .before .before .before .before .before .before .before .before .before .before .before .before .load2 .ensures .is) (c .before .before .before .before .before .before .before .before .before .before .if2 .left) (c .before .before .before .before .before .before .before .before .before .if3 .left) (c .before .before .before .before .before .before .before .before .if4 .left) (c .before .same-path .ensures .fails (not-true _ (c .if8 .taken)))
+
+same-path-same-path-requires-2 : (t : ℕ) → same-path-lts.Need-same-path-requires-2 (callees t) (same-path-at t) same-path.Post
+same-path-same-path-requires-2 t c κs = (subst (λ (j : ℕ). c .before .before .before .before .before .before .before .before .before .before .before .before .before .load .result .right < j) (c .before .before .before .before .before .before .before .before .before .before .before .before .before .before .before .before .before .pre .0) (right-less (c .before .before .before .before .before .before .before .before .before .before .before .before .before .before .before .before .before .pre .1 .0) _ (c .before .before .before .before .before .before .before .before .before .before .before .before .before .load .ensures .is) (c .before .before .before .before .before .before .before .before .before .if3 .left) (c .before .before .before .before .before .before .before .before .if4 .left)), rights-has (c .before .before .before .before .before .before .before .before .before .before .before .before .before .before .before .before .before .pre .1 .0) (c .before .before .before .before .before .before .before .before .before .before .before .before .before .before .before .before .before .pre .1 .1) (c .before .before .before .before .before .before .before .before .before .before .before .before .before .load .ensures .is) (c .before .before .before .before .before .before .before .before .before .before .before .before .load2 .ensures .is) (c .before .before .before .before .before .before .before .before .before .before .if2 .left) (c .before .before .before .before .before .before .before .before .before .if3 .left) (c .before .before .before .before .before .before .before .before .if4 .left))
+
+same-path-returns-8 : (t : ℕ) → same-path-lts.Need-returns-8 (callees t) (same-path-at t) same-path.Post
+same-path-returns-8 t c =
+    same-rights (c .before .before .before .before .before .before .before .before .before .before .before .before .before .before .before .before .before .before .pre .1 .0) (c .before .before .before .before .before .before .before .before .before .before .before .before .before .before .before .before .before .before .pre .1 .1) (c .before .before .before .before .before .before .before .before .before .before .before .before .before .before .load .ensures .is) (c .before .before .before .before .before .before .before .before .before .before .before .before .before .load2 .ensures .is) (c .before .before .before .before .before .before .before .before .before .before .before .if2 .left) (c .before .before .before .before .before .before .before .before .before .before .if3 .left) (c .before .before .before .before .before .before .before .before .before .if4 .left)
+    (⊎-elim (λ w j. sym (ap (λ (n : Node). n .to) (w .1 .ensures .is)) ∙ w .5 .left ∙ ap (λ (n : Node). n .to) (w .2 .ensures .is)) (λ w j. absurd (w .left j)) (c .before .before .before .if6 .came))
+    (c .before .before .same-path .ensures .holds (not-false _ (c .before .if8 .left))) (c .same-path2 .ensures)
 
 pub +same-path-spec : {M : Type 1} → statement M
 +same-path-spec = close μ-same-path λ t. same-path-lts.spec (callees t)
@@ -90,7 +99,10 @@ pub +same-path-spec : {M : Type 1} → statement M
     (same-path-load-requires-3 t)
     (same-path-load-requires-4 t)
     (same-path-returns-5 t)
-    (same-path-same-path-requires t)
+    (same-path-load-requires-5 t)
+    (same-path-load-requires-6 t)
     (same-path-returns-6 t)
-    (same-path-same-path-requires-2 t)
+    (same-path-same-path-requires t)
     (same-path-returns-7 t)
+    (same-path-same-path-requires-2 t)
+    (same-path-returns-8 t)

@@ -58,8 +58,8 @@ pub fn any(words: &[u64], r: usize, n: usize) -> bool
     false
 }
 
-// The row of n words at d becomes the one at s.
-pub fn copy(to: &mut [u64], d: usize, from: &[u64], s: usize, n: usize)
+// As `copy`, by a loop.
+fn copy_words(to: &mut [u64], d: usize, from: &[u64], s: usize, n: usize)
     requires { ⌜ (d + n ≤ length (now to)) × (s + n ≤ length (now from)) ⌝ }
     ensures { λ _. ⌜ Row d n (row-bit (now (from .entry)) s) (now (to .entry)) (now (to .exit)) ⌝ }
 {
@@ -68,8 +68,20 @@ pub fn copy(to: &mut [u64], d: usize, from: &[u64], s: usize, n: usize)
     }
 }
 
-// The row of n words at d takes in the bits of the one at s.
-pub fn unite(to: &mut [u64], d: usize, from: &[u64], s: usize, n: usize)
+// The row of n words at d becomes the one at s. A row of 16 words, that of the largest registers, is worth a loop of constant length.
+pub fn copy(to: &mut [u64], d: usize, from: &[u64], s: usize, n: usize)
+    requires { ⌜ (d + n ≤ length (now to)) × (s + n ≤ length (now from)) ⌝ }
+    ensures { λ _. ⌜ Row d n (row-bit (now (from .entry)) s) (now (to .entry)) (now (to .exit)) ⌝ }
+{
+    if n == 16 {
+        copy_words(to, d, from, s, 16);
+        return;
+    }
+    copy_words(to, d, from, s, n);
+}
+
+// As `unite`, by a loop.
+fn unite_words(to: &mut [u64], d: usize, from: &[u64], s: usize, n: usize)
     requires { ⌜ (d + n ≤ length (now to)) × (s + n ≤ length (now from)) ⌝ }
     ensures { λ _. ⌜ Row d n (λ t. row-bit (now (to .entry)) d t || row-bit (now (from .entry)) s t) (now (to .entry)) (now (to .exit)) ⌝ }
 {
@@ -78,8 +90,20 @@ pub fn unite(to: &mut [u64], d: usize, from: &[u64], s: usize, n: usize)
     }
 }
 
-// The row of n words at d loses the bits that the one at s lacks.
-pub fn restrict(to: &mut [u64], d: usize, from: &[u64], s: usize, n: usize)
+// The row of n words at d takes in the bits of the one at s. Of constant length at 16 words, as `copy`.
+pub fn unite(to: &mut [u64], d: usize, from: &[u64], s: usize, n: usize)
+    requires { ⌜ (d + n ≤ length (now to)) × (s + n ≤ length (now from)) ⌝ }
+    ensures { λ _. ⌜ Row d n (λ t. row-bit (now (to .entry)) d t || row-bit (now (from .entry)) s t) (now (to .entry)) (now (to .exit)) ⌝ }
+{
+    if n == 16 {
+        unite_words(to, d, from, s, 16);
+        return;
+    }
+    unite_words(to, d, from, s, n);
+}
+
+// As `restrict`, by a loop.
+fn restrict_words(to: &mut [u64], d: usize, from: &[u64], s: usize, n: usize)
     requires { ⌜ (d + n ≤ length (now to)) × (s + n ≤ length (now from)) ⌝ }
     ensures { λ _. ⌜ Row d n (λ t. row-bit (now (to .entry)) d t && row-bit (now (from .entry)) s t) (now (to .entry)) (now (to .exit)) ⌝ }
 {
@@ -88,12 +112,36 @@ pub fn restrict(to: &mut [u64], d: usize, from: &[u64], s: usize, n: usize)
     }
 }
 
-// The row of n words at d takes in those bits of the one at s that the mask has.
-pub fn unite_masked(to: &mut [u64], d: usize, from: &[u64], s: usize, mask: &[u64], n: usize)
+// The row of n words at d loses the bits that the one at s lacks. Of constant length at 16 words, as `copy`.
+pub fn restrict(to: &mut [u64], d: usize, from: &[u64], s: usize, n: usize)
+    requires { ⌜ (d + n ≤ length (now to)) × (s + n ≤ length (now from)) ⌝ }
+    ensures { λ _. ⌜ Row d n (λ t. row-bit (now (to .entry)) d t && row-bit (now (from .entry)) s t) (now (to .entry)) (now (to .exit)) ⌝ }
+{
+    if n == 16 {
+        restrict_words(to, d, from, s, 16);
+        return;
+    }
+    restrict_words(to, d, from, s, n);
+}
+
+// As `unite_masked`, by a loop.
+fn unite_masked_words(to: &mut [u64], d: usize, from: &[u64], s: usize, mask: &[u64], n: usize)
     requires { ⌜ (d + n ≤ length (now to)) × (s + n ≤ length (now from)) × (n ≤ length (now mask)) ⌝ }
     ensures { λ _. ⌜ Row d n (λ t. row-bit (now (to .entry)) d t || (row-bit (now (from .entry)) s t && row-bit (now (mask .entry)) 0 t)) (now (to .entry)) (now (to .exit)) ⌝ }
 {
     for j in 0..n {
         to[d + j] = to[d + j] | (from[s + j] & mask[j]);
     }
+}
+
+// The row of n words at d takes in those bits of the one at s that the mask has. Of constant length at 16 words, as `copy`.
+pub fn unite_masked(to: &mut [u64], d: usize, from: &[u64], s: usize, mask: &[u64], n: usize)
+    requires { ⌜ (d + n ≤ length (now to)) × (s + n ≤ length (now from)) × (n ≤ length (now mask)) ⌝ }
+    ensures { λ _. ⌜ Row d n (λ t. row-bit (now (to .entry)) d t || (row-bit (now (from .entry)) s t && row-bit (now (mask .entry)) 0 t)) (now (to .entry)) (now (to .exit)) ⌝ }
+{
+    if n == 16 {
+        unite_masked_words(to, d, from, s, mask, 16);
+        return;
+    }
+    unite_masked_words(to, d, from, s, mask, n);
 }

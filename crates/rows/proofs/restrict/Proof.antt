@@ -1,91 +1,37 @@
 -- `rows::restrict` meets its contract.
 -- Assumes nothing.
-use mathlib.Core.Path.{refl, ap₂}
-use lib.Bits.{bitAnd}
-use lib.ListN.{getD}
-use Rattle.rows.proofs.Rows.{row-and}
-use Rattle.rows.proofs.Words.{wrote-none, wrote-more, wrote-all, unwritten}
-use Rattle.rows.specs.Kept.{Wrote}
 use borrow.Author.Needs.{needs}
-use Prim.Native.Nat.{_+_, _-_, _≤_}
-use native.Mathlib.Omega.{arith}
 use Rattle.rows.proofs.restrict.Statement.{statement}
 use Rattle.rows.proofs.restrict.Tie as tie
 use Rattle.rows.proofs.restrict.Reads as reads
 use Rattle.rows.proofs.restrict.Lts as lts
+use Rattle.rows.proofs.restrict_words.Reads as restrict-words-reads
 
-abbrev Inv-loop : tie.InvT-loop
-Inv-loop to₀ d from s n j₀ to j = (j ≤ n) × Wrote d j (λ i. bitAnd (getD to₀ (d + i) 0) (getD from (s + i) 0)) to₀ to
+restrict-words-requires : tie.Need-restrict-words-requires
+restrict-words-requires c κs = search needs
 
-abbrev μ-loop : tie.MeasureT-loop
-μ-loop to₀ d from s n j₀ to j = n - j
-
-loop-holds : tie.Need-loop-holds Inv-loop μ-loop
-loop-holds c = (omega arith, wrote-none _ _ _)
-
-add-to : tie.Need-add-to Inv-loop μ-loop
-add-to c = search needs
-
-mul-to : tie.Need-mul-to Inv-loop μ-loop
-mul-to c = search needs
-
-slice-read-to : tie.Need-slice-read-to Inv-loop μ-loop
-slice-read-to c = search needs
-
-add-to-2 : tie.Need-add-to-2 Inv-loop μ-loop
-add-to-2 c = search needs
-
-mul-to-2 : tie.Need-mul-to-2 Inv-loop μ-loop
-mul-to-2 c = search needs
-
-shared-slice-read-to : tie.Need-shared-slice-read-to Inv-loop μ-loop
-shared-slice-read-to c = search needs
-
-add-to-3 : tie.Need-add-to-3 Inv-loop μ-loop
-add-to-3 c = search needs
-
-mul-to-3 : tie.Need-mul-to-3 Inv-loop μ-loop
-mul-to-3 c = search needs
-
-slice-write-to : tie.Need-slice-write-to Inv-loop μ-loop
-slice-write-to c = search needs
-
-add-j : tie.Need-add-j Inv-loop μ-loop
-add-j c = search needs
-
-loop-less : tie.Need-loop-less Inv-loop μ-loop
-loop-less c = search needs
-
-loop-again : tie.Need-loop-again Inv-loop μ-loop
-loop-again c =
-    let l = c .before .before .before in
-    let a = l .before .args in
-    (omega arith, wrote-more (l .loop .inv .1) (omega arith) (ap₂ bitAnd (unwritten (a .d) (a .n) (l .loop .inv .1) (λ h. omega arith) (omega arith)) refl))
-
-same-length : tie.Need-same-length Inv-loop μ-loop
+same-length : tie.Need-same-length
 same-length c = search needs
 
-returns : tie.Need-returns Inv-loop μ-loop
-returns c = row-and _ _ (wrote-all (c .before .loop .inv .1) (omega arith))
+returns : tie.Need-returns
+returns c = rw (c .before .before .before .before .if1 .taken) (c .before .before .restrict-words .ensures)
+
+restrict-words-requires-2 : tie.Need-restrict-words-requires-2
+restrict-words-requires-2 c κs = search needs
+
+same-length-2 : tie.Need-same-length-2
+same-length-2 c = search needs
+
+returns-2 : tie.Need-returns-2
+returns-2 c = search needs
 
 pub restrict-spec : {M : Type 1} → statement M
 restrict-spec =
     tie.close
     (tie.spec
-    Inv-loop
-    μ-loop
-    loop-holds
-    add-to
-    mul-to
-    slice-read-to
-    add-to-2
-    mul-to-2
-    shared-slice-read-to
-    add-to-3
-    mul-to-3
-    slice-write-to
-    add-j
-    loop-less
-    loop-again
+    restrict-words-requires
     same-length
-    returns)
+    returns
+    restrict-words-requires-2
+    same-length-2
+    returns-2)

@@ -6,5 +6,7 @@ pub mod Areas
 pub mod Ranges
 -- rows of bits
 pub mod Rows
+-- the union of a row's words
+pub mod Folded
 -- rows made of a test
 pub mod Masks

@@ -45,17 +45,27 @@ pub fn clear(words: &mut [u64], d: usize, n: usize)
     }
 }
 
-// Whether the row of n words at r has a bit.
+// As `any`, by a loop: the union of the words, so that no turn hangs on the one before it.
+fn any_words(words: &[u64], r: usize, n: usize) -> bool
+    requires { ⌜ r + n ≤ length (now words) ⌝ }
+    ensures { λ a. ⌜ a ≡ some? (row-bit (now (words .entry)) r) (range (64 * n)) ⌝ }
+{
+    let mut v = 0;
+    for j in 0..n {
+        v = v | words[r + j];
+    }
+    v != 0
+}
+
+// Whether the row of n words at r has a bit. Of constant length at 16 words, as `copy`.
 pub fn any(words: &[u64], r: usize, n: usize) -> bool
     requires { ⌜ r + n ≤ length (now words) ⌝ }
     ensures { λ a. ⌜ a ≡ some? (row-bit (now (words .entry)) r) (range (64 * n)) ⌝ }
 {
-    for j in 0..n {
-        if words[r + j] != 0 {
-            return true;
-        }
+    if n == 16 {
+        return any_words(words, r, 16);
     }
-    false
+    any_words(words, r, n)
 }
 
 // As `copy`, by a loop.

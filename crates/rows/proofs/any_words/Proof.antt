@@ -1,0 +1,55 @@
+-- `rows::any_words` meets its contract.
+-- Assumes nothing.
+use Rattle.rows.proofs.Folded.{Folded, folded-none, folded-more, folded-any}
+use borrow.Author.Needs.{needs}
+use Prim.Native.Nat.{_+_, _-_, _≤_}
+use native.Mathlib.Omega.{arith}
+use Rattle.rows.proofs.any_words.Statement.{statement}
+use Rattle.rows.proofs.any_words.Tie as tie
+use Rattle.rows.proofs.any_words.Reads as reads
+use Rattle.rows.proofs.any_words.Lts as lts
+
+abbrev Inv-loop : tie.InvT-loop
+Inv-loop words r n v₀ j₀ v j = (j ≤ n) × Folded words r j v
+
+abbrev μ-loop : tie.MeasureT-loop
+μ-loop words r n v₀ j₀ v j = n - j
+
+loop-holds : tie.Need-loop-holds Inv-loop μ-loop
+loop-holds c = (omega arith, folded-none _ _)
+
+add-v : tie.Need-add-v Inv-loop μ-loop
+add-v c = search needs
+
+mul-v : tie.Need-mul-v Inv-loop μ-loop
+mul-v c = search needs
+
+shared-slice-read-v : tie.Need-shared-slice-read-v Inv-loop μ-loop
+shared-slice-read-v c = search needs
+
+add-j : tie.Need-add-j Inv-loop μ-loop
+add-j c = search needs
+
+loop-less : tie.Need-loop-less Inv-loop μ-loop
+loop-less c = search needs
+
+loop-again : tie.Need-loop-again Inv-loop μ-loop
+loop-again c = let l = c .before .before in (omega arith, folded-more (l .loop .inv .1) (omega (arith, c .shared-slice-known .given (l .before .args .r + l .loop .j))))
+
+returns : tie.Need-returns Inv-loop μ-loop
+returns c = folded-any _ _ (c .before .before .args .n) (c .before .loop .inv .1) (omega arith)
+
+pub any-words-spec : {M : Type 1} → statement M
+any-words-spec =
+    tie.close
+    (tie.spec
+    Inv-loop
+    μ-loop
+    loop-holds
+    add-v
+    mul-v
+    shared-slice-read-v
+    add-j
+    loop-less
+    loop-again
+    returns)

@@ -71,10 +71,9 @@ close-all {b} {n} {w} {c} {xs} ls k m p hk = made-is m (λ s t h l. go s t h (li
     go s t h false false u v = refl
 
 -- row k is empty
-pub close-none : {w : ℕ} {os rs : List ℕ} (b n k : ℕ) (xs : List ℕ) → Row 0 w (row-bit xs (b + k * w)) os rs → some? (row-bit rs 0) (range (64 * w)) ≡ false
-    → Made b n w (through k (pair-at xs b w)) xs xs
-close-none {w} {rs = rs} b n k xs r e =
-    made-is (made-same b n w xs) (λ s t h l. rw (sym (r .bit t l) ∙ some-no (row-bit rs 0) (64 * w) t e (omega arith), and-false (pair-at xs b w s k)) (sym (or-false (pair-at xs b w s t))))
+pub close-none : {w : ℕ} (b n k : ℕ) (xs : List ℕ) → some? (row-bit xs (b + k * w)) (range (64 * w)) ≡ false → Made b n w (through k (pair-at xs b w)) xs xs
+close-none {w} b n k xs e =
+    made-is (made-same b n w xs) (λ s t h l. rw (some-no (row-bit xs (b + k * w)) (64 * w) t e (omega arith), and-false (pair-at xs b w s k)) (sym (or-false (pair-at xs b w s t))))
 
 -- ---- the rounds
 pub rounds-none : (b n w : ℕ) (xs : List ℕ) → Clean xs b n w → Made b n w (look (warshall n (pair-at xs b w) 0)) xs xs

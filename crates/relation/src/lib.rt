@@ -199,7 +199,7 @@ fn close_rows(
     }
 }
 
-// One round of Warshall's. Row k is copied first, so that no word of it lies where the round writes; an empty one adds nothing, and an
+// One round of Warshall's. An empty row k adds nothing; another is copied first, so that no word of it lies where the round writes. An
 // empty row takes nothing in, so that only the rows in the list are looked at.
 fn close_through(
     work: &mut [u64],
@@ -213,9 +213,10 @@ fn close_through(
     requires { ⌜ (b + n * w ≤ length (now work)) × (n ≤ 64 * w) × (k < n) × (w ≤ 16) × (count ≤ length (now list)) × Sources (now list) count (now work) b n w ⌝ }
     ensures { λ _. ⌜ Made b n w (through k (pair-at (now (work .entry)) b w)) (now (work .entry)) (now (work .exit)) ⌝ }
 {
-    let mut row = [0u64; 16];
-    rows::copy(&mut row, 0, work, b + k * w, w);
-    if rows::any(&row, 0, w) {
+    let d = b + k * w;
+    if rows::any(work, d, w) {
+        let mut row = [0u64; 16];
+        rows::copy(&mut row, 0, work, d, w);
         close_rows(work, b, n, w, k, &row, list, count);
     }
 }

@@ -1,9 +1,9 @@
 -- `relation::close_through` meets its contract.
 -- Assumes nothing.
-use native.Mathlib.Omega.{arith}
-use mathlib.Core.Path.{sym, _∙_}
-use Rattle.relation.proofs.Making.{row-le}
 use Rattle.relation.proofs.Closing.{close-none}
+use Rattle.relation.proofs.Making.{row-le}
+use mathlib.Core.Path.{sym, _∙_}
+use native.Mathlib.Omega.{arith}
 use borrow.Author.Needs.{needs}
 use Rattle.relation.proofs.close_through.Statement.{statement}
 use Rattle.relation.proofs.close_through.Tie as tie
@@ -13,23 +13,20 @@ use Rattle.relation.proofs.close_rows.Reads as close-rows-reads
 use Rattle.rows.proofs.any.Reads as any-reads
 use Rattle.rows.proofs.copy.Reads as copy-reads
 
+mul-d : tie.Need-mul-d
+mul-d c = omega (arith, row-le (c .before .before .args .w) (c .before .before .pre .2))
+
+add-d : tie.Need-add-d
+add-d c = omega (arith, row-le (c .before .before .args .w) (c .before .before .pre .2))
+
+any-requires : tie.Need-any-requires
+any-requires c κs = omega (arith, row-le (c .before .before .before .args .w) (c .before .before .before .pre .2))
+
 slice-aggregate-copy : tie.Need-slice-aggregate-copy
 slice-aggregate-copy c = search needs
 
-mul-copy : tie.Need-mul-copy
-mul-copy c = omega (arith, row-le (c .before .before .before .before .args .w) (c .before .before .before .before .pre .2))
-
-add-copy : tie.Need-add-copy
-add-copy c = omega (arith, row-le (c .before .before .before .before .args .w) (c .before .before .before .before .pre .2))
-
 copy-requires : tie.Need-copy-requires
-copy-requires c κs = omega (arith, row-le (c .before .before .before .before .args .w) (c .before .before .before .before .pre .2))
-
-slice-aggregate-any : tie.Need-slice-aggregate-any
-slice-aggregate-any c = search needs
-
-any-requires : tie.Need-any-requires
-any-requires c κs = search needs
+copy-requires c κs = omega (arith, row-le (c .before .before .before .before .before .before .before .args .w) (c .before .before .before .before .before .before .before .pre .2))
 
 slice-aggregate-close-rows : tie.Need-slice-aggregate-close-rows
 slice-aggregate-close-rows c = search needs
@@ -49,18 +46,17 @@ same-length-2 : tie.Need-same-length-2
 same-length-2 c = search needs
 
 returns-2 : tie.Need-returns-2
-returns-2 c = close-none _ _ (c .before .before .before .before .before .before .before .before .before .args .k) _ (c .before .before .before .before .copy .ensures) (sym (c .before .any .ensures) ∙ c .if1 .left)
+returns-2 c = close-none _ _ (c .before .before .before .before .before .args .k) _ (sym (c .before .any .ensures) ∙ c .if1 .left)
 
 pub close-through-spec : {M : Type 1} → statement M
 close-through-spec =
     tie.close
     (tie.spec
-    slice-aggregate-copy
-    mul-copy
-    add-copy
-    copy-requires
-    slice-aggregate-any
+    mul-d
+    add-d
     any-requires
+    slice-aggregate-copy
+    copy-requires
     slice-aggregate-close-rows
     close-rows-requires
     same-length

@@ -2,6 +2,8 @@
 pub mod Tables
 -- a register's file in rows
 pub mod Grounds
+-- a word of kinds
+pub mod KindBits
 -- relations in the work words
 pub mod Relations
 -- one pass over the links

@@ -1,4 +1,4 @@
--- The numbers of symbols and what they stand for; the test of a kind.
+-- The numbers of symbols and what they stand for.
 -- Assumes nothing.
 use mathlib.Core.Path.{_≡_, refl, sym, ap, subst, _∙_}
 use mathlib.Core.Bool.{Bool, true, false, cond, false≢true}
@@ -6,17 +6,10 @@ use Prim.Native.Nat.{ℕ, zero, suc, _-_, _≤_, _<_}
 use native.Mathlib.Omega.{arith}
 use lib.Dec.{ltb, eqb, leb}
 use borrow.Author.Tests.{leb-true, leb-false, eqb-true, eqb-false}
-use Rattle.bits.specs.Bit.{bitOf}
-use Rattle.theory.specs.KindSet.{has}
 use Rattle.theory.specs.PathExpr.{forward, reverse, through, Symbol, s-step, s-join, s-op, s-closure}
 use Rattle.fields.specs.Symbols.{symbol-numbered, operator-numbered}
 use Rattle.fields.proofs.Numbers.{operator-number, through-number}
 use Rattle.evaluation.specs.Ground.{closes?}
-
--- a bit of a set, by a number that is a kind
-pub kind-tested : {b : Bool} {i j k : ℕ} (m : ℕ) → b ≡ bitOf m i → i ≡ j → j ≡ k → b ≡ has m k
-unfolding has
-kind-tested m e f g = e ∙ ap (bitOf m) (f ∙ g)
 
 -- ---- operators
 module _ (c m : ℕ) (l : 128 ≤ c) where

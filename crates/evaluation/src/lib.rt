@@ -11,12 +11,13 @@ ghost use lib.ListN.{length};
 ghost use Rattle.theory.specs.KindSet.{has};
 ghost use Rattle.theory.specs.PathExpr.{PathExpr, any, through, s-join};
 ghost use Rattle.theory.specs.Postfix.{path-of};
-ghost use Rattle.theory.specs.Register.{edge, kind};
+ghost use Rattle.theory.specs.Register.{edge, kind, records};
 ghost use Rattle.theory.specs.TransitiveClosure.{look, table};
 ghost use Rattle.theory.specs.Evaluation.{step?, passes?};
 ghost use Rattle.fields.specs.Symbols.{symbol-numbered};
+ghost use Rattle.register.specs.Ahead.{Accepted};
 ghost use Rattle.register.specs.Form.{register-in};
-ghost use Rattle.rows.specs.Row.{row-bit, Row, mask-of};
+ghost use Rattle.rows.specs.Row.{row-bit, Row, mask-of, Word};
 ghost use Rattle.relation.specs.Pairs.{pair-at, Made, Clean};
 ghost use Rattle.evaluation.specs.Ground.{Ground, direction, leads?, closes?, symbols-in, MakePath};
 ghost use Rattle.evaluation.specs.Stack.{binary?, Fits, Applied, Evaluated};
@@ -27,15 +28,39 @@ fn wide(k: Kind) -> usize
     k.0 as usize
 }
 
+// How many of the records from g on a word has: 64, or all that are left.
+fn in_word(n: usize, g: usize) -> usize
+    requires { ⌜ g ≤ n ⌝ }
+    ensures { λ m. ⌜ (m ≤ 64) × (g + m ≤ n) × (m < 64 → g + m ≡ n) ⌝ }
+{
+    let m = n - g;
+    if m < 64 {
+        return m;
+    }
+    64
+}
+
+// The word of a mask for the m records from g on: those whose kind is in the set. No test of a kind is a branch.
+fn kind_word(register: &[u8], g: usize, m: usize, set: u64) -> u64
+    requires { ⌜ Accepted (now register) × (g + m ≤ records (register-in (now register))) × (m ≤ 64) ⌝ }
+    ensures { λ v. ⌜ Word (λ i. has set (kind (register-in (now (register .entry))) (g + i))) m v ⌝ }
+{
+    let mut v = 0;
+    for i in 0..m {
+        let k = wide(register::kind_at(register, g + i));
+        v = v | (((set >> k) % 2) << i);
+    }
+    v
+}
+
 // The mask becomes the records whose kind is in the set.
 pub fn kind_mask(mask: &mut [u64], register: &[u8], n: usize, w: usize, set: u64)
     requires { ⌜ (w ≤ length (now mask)) × Ground (now register) n w ⌝ }
     ensures { λ _. ⌜ Row 0 w (mask-of (λ t. has set (kind (register-in (now (register .entry))) t)) n) (now (mask .entry)) (now (mask .exit)) ⌝ }
 {
-    rows::clear(mask, 0, w);
-    for t in 0..n {
-        let b = bits::bit(set, wide(register::kind_at(register, t)));
-        rows::set_if(mask, t, b);
+    for i in 0..w {
+        let g = 64 * i;
+        mask[i] = kind_word(register, g, in_word(n, g), set);
     }
 }
 

@@ -25,3 +25,7 @@ Put d t g xs ys = (w : ℕ) → t / 64 < w → Row d w g xs ys
 -- the bits below n that pass a test
 unfoldable pub mask-of : (ℕ → Bool) → ℕ → ℕ → Bool
 mask-of f n j = ltb j n && f j
+
+-- v is the word of those bits
+pub record Word (f : ℕ → Bool) (n v : ℕ) : Type 0 where
+  pub bit : (j : ℕ) → bitOf v j ≡ mask-of f n j

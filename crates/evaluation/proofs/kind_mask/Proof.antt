@@ -1,14 +1,12 @@
 -- `evaluation::kind_mask` meets its contract.
 -- Assumes nothing.
-use Rattle.evaluation.proofs.Numbers.{kind-tested}
-use Rattle.rows.proofs.Rows.{row-now, row-then, row-zero}
-use mathlib.Core.Path.{_≡_}
-use Rattle.evaluation.proofs.Grounds.{limits, rows-hold}
+use Rattle.rows.specs.Row.{Row, mask-of}
+use Rattle.rows.proofs.Masks.{mask-start, mask-word}
 use Rattle.register.specs.Form.{register-in}
 use Rattle.theory.specs.Register.{kind}
 use Rattle.theory.specs.KindSet.{has}
-use Rattle.rows.proofs.Masks.{mask-none, mask-more}
-use Rattle.rows.specs.Row.{Row, mask-of}
+use Rattle.evaluation.proofs.Grounds.{narrow}
+use mathlib.Core.Path.{_≡_}
 use borrow.Author.Needs.{needs}
 use Prim.Native.Nat.{_-_, _≤_}
 use native.Mathlib.Omega.{arith}
@@ -16,50 +14,52 @@ use Rattle.evaluation.proofs.kind_mask.Statement.{statement}
 use Rattle.evaluation.proofs.kind_mask.Tie as tie
 use Rattle.evaluation.proofs.kind_mask.Reads as reads
 use Rattle.evaluation.proofs.kind_mask.Lts as lts
-use Rattle.bits.proofs.bit.Reads as bit-reads
-use Rattle.evaluation.proofs.wide.Reads as wide-reads
-use Rattle.register.proofs.kind_at.Reads as kind-at-reads
-use Rattle.rows.proofs.clear.Reads as clear-reads
-use Rattle.rows.proofs.set_if.Reads as set-if-reads
+use Rattle.evaluation.proofs.in_word.Reads as in-word-reads
+use Rattle.evaluation.proofs.kind_word.Reads as kind-word-reads
 
 abbrev Inv-loop : tie.InvT-loop
-Inv-loop mask₀ register n w set t₀ mask t = (t ≤ n) × Row 0 w (mask-of (λ i. has set (kind (register-in register) i)) t) mask₀ mask
+Inv-loop mask₀ register n w set i₀ mask i = (i ≤ w) × Row 0 i (mask-of (λ t. has set (kind (register-in register) t)) n) mask₀ mask
 
 abbrev μ-loop : tie.MeasureT-loop
-μ-loop mask₀ register n w set t₀ mask t = n - t
-
-clear-requires : tie.Need-clear-requires Inv-loop μ-loop
-clear-requires c κs = search needs
+μ-loop mask₀ register n w set i₀ mask i = w - i
 
 loop-holds : tie.Need-loop-holds Inv-loop μ-loop
-loop-holds c = (omega arith, row-now (mask-none _ (c .before .before .clear .ensures)))
+loop-holds c = (omega arith, mask-start _ _ _)
 
-kind-at-requires : tie.Need-kind-at-requires Inv-loop μ-loop
-kind-at-requires c κs = omega (arith, c .before .before .before .before .before .before .before .before .pre .1 .count)
+mul-g : tie.Need-mul-g Inv-loop μ-loop
+mul-g c = omega (arith, narrow (c .before .before .before .before .pre .1))
 
-wide-requires : tie.Need-wide-requires Inv-loop μ-loop
-wide-requires c κs = search needs
+in-word-requires : tie.Need-in-word-requires Inv-loop μ-loop
+in-word-requires c κs = omega (arith, c .before .before .before .before .pre .1 .wide)
 
-bit-requires : tie.Need-bit-requires Inv-loop μ-loop
-bit-requires c κs = let k = limits (c .before .before .before .before .before .before .before .before .before .before .pre .1) .kinds (c .before .before .before .loop .t) in omega (arith, c .wide .ensures, c .before .kind-at .ensures)
+kind-word-requires : tie.Need-kind-word-requires Inv-loop μ-loop
+kind-word-requires c κs =
+    let g = c .before .before .before .before .before .pre .1 in
+    (g .accepted, omega (arith, g .count, c .in-word .ensures .1), c .in-word .ensures .0)
 
-set-if-requires : tie.Need-set-if-requires Inv-loop μ-loop
-set-if-requires c κs = omega (arith, rows-hold (c .before .before .before .before .before .before .before .before .before .before .before .before .pre .1), c .before .before .before .before .before .loop .inv .1 .kept .len)
+mul-mask : tie.Need-mul-mask Inv-loop μ-loop
+mul-mask c = omega (arith, narrow (c .before .before .before .before .before .before .pre .1))
 
-add-t : tie.Need-add-t Inv-loop μ-loop
-add-t c = search needs
+slice-write-mask : tie.Need-slice-write-mask Inv-loop μ-loop
+slice-write-mask c = omega (arith, c .before .before .before .loop .inv .1 .kept .len)
+
+add-i : tie.Need-add-i Inv-loop μ-loop
+add-i c = search needs
 
 loop-less : tie.Need-loop-less Inv-loop μ-loop
 loop-less c = search needs
 
 loop-again : tie.Need-loop-again Inv-loop μ-loop
-loop-again c = (omega arith, mask-more _ (c .before .before .before .before .before .before .before .before .loop .t) _ (c .before .before .before .before .before .before .before .before .loop .inv .1) (kind-tested (c .before .before .before .before .before .before .before .before .before .before .before .before .before .before .before .args .set) (c .before .before .before .before .bit .ensures) (c .before .before .before .before .before .wide .ensures) (c .before .before .before .before .before .before .kind-at .ensures)) (c .before .before .set-if .ensures) (omega (arith, rows-hold (c .before .before .before .before .before .before .before .before .before .before .before .before .before .before .before .pre .1))))
+loop-again c =
+    let l = c .before .before .before in
+    let m = c .before .in-word .ensures in
+    (omega arith, mask-word _ (l .loop .inv .1) (c .kind-word .ensures) (m .1) (m .2) (omega (arith, l .loop .inv .1 .kept .len)))
 
 same-length : tie.Need-same-length Inv-loop μ-loop
 same-length c = search needs
 
 returns : tie.Need-returns Inv-loop μ-loop
-returns c = let e : c .before .loop .t ≡ c .before .before .before .before .before .before .before .before .args .n = omega arith in rw e at (row-then (row-zero (c .before .before .before .before .clear .ensures)) (c .before .loop .inv .1))
+returns c = let e : c .before .loop .i ≡ c .before .before .before .before .args .w = omega arith in rw e at (c .before .loop .inv .1)
 
 pub kind-mask-spec : {M : Type 1} → statement M
 kind-mask-spec =
@@ -67,13 +67,13 @@ kind-mask-spec =
     (tie.spec
     Inv-loop
     μ-loop
-    clear-requires
     loop-holds
-    kind-at-requires
-    wide-requires
-    bit-requires
-    set-if-requires
-    add-t
+    mul-g
+    in-word-requires
+    kind-word-requires
+    mul-mask
+    slice-write-mask
+    add-i
     loop-less
     loop-again
     same-length

@@ -2,6 +2,7 @@
 pub mod Fields
 pub mod Sound
 pub mod Loop
+pub mod Passing
 -- what an accepted file holds, and where
 pub mod AcceptedRegister
 pub mod Told

@@ -6,12 +6,14 @@ use fields::Link;
 use fields::Refusal;
 use fields::Seen;
 ghost use mathlib.Core.Path.{_≡_};
-ghost use Prim.Native.Nat.{_<_};
+ghost use mathlib.Core.Bool.{true};
+ghost use Prim.Native.Nat.{_<_, _≤_};
 ghost use lib.ListN.{length};
 ghost use Rattle.fields.specs.Reading.{read};
 ghost use Rattle.theory.specs.Register.{records, kind};
 ghost use Rattle.register.specs.Form.{head-of, kind-of, link-of, key, register-form, register-in};
 ghost use Rattle.register.specs.Said.{due-of, entry-of, judged, Ready, turn-said, outcome-said, sizes-of, sized};
+ghost use Rattle.register.specs.Passed.{KindAt, LinkAt, Passed};
 ghost use Rattle.register.specs.Ahead.{Accepted, Ahead, SomeAhead, Next};
 
 // How far the reading has come: the numbers of records and links, of records whose kind is due, of links left, and the least key allowed next.
@@ -186,6 +188,98 @@ fn sizes(st: Position) -> Outcome
     }
 }
 
+// A place, and how far the reading has come there.
+pub struct Reached {
+    pub at: usize,
+    pub progress: Progress,
+}
+
+// A kind is due at a place, and a whole field of one lies there.
+fn kind_lies(s: &[u8], at: usize, q: Progress) -> bool
+    requires { ⌜ at ≤ length (now s) ⌝ }
+    ensures { λ r. ⌜ (r ≡ true → KindAt (now (s .entry)) q at) ⌝ }
+{
+    if q.kindless == 0 {
+        return false;
+    }
+    if s.len() - at < 4 {
+        return false;
+    }
+    if s[at] != 0x32 {
+        return false;
+    }
+    fields::two(s, at + 1) == 1
+}
+
+fn link_lies(s: &[u8], at: usize, q: Progress) -> bool
+    requires { ⌜ at ≤ length (now s) ⌝ }
+    ensures { λ r. ⌜ (r ≡ true → LinkAt (now (s .entry)) q at) ⌝ }
+{
+    if q.kindless != 0 {
+        return false;
+    }
+    if q.left == 0 {
+        return false;
+    }
+    if s.len() - at < 8 {
+        return false;
+    }
+    if s[at] != 0x33 {
+        return false;
+    }
+    fields::two(s, at + 1) == 5
+}
+
+// Past the kinds that are as they should be, in a loop of their own that is quick; whatever else lies there is left to the general loop.
+fn past_kinds(s: &[u8], from: usize, start: Progress) -> Reached
+    requires { ⌜ from ≤ length (now s) ⌝ }
+    ensures { λ r. ⌜ Passed (now (s .entry)) start from (r .progress) (r .at) ⌝ }
+{
+    let mut at = from;
+    let mut q = start;
+    while kind_lies(s, at, q) {
+        match judge_kind(q, at, &s[at + 3..at + 4]) {
+            Turn::Stop(_) => {
+                return Reached { at, progress: q };
+            }
+            Turn::Go(next) => {
+                q = next;
+                at = at + 4;
+            }
+        }
+    }
+    Reached { at, progress: q }
+}
+
+// The same of links.
+fn past_links(s: &[u8], from: usize, start: Progress) -> Reached
+    requires { ⌜ from ≤ length (now s) ⌝ }
+    ensures { λ r. ⌜ Passed (now (s .entry)) start from (r .progress) (r .at) ⌝ }
+{
+    let mut at = from;
+    let mut q = start;
+    while link_lies(s, at, q) {
+        match judge_link(q, at, &s[at + 3..at + 8]) {
+            Turn::Stop(_) => {
+                return Reached { at, progress: q };
+            }
+            Turn::Go(next) => {
+                q = next;
+                at = at + 8;
+            }
+        }
+    }
+    Reached { at, progress: q }
+}
+
+fn past(s: &[u8], from: usize, start: Progress) -> Reached
+    requires { ⌜ from ≤ length (now s) ⌝ }
+    ensures { λ r. ⌜ Passed (now (s .entry)) start from (r .progress) (r .at) ⌝ }
+{
+    let r = past_kinds(s, from, start);
+    past_links(s, r.at, r.progress)
+}
+
 pub fn read(s: &[u8]) -> Outcome
     ensures { λ r. ⌜ outcome-said r ≡ sized (read register-form (now (s .entry))) ⌝ }
 {
@@ -204,8 +298,10 @@ pub fn read(s: &[u8]) -> Outcome
                     return Outcome::Refused(r);
                 }
                 Turn::Go(q) => {
-                    st = Position::Within(q);
-                    at = at + 3 + len as usize;
+                    let r = past(s, at + 3 + len as usize, q);
+                    let reached = r.progress;
+                    st = Position::Within(reached);
+                    at = r.at;
                 }
             },
         }

@@ -1,3 +1,4 @@
+use Rattle.register.proofs.Passing.{reading-passed, passed-on}
 use Rattle.register.proofs.Loop.{Reading, reading-start, reading-ends, reading-wrong, reading-room, reading-ready, reading-refused, reading-more}
 use Rattle.fields.proofs.Raws.{body-found}
 use Rattle.register.specs.Said.{due-of, judged, turn-said}
@@ -78,20 +79,26 @@ returns-3 c = reading-refused _ _ _ (c .before .before .before .before .before .
 enum-known-q : tie.Need-enum-known-q Inv-loop μ-loop
 enum-known-q c = search needs
 
-add-at : tie.Need-add-at Inv-loop μ-loop
-add-at c = let h = reading-room _ _ _ (c .before .before .before .before .before .before .before .before .before .before .loop .inv) _ _ (at-body (c .before .before .before .before .before)) in omega arith
+add-past : tie.Need-add-past Inv-loop μ-loop
+add-past c = let h = reading-room _ _ _ (c .before .before .before .before .before .before .before .before .before .before .loop .inv) _ _ (at-body (c .before .before .before .before .before)) in omega arith
 
-cast-at : tie.Need-cast-at Inv-loop μ-loop
-cast-at c = search needs
+cast-past : tie.Need-cast-past Inv-loop μ-loop
+cast-past c = search needs
 
-add-at-2 : tie.Need-add-at-2 Inv-loop μ-loop
-add-at-2 c = let h = reading-room _ _ _ (c .before .before .before .before .before .before .before .before .before .before .loop .inv) _ _ (at-body (c .before .before .before .before .before)) in omega arith
+add-past-2 : tie.Need-add-past-2 Inv-loop μ-loop
+add-past-2 c = let h = reading-room _ _ _ (c .before .before .before .before .before .before .before .before .before .before .loop .inv) _ _ (at-body (c .before .before .before .before .before)) in omega arith
+
+past-requires : tie.Need-past-requires Inv-loop μ-loop
+past-requires c κs = reading-room _ _ _ (c .before .before .before .before .before .before .before .before .before .before .loop .inv) _ _ (at-body (c .before .before .before .before .before))
 
 loop-less : tie.Need-loop-less Inv-loop μ-loop
-loop-less c = let h = reading-room _ _ _ (c .before .before .before .before .before .before .before .before .before .before .loop .inv) _ _ (at-body (c .before .before .before .before .before)) in omega arith
+loop-less c =
+    let h = reading-room _ _ _ (c .before .before .before .before .before .before .before .before .before .before .before .before .loop .inv) _ _ (at-body (c .before .before .before .before .before .before .before)) in
+    omega (arith, passed-on _ _ (c .before .past .ensures) h .0)
 
 loop-again : tie.Need-loop-again Inv-loop μ-loop
-loop-again c = reading-more _ _ _ (c .before .before .before .before .before .before .before .before .before .before .loop .inv) _ _ (at-body (c .before .before .before .before .before)) _ (is-judged (c .before .before .before) ∙ ap turn-said (c .before .q .given .1))
+loop-again c =
+    reading-passed _ _ (c .before .past .ensures) (reading-more _ _ _ (c .before .before .before .before .before .before .before .before .before .before .before .before .loop .inv) _ _ (at-body (c .before .before .before .before .before .before .before)) _ (is-judged (c .before .before .before .before .before) ∙ ap turn-said (c .before .before .before .q .given .1)))
 
 pub read-spec : {M : Type 1} → statement M
 read-spec =
@@ -113,8 +120,9 @@ read-spec =
     enum-known-r-2
     returns-3
     enum-known-q
-    add-at
-    cast-at
-    add-at-2
+    add-past
+    cast-past
+    add-past-2
+    past-requires
     loop-less
     loop-again)

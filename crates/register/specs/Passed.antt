@@ -1,0 +1,32 @@
+-- Fields taken one after the other, as a loop of the code passes over them; nothing that is handed on rests on it.
+-- Assumes nothing.
+use mathlib.Core.Path.{_≡_}
+use mathlib.Core.List.{List}
+use Prim.Native.Nat.{ℕ, _+_, _<_, _≤_}
+use lib.ListN.{length, getD, take, drop}
+use Rattle.fields.specs.Answer.{got}
+use Rattle.fields.specs.Reading.{word, body, field-at}
+use Rattle.register.specs.declared.Progress.{Progress}
+use Rattle.register.specs.Form.{due-entry}
+use Rattle.register.specs.Said.{entry-of}
+
+-- a kind is due at a place, and a whole field with its tag and length lies there
+pub record KindAt (s : List ℕ) (q : Progress) (at : ℕ) : Type 0 where
+  pub due : 0 < q .kindless
+  pub room : at + 4 ≤ length s
+  pub tag : getD s at 0 ≡ 0x32
+  pub len : word s (at + 1) ≡ 1
+
+-- so too a link
+pub record LinkAt (s : List ℕ) (q : Progress) (at : ℕ) : Type 0 where
+  pub kinds : q .kindless ≡ 0
+  pub due : 0 < q .left
+  pub room : at + 8 ≤ length s
+  pub tag : getD s at 0 ≡ 0x33
+  pub len : word s (at + 1) ≡ 5
+
+-- from a place and a progress to another: none, or one field more
+pub data Passed (s : List ℕ) (q : Progress) (at : ℕ) : Progress → ℕ → Type 0 where
+  here : Passed s q at q at
+  further : (p : Progress) (i t n : ℕ) (r : Progress) → Passed s q at p i → field-at (due-entry p) s i ≡ body t n → entry-of p i (take n (drop (i + 3) s)) ≡ got r
+      → Passed s q at r (i + 3 + n)

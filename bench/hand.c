@@ -1,0 +1,711 @@
+/* The library's own steps by hand, without checks. A relation is a row of bits for each record; a triple is a node that shares the nodes
+ * of its operands, and is written out only where it becomes a member. */
+#include <stdbool.h>
+#include <string.h>
+
+#include "../include/paths.h"
+#include "peers.h"
+
+enum { JOIN = 128, UNION, BOTH, BRANCH_RIGHT, BRANCH_LEFT, CHAIN };
+enum { HEAD_TAG = 0x41, MEMBER_TAG = 0x42, STEP_TAG = 0x43, OPERATOR_TAG = 0x44, THROUGH_TAG = 0x45 };
+enum { MOST_RECORDS = 1024, MOST_WORDS = 16, MOST_KINDS = 64, MOST_LINKS = 64, MOST_CODES = 32, MOST_TRIPLES = 128, MOST_SYMBOLS = 48 };
+
+static size_t load16(const uint8_t *at)
+{
+    return (size_t)at[0] << 8 | at[1];
+}
+
+static uint64_t load64(const uint8_t *at)
+{
+    uint64_t x;
+    memcpy(&x, at, sizeof x);
+    return __builtin_bswap64(x);
+}
+
+/* ---- the register: fields of 4 bytes for its records, of 8 for its links */
+
+typedef struct {
+    size_t records, words, links;
+    const uint8_t *kind, *link;
+} Register;
+
+static Register read_register(const uint8_t *file)
+{
+    size_t records = load16(file + 3);
+    return (Register){records, PATHS_ROW_WORDS(records), load16(file + 5), file + 7 + 3, file + 7 + 4 * records};
+}
+
+static unsigned kind_of(const Register *r, size_t record)
+{
+    return r->kind[4 * record];
+}
+
+/* ---- relations */
+
+/* Inlined where the width of a row is a constant, so that the loops over its words are unrolled. */
+#define INLINE static inline __attribute__((always_inline))
+
+static void set_bit(uint64_t *row, size_t t)
+{
+    row[t / 64] |= (uint64_t)1 << t % 64;
+}
+
+static bool has_bit(const uint64_t *row, size_t t)
+{
+    return row[t / 64] >> t % 64 & 1;
+}
+
+INLINE bool any(const uint64_t *row, size_t words)
+{
+    uint64_t all = 0;
+    for (size_t j = 0; j < words; j++)
+        all |= row[j];
+    return all != 0;
+}
+
+INLINE void unite(uint64_t *restrict to, const uint64_t *restrict from, size_t words)
+{
+    for (size_t j = 0; j < words; j++)
+        to[j] |= from[j];
+}
+
+INLINE void restrict_to(uint64_t *restrict to, const uint64_t *restrict mask, size_t words)
+{
+    for (size_t j = 0; j < words; j++)
+        to[j] &= mask[j];
+}
+
+INLINE void step(const Register *r, bool reverse, unsigned name, uint64_t *relation, size_t words)
+{
+    memset(relation, 0, r->records * words * sizeof *relation);
+    for (const uint8_t *link = r->link; link < r->link + 8 * r->links; link += 8)
+        if (link[5] == name) {
+            size_t from = load16(link + 3), to = load16(link + 6);
+            set_bit(relation + (reverse ? to : from) * words, reverse ? from : to);
+        }
+}
+
+/* The row that is made is copied from an empty one: to clear so few words gcc takes a string instruction, which is slow to start. */
+INLINE void join(uint64_t *p, const uint64_t *q, size_t n, size_t words, const uint64_t *mask)
+{
+    static const uint64_t empty[MOST_WORDS];
+    for (size_t s = 0; s < n; s++, p += words) {
+        if (!any(p, words))
+            continue;
+        uint64_t row[MOST_WORDS];
+        memcpy(row, empty, words * sizeof *row);
+        for (size_t i = 0; i < words; i++)
+            for (uint64_t left = p[i] & mask[i]; left != 0; left &= left - 1)
+                unite(row, q + (64 * i + (size_t)__builtin_ctzll(left)) * words, words);
+        memcpy(p, row, words * sizeof *row);
+    }
+}
+
+INLINE void branch_right(uint64_t *p, const uint64_t *q, size_t n, size_t words)
+{
+    uint64_t sources[MOST_WORDS] = {0};
+    for (size_t t = 0; t < n; t++)
+        sources[t / 64] |= (uint64_t)any(q + t * words, words) << t % 64;
+    for (size_t s = 0; s < n; s++)
+        restrict_to(p + s * words, sources, words);
+}
+
+INLINE void branch_left(uint64_t *p, const uint64_t *q, size_t n, size_t words)
+{
+    for (size_t s = 0; s < n; s++)
+        if (any(p + s * words, words))
+            memcpy(p + s * words, q + s * words, words * sizeof *p);
+}
+
+/* One round of Warshall's, over the rows that are not empty. */
+INLINE void close_through(uint64_t *const *rows, size_t count, const uint64_t *through, size_t k, size_t words)
+{
+    uint64_t row[MOST_WORDS];
+    memcpy(row, through, words * sizeof *row);
+    for (size_t i = 0; i < count; i++)
+        if (has_bit(rows[i], k))
+            unite(rows[i], row, words);
+}
+
+/* A closure adds neither a source nor a target, so only a record that is both is passed through. */
+INLINE void closure(uint64_t *relation, size_t n, size_t words)
+{
+    uint64_t targets[MOST_WORDS] = {0};
+    uint64_t *rows[MOST_RECORDS];
+    size_t count = 0;
+    for (size_t s = 0; s < n; s++) {
+        uint64_t *row = relation + s * words;
+        if (any(row, words)) {
+            rows[count++] = row;
+            unite(targets, row, words);
+        }
+    }
+    for (size_t i = 0; i < count; i++) {
+        size_t k = (size_t)(rows[i] - relation) / words;
+        if (has_bit(targets, k))
+            close_through(rows, count, rows[i], k, words);
+    }
+}
+
+/* ---- the records of each kind */
+
+typedef struct {
+    uint64_t present;
+    uint64_t records[MOST_KINDS * MOST_WORDS];
+} Kinds;
+
+static void read_kinds(const Register *r, Kinds *kinds)
+{
+    kinds->present = 0;
+    memset(kinds->records, 0, MOST_KINDS * r->words * sizeof *kinds->records);
+    for (size_t t = 0; t < r->records; t++) {
+        kinds->present |= (uint64_t)1 << kind_of(r, t);
+        set_bit(kinds->records + kind_of(r, t) * r->words, t);
+    }
+}
+
+static void kind_mask(const Kinds *kinds, uint64_t set, size_t words, uint64_t *mask)
+{
+    memset(mask, 0, words * sizeof *mask);
+    for (uint64_t left = set & kinds->present; left != 0; left &= left - 1)
+        unite(mask, kinds->records + (size_t)__builtin_ctzll(left) * words, words);
+}
+
+/* ---- answers: a stack of relations in the work words */
+
+INLINE void combine(unsigned code, uint64_t *p, const uint64_t *q, size_t n, size_t words)
+{
+    uint64_t all[MOST_WORDS];
+    switch (code) {
+    case JOIN:
+        memset(all, 0xff, sizeof all);
+        join(p, q, n, words, all);
+        break;
+    case UNION:
+        unite(p, q, n * words);
+        break;
+    case BOTH:
+        restrict_to(p, q, n * words);
+        break;
+    case BRANCH_RIGHT:
+        branch_right(p, q, n, words);
+        break;
+    default:
+        branch_left(p, q, n, words);
+    }
+}
+
+/* The first relation of the work words becomes the path of `count` symbols; where their fields end. */
+INLINE const uint8_t *evaluate_in(const Register *r, const Kinds *kinds, const uint8_t *field, size_t count, uint64_t *work,
+                                  size_t words)
+{
+    size_t n = r->records;
+    uint64_t *top = work;
+    for (; count > 0; count--) {
+        if (field[0] == STEP_TAG) {
+            step(r, field[3], field[4], top, words);
+            top += n * words;
+            field += 5;
+        } else if (field[0] == THROUGH_TAG) {
+            uint64_t mask[MOST_WORDS];
+            kind_mask(kinds, load64(field + 3), words, mask);
+            top -= n * words;
+            join(top - n * words, top, n, words, mask);
+            field += 11;
+        } else if (field[3] == CHAIN) {
+            closure(top - n * words, n, words);
+            field += 4;
+        } else {
+            top -= n * words;
+            combine(field[3], top - n * words, top, n, words);
+            field += 4;
+        }
+    }
+    return field;
+}
+
+/* The same, by the code of the register's own width; without records any width will do. */
+static const uint8_t *evaluate(const Register *r, const Kinds *kinds, const uint8_t *field, size_t count, uint64_t *work)
+{
+#define WIDTH(words)                                                                                                                  \
+    case words:                                                                                                                       \
+        return evaluate_in(r, kinds, field, count, work, words)
+    switch (r->words) {
+        WIDTH(1);
+        WIDTH(2);
+        WIDTH(3);
+        WIDTH(4);
+        WIDTH(5);
+        WIDTH(6);
+        WIDTH(7);
+        WIDTH(8);
+        WIDTH(9);
+        WIDTH(10);
+        WIDTH(11);
+        WIDTH(12);
+        WIDTH(13);
+        WIDTH(14);
+        WIDTH(15);
+    default:
+        return evaluate_in(r, kinds, field, count, work, MOST_WORDS);
+    }
+#undef WIDTH
+}
+
+static void add_between(uint64_t *answer, const uint64_t *relation, const uint64_t *sources, const uint64_t *targets, size_t words)
+{
+    for (size_t i = 0; i < words; i++)
+        for (uint64_t left = sources[i]; left != 0; left &= left - 1) {
+            size_t at = (64 * i + (size_t)__builtin_ctzll(left)) * words;
+            for (size_t j = 0; j < words; j++)
+                answer[at + j] |= relation[at + j] & targets[j];
+        }
+}
+
+static void answer_members(const Register *r, const uint8_t *narrowed, uint64_t *work, uint64_t *answer)
+{
+    Kinds kinds;
+    read_kinds(r, &kinds);
+    memset(answer, 0, r->records * r->words * sizeof *answer);
+    const uint8_t *field = narrowed + 5;
+    for (size_t left = load16(narrowed + 3); left > 0; left--) {
+        uint64_t sources[MOST_WORDS], targets[MOST_WORDS];
+        kind_mask(&kinds, load64(field + 4), r->words, sources);
+        kind_mask(&kinds, load64(field + 12), r->words, targets);
+        field = evaluate(r, &kinds, field + 20, field[3], work);
+        add_between(answer, work, sources, targets, r->words);
+    }
+}
+
+/* ---- the sheet: the to kinds of each link name and from kind */
+
+typedef struct {
+    size_t kinds, links;
+    uint64_t to[MOST_LINKS * MOST_KINDS];
+} Sheet;
+
+static void read_sheet(const uint8_t *file, size_t length, Sheet *sheet)
+{
+    sheet->kinds = file[3];
+    sheet->links = file[4];
+    memset(sheet->to, 0, sheet->links * MOST_KINDS * sizeof *sheet->to);
+    for (const uint8_t *triple = file + 5; triple < file + length; triple += 6)
+        sheet->to[triple[4] * MOST_KINDS + triple[3]] |= (uint64_t)1 << triple[5];
+}
+
+static bool obeys(const Register *r, const Sheet *sheet)
+{
+    for (size_t t = 0; t < r->records; t++)
+        if (kind_of(r, t) >= sheet->kinds)
+            return false;
+    for (size_t i = 0; i < r->links; i++) {
+        const uint8_t *link = r->link + 8 * i;
+        unsigned from = kind_of(r, load16(link + 3)), name = link[5], to = kind_of(r, load16(link + 6));
+        if (name >= sheet->links || !(sheet->to[name * MOST_KINDS + from] >> to & 1))
+            return false;
+    }
+    return true;
+}
+
+/* ---- triples: a node for each, its operands before it */
+
+typedef struct {
+    uint64_t hash;        /* of its path */
+    uint16_t left, right; /* its operands; of a kept chain where its operand starts in the question, and its number of symbols */
+    uint8_t made, size;   /* the code of its path's last symbol, and its number of symbols */
+    uint8_t from, to;
+} Node;
+
+typedef struct {
+    size_t start, end;
+    size_t origin; /* where its symbols start in the question */
+} Part;
+
+/* The part that is being made has the nodes from `start` up to `used`; each has its place in `slots`, by its hash. */
+typedef struct {
+    Node node[MOST_CODES * MOST_TRIPLES];
+    size_t start, used;
+    uint8_t codes[MOST_CODES];
+    uint8_t slots[256];
+} Table;
+
+static uint64_t mix(uint64_t a, uint64_t b, uint64_t c)
+{
+    uint64_t x = (a + c) * 0x9e3779b97f4a7c15;
+    return ((x ^ x >> 32) + b) * 0xbf58476d1ce4e5b9;
+}
+
+static bool same_path(const Table *t, const Node *x, const Node *y)
+{
+    if (x->hash != y->hash || x->made != y->made)
+        return false;
+    if (x->made < JOIN)
+        return true;
+    if (x->made == CHAIN)
+        return x->right == y->right && memcmp(t->codes + x->left, t->codes + y->left, x->right) == 0;
+    const Node *p = t->node + x->left, *q = t->node + y->left;
+    if (x->made == JOIN && p->to != q->to)
+        return false;
+    return same_path(t, p, q) && same_path(t, t->node + x->right, t->node + y->right);
+}
+
+/* Adds a triple unless it is there already; false where the part gets too many or its path is too long. */
+static bool add(Table *t, Node x)
+{
+    size_t slot = mix(x.hash, x.from, x.to) >> 56;
+    for (; t->slots[slot] != 0; slot = (slot + 1) % 256) {
+        const Node *y = t->node + t->start + t->slots[slot] - 1;
+        if (x.from == y->from && x.to == y->to && same_path(t, &x, y))
+            return true;
+    }
+    if (t->used - t->start == MOST_TRIPLES || x.size > MOST_SYMBOLS)
+        return false;
+    t->node[t->used++] = x;
+    t->slots[slot] = (uint8_t)(t->used - t->start);
+    return true;
+}
+
+static bool add_pair(Table *t, unsigned made, size_t i, size_t j)
+{
+    const Node *x = t->node + i, *y = t->node + j;
+    uint64_t symbol = made == JOIN ? made + 256 * x->to : made;
+    unsigned to = made == BRANCH_RIGHT ? x->to : y->to;
+    return add(t, (Node){mix(x->hash, y->hash, symbol), (uint16_t)i, (uint16_t)j, (uint8_t)made, (uint8_t)(x->size + y->size + 1),
+                         x->from, (uint8_t)to});
+}
+
+/* The nodes of a part by their from kind: `first` and `next` have 1 more than a node's place in the part, 0 at the end. */
+typedef struct {
+    size_t start;
+    uint8_t first[MOST_KINDS], next[MOST_TRIPLES];
+} Index;
+
+static void index_part(const Table *t, size_t start, size_t end, Index *index)
+{
+    index->start = start;
+    memset(index->first, 0, sizeof index->first);
+    for (size_t i = start; i < end; i++) {
+        uint8_t *first = index->first + t->node[i].from;
+        index->next[i - start] = *first;
+        *first = (uint8_t)(i - start + 1);
+    }
+}
+
+/* What node i gives with the indexed nodes that fit. */
+static bool add_pairs(Table *t, unsigned made, size_t i, const Index *index)
+{
+    const Node *x = t->node + i;
+    unsigned kind = made == BOTH || made == BRANCH_LEFT ? x->from : x->to;
+    for (unsigned k = index->first[kind]; k != 0; k = index->next[k - 1]) {
+        size_t j = index->start + k - 1;
+        if (made == BOTH && x->to != t->node[j].to)
+            continue;
+        if (!add_pair(t, made, i, j))
+            return false;
+    }
+    return true;
+}
+
+static bool pair_rule(Table *t, unsigned made, const Part *p, const Part *q)
+{
+    Index index;
+    index_part(t, q->start, q->end, &index);
+    for (size_t i = p->start; i < p->end; i++)
+        if (!add_pairs(t, made, i, &index))
+            return false;
+    return true;
+}
+
+static bool union_rule(Table *t, const Part *p, const Part *q)
+{
+    for (size_t i = p->start; i < p->end; i++)
+        if (!add(t, t->node[i]))
+            return false;
+    for (size_t i = q->start; i < q->end; i++)
+        if (!add(t, t->node[i]))
+            return false;
+    return true;
+}
+
+static bool step_rule(Table *t, const Sheet *sheet, uint8_t code)
+{
+    bool reverse = code >= 64;
+    const uint64_t *to = sheet->to + code % 64 * MOST_KINDS;
+    for (unsigned a = 0; a < sheet->kinds; a++)
+        for (uint64_t left = to[a]; left != 0; left &= left - 1) {
+            unsigned b = (unsigned)__builtin_ctzll(left);
+            if (!add(t, (Node){code, 0, 0, code, 1, (uint8_t)(reverse ? b : a), (uint8_t)(reverse ? a : b)}))
+                return false;
+        }
+    return true;
+}
+
+/* ---- chains */
+
+/* Row a of `reach` becomes the kinds to which a walk leads from kind a, of `met` those to which one leads that meets a ringed kind. */
+static uint64_t walk(const Table *t, const Part *p, uint64_t *reach, uint64_t *met)
+{
+    uint64_t ringed = 0;
+    memset(reach, 0, MOST_KINDS * sizeof *reach);
+    for (size_t i = p->start; i < p->end; i++)
+        reach[t->node[i].from] |= (uint64_t)1 << t->node[i].to;
+    closure(reach, MOST_KINDS, 1);
+    for (size_t k = 0; k < MOST_KINDS; k++)
+        ringed |= reach[k] & (uint64_t)1 << k;
+    memcpy(met, reach, MOST_KINDS * sizeof *met);
+    join(met, reach, MOST_KINDS, 1, &ringed);
+    return ringed;
+}
+
+/* The part as it grows is joined with its first nodes, which are those of the operand that meet no ringed kind. */
+static bool add_walks(Table *t, const Part *p, uint64_t ringed)
+{
+    Index index;
+    for (size_t i = p->start; i < p->end; i++)
+        if (!((ringed >> t->node[i].from | ringed >> t->node[i].to) & 1) && !add(t, t->node[i]))
+            return false;
+    index_part(t, t->start, t->used, &index);
+    for (size_t i = t->start; i < t->used; i++)
+        if (!add_pairs(t, JOIN, i, &index))
+            return false;
+    return true;
+}
+
+static bool chain_rule(Table *t, const Part *p, size_t place)
+{
+    uint64_t reach[MOST_KINDS], met[MOST_KINDS];
+    uint64_t ringed = walk(t, p, reach, met);
+    if (!add_walks(t, p, ringed))
+        return false;
+    size_t size = place - p->origin;
+    uint64_t hash = CHAIN;
+    for (size_t i = p->origin; i < place; i++)
+        hash = mix(hash, 0, t->codes[i]);
+    for (unsigned a = 0; a < MOST_KINDS; a++)
+        for (uint64_t left = met[a]; left != 0; left &= left - 1) {
+            uint8_t b = (uint8_t)__builtin_ctzll(left);
+            if (!add(t, (Node){hash, (uint16_t)p->origin, (uint16_t)size, CHAIN, (uint8_t)(size + 1), (uint8_t)a, b}))
+                return false;
+        }
+    return true;
+}
+
+/* ---- the triples of a question */
+
+static bool rule(Table *t, const Sheet *sheet, const Part *p, size_t place)
+{
+    uint8_t code = t->codes[place];
+    if (code < JOIN)
+        return step_rule(t, sheet, code);
+    if (code == CHAIN)
+        return chain_rule(t, p, place);
+    if (code == UNION)
+        return union_rule(t, p, p + 1);
+    return pair_rule(t, code, p, p + 1);
+}
+
+static size_t read_question(const uint8_t *file, uint8_t *codes)
+{
+    const uint8_t *field = file + 4;
+    for (size_t i = 0; i < file[3]; i++) {
+        bool step = field[0] == STEP_TAG;
+        codes[i] = (uint8_t)(step ? 64 * field[3] + field[4] : field[3]);
+        field += step ? 5 : 4;
+    }
+    return file[3];
+}
+
+/* The nodes from `start` up to `used` become the triples of the question. */
+static bool infer(Table *t, const Sheet *sheet, const uint8_t *question)
+{
+    Part parts[MOST_CODES + 1], *top = parts;
+    size_t count = read_question(question, t->codes);
+    t->used = 0;
+    for (size_t place = 0; place < count; place++) {
+        unsigned code = t->codes[place];
+        Part *p = code < JOIN ? top : code == CHAIN ? top - 1 : top - 2;
+        t->start = t->used;
+        memset(t->slots, 0, sizeof t->slots);
+        if (!rule(t, sheet, p, place))
+            return false;
+        *p = (Part){t->start, t->used, code < JOIN ? place : p->origin};
+        top = p + 1;
+    }
+    return true;
+}
+
+/* ---- members, in the order of their codes */
+
+/* Codes are followed by zeros: as a longer path ends in an operator, they compare as if they ended. */
+typedef struct {
+    uint64_t from, to, sets[MOST_SYMBOLS];
+    uint8_t size, codes[MOST_SYMBOLS];
+} Member;
+
+typedef struct {
+    size_t count;
+    uint8_t order[MOST_TRIPLES];
+    Member member[MOST_TRIPLES];
+} Members;
+
+static void put_code(Member *m, uint8_t code, uint64_t set)
+{
+    m->codes[m->size] = code;
+    m->sets[m->size++] = set;
+}
+
+/* Writes out a node's path. */
+static void expand(const Table *t, const Node *x, Member *m)
+{
+    if (x->made == CHAIN) {
+        for (size_t i = 0; i < x->right; i++)
+            put_code(m, t->codes[x->left + i], 0);
+    } else if (x->made >= JOIN) {
+        expand(t, t->node + x->left, m);
+        expand(t, t->node + x->right, m);
+    }
+    put_code(m, x->made, x->made == JOIN ? (uint64_t)1 << t->node[x->left].to : 0);
+}
+
+/* The member after the last takes its place among the others, or is merged with the one that has its codes. */
+static void place_member(Members *all)
+{
+    const Member *new = all->member + all->count;
+    size_t low = 0, high = all->count;
+    while (low < high) {
+        size_t middle = (low + high) / 2;
+        Member *old = all->member + all->order[middle];
+        int order = memcmp(old->codes, new->codes, MOST_SYMBOLS);
+        if (order == 0) {
+            old->from |= new->from;
+            old->to |= new->to;
+            unite(old->sets, new->sets, new->size);
+            return;
+        }
+        if (order < 0)
+            low = middle + 1;
+        else
+            high = middle;
+    }
+    memmove(all->order + low + 1, all->order + low, all->count - low);
+    all->order[low] = (uint8_t)all->count++;
+}
+
+static void merge(const Table *t, Members *all)
+{
+    all->count = 0;
+    for (size_t i = t->start; i < t->used; i++) {
+        const Node *x = t->node + i;
+        Member *m = all->member + all->count;
+        m->from = (uint64_t)1 << x->from;
+        m->to = (uint64_t)1 << x->to;
+        m->size = 0;
+        memset(m->codes, 0, sizeof m->codes);
+        expand(t, x, m);
+        place_member(all);
+    }
+}
+
+/* ---- the file */
+
+static uint8_t *put_head(uint8_t *at, uint8_t tag, uint8_t length)
+{
+    at[0] = tag;
+    at[1] = 0;
+    at[2] = length;
+    return at + 3;
+}
+
+static uint8_t *put64(uint8_t *at, uint64_t x)
+{
+    x = __builtin_bswap64(x);
+    memcpy(at, &x, sizeof x);
+    return at + sizeof x;
+}
+
+static uint8_t *put_symbol(uint8_t *at, uint8_t code, uint64_t set)
+{
+    if (set != 0)
+        return put64(put_head(at, THROUGH_TAG, 8), set);
+    if (code < JOIN) {
+        at = put_head(at, STEP_TAG, 2);
+        *at++ = code / 64;
+        *at++ = code % 64;
+        return at;
+    }
+    at = put_head(at, OPERATOR_TAG, 1);
+    *at++ = code;
+    return at;
+}
+
+static size_t put_file(const Members *all, uint8_t *file)
+{
+    uint8_t *at = put_head(file, HEAD_TAG, 2);
+    *at++ = 0;
+    *at++ = (uint8_t)all->count;
+    for (size_t i = 0; i < all->count; i++) {
+        const Member *m = all->member + all->order[i];
+        at = put_head(at, MEMBER_TAG, 17);
+        *at++ = m->size;
+        at = put64(put64(at, m->from), m->to);
+        for (size_t j = 0; j < m->size; j++)
+            at = put_symbol(at, m->codes[j], m->sets[j]);
+    }
+    return (size_t)(at - file);
+}
+
+static size_t narrow(const Sheet *sheet, const uint8_t *question, uint8_t *file)
+{
+    Table table;
+    Members members;
+    if (!infer(&table, sheet, question))
+        return 0;
+    merge(&table, &members);
+    return put_file(&members, file);
+}
+
+/* ---- the calls */
+
+void c_plain(const uint8_t *question, size_t question_length, const uint8_t *register_file, size_t register_length,
+             uint64_t *work, uint64_t *answer)
+{
+    (void)question_length, (void)register_length;
+    Register r = read_register(register_file);
+    evaluate(&r, NULL, question + 4, question[3], work);
+    memcpy(answer, work, PATHS_ANSWER_WORDS(r.records) * sizeof *answer);
+    memset(work, 0, PATHS_ANSWER_WORK(r.records) * sizeof *work);
+}
+
+void c_narrowed(const uint8_t *narrowed, size_t narrowed_length, const uint8_t *register_file, size_t register_length,
+                uint64_t *work, uint64_t *answer)
+{
+    (void)narrowed_length, (void)register_length;
+    Register r = read_register(register_file);
+    answer_members(&r, narrowed, work, answer);
+    memset(work, 0, PATHS_ANSWER_WORK(r.records) * sizeof *work);
+}
+
+size_t c_narrow(const uint8_t *sheet_file, size_t sheet_length, const uint8_t *question, size_t question_length, uint64_t *work,
+                uint8_t *file)
+{
+    (void)question_length;
+    Sheet sheet;
+    read_sheet(sheet_file, sheet_length, &sheet);
+    size_t bytes = narrow(&sheet, question, file);
+    memset(work, 0, PATHS_NARROW_WORK * sizeof *work);
+    return bytes;
+}
+
+size_t c_job(const uint8_t *sheet_file, size_t sheet_length, const uint8_t *question, size_t question_length,
+             const uint8_t *register_file, size_t register_length, uint64_t *work, uint64_t *answer, uint8_t *file)
+{
+    (void)question_length, (void)register_length;
+    Sheet sheet;
+    Register r = read_register(register_file);
+    read_sheet(sheet_file, sheet_length, &sheet);
+    size_t bytes = obeys(&r, &sheet) ? narrow(&sheet, question, file) : 0;
+    if (bytes != 0)
+        answer_members(&r, file, work, answer);
+    memset(work, 0, PATHS_JOB_WORK(r.records) * sizeof *work);
+    return bytes;
+}

@@ -1,4 +1,4 @@
-.PHONY: run program test lib client
+.PHONY: run program test lib client bench
 
 # The main job on the example fleet.
 run: program
@@ -23,3 +23,7 @@ client: lib
 	$(CC) -std=c99 -pedantic -Wall -Wextra -Werror -O2 -Iinclude -o build/client tests/client.c build/libpaths.a
 	ulimit -s 256 && build/client
 	if command -v valgrind >/dev/null; then valgrind -q --error-exitcode=1 build/client >build/client.out; fi
+
+# The library against its peers: the tables of bench/README.md, and bench/results/.
+bench: lib
+	python3 -m bench.run

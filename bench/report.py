@@ -1,0 +1,214 @@
+"""Tables and a plot of what the driver measured: bench/results/measured.csv, tables.md, plot.svg, and the tables in bench/README.md.
+
+    python3 -m bench.report
+
+makes them again from bench/results/measured.csv.
+"""
+from __future__ import annotations
+
+import platform
+import sys
+from math import log10
+from pathlib import Path
+from statistics import median
+
+from bench import fleet
+
+BENCH = Path(__file__).resolve().parent
+RESULTS = BENCH / "results"
+START, END = "<!-- measured: start -->", "<!-- measured: end -->"
+LARGEST = max(fleet.SIZES)
+PEERS = {"library": "library", "c": "C", "rust": "Rust", "graphblas": "GraphBLAS", "sqlite": "SQLite"}
+COLOURS = {"library": "#c0392b", "c": "#2c3e50", "rust": "#d68910", "graphblas": "#2471a3", "sqlite": "#1e8449"}
+
+
+class Measured:
+    """The driver's lines: medians and quartiles by size, name, peer and call; members and pairs by size and name."""
+
+    def __init__(self, text: str):
+        self.times, self.spread, self.sizes = {}, {}, {}
+        for line in text.splitlines():
+            what, records, name, peer, call, *numbers = line.split(",")
+            middle, low, high = map(float, numbers)
+            if what == "size":
+                self.sizes[int(records), name] = int(middle), int(low)
+            else:
+                self.times[int(records), name, peer, call] = middle
+                self.spread[int(records), name, peer, call] = (high - low) / middle
+
+    def time(self, name: str, peer: str, call: str, records: int = LARGEST):
+        return self.times.get((records, name, peer, call))
+
+    def ratio(self, name: str, over: tuple, under: tuple, records: int = LARGEST):
+        a, b = self.time(name, *over, records), self.time(name, *under, records)
+        return None if a is None or b is None else a / b
+
+    def net(self, name: str, call: str, records: int = LARGEST) -> float:
+        """The library's call less the zeroing of the work words."""
+        return self.time(name, "library", call, records) - self.time(name, "-", "clear", records)
+
+
+def shown(x, form: str = "{:.2f}") -> str:
+    return "-" if x is None else form.format(x)
+
+
+def table(head: list, rows: list) -> str:
+    lines = ["| " + " | ".join(head) + " |", "|" + "---|" * len(head)]
+    return "\n".join(lines + ["| " + " | ".join(row) + " |" for row in rows]) + "\n"
+
+
+JOB = ("library", "job")
+
+
+def job_table(m: Measured) -> str:
+    head = ["question", "members", "pairs", "job, µs", "less zeroing", "job / C", "job / Rust", "GraphBLAS / job", "GraphBLAS / job less zeroing", "SQLite / job"]
+    rows = []
+    for q in fleet.QUESTIONS:
+        members, pairs = m.sizes[LARGEST, q.name]
+        whole = m.time(q.name, "graphblas", "whole")
+        rows.append([q.name, str(members), f"{pairs:,}", shown(m.time(q.name, *JOB), "{:.0f}"), shown(m.net(q.name, "job"), "{:.0f}"),
+                     shown(m.ratio(q.name, JOB, ("c", "job"))), shown(m.ratio(q.name, JOB, ("rust", "job"))),
+                     shown(m.ratio(q.name, ("graphblas", "whole"), JOB), "{:.1f}"),
+                     shown(None if whole is None else whole / m.net(q.name, "job"), "{:.1f}"),
+                     shown(m.ratio(q.name, ("sqlite", "whole"), JOB), "{:.0f}")])
+    return table(head, rows)
+
+
+def answer_table(m: Measured) -> str:
+    head = ["question", "plain, µs", "plain / C", "plain / Rust", "narrowed, µs", "narrowed / C", "narrowed / Rust", "narrowed / plain",
+            "plain / narrowed, less zeroing", "cuts a heavy chain"]
+    rows = []
+    for q in fleet.QUESTIONS:
+        plain, narrowed = ("library", "plain"), ("library", "narrowed")
+        rows.append([q.name, shown(m.time(q.name, *plain), "{:.0f}"), shown(m.ratio(q.name, plain, ("c", "plain"))),
+                     shown(m.ratio(q.name, plain, ("rust", "plain"))), shown(m.time(q.name, *narrowed), "{:.0f}"),
+                     shown(m.ratio(q.name, narrowed, ("c", "narrowed"))), shown(m.ratio(q.name, narrowed, ("rust", "narrowed"))),
+                     shown(m.ratio(q.name, narrowed, plain)), shown(m.net(q.name, "plain") / m.net(q.name, "narrowed"), "{:.1f}"),
+                     "yes" if q.cuts else ""])
+    return table(head, rows)
+
+
+def growth_table(m: Measured) -> str:
+    head = ["question"] + [f"job at {n}, µs" for n in fleet.SIZES] + [f"job / C at {n}" for n in fleet.SIZES]
+    rows = [[q.name] + [shown(m.time(q.name, *JOB, n), "{:.0f}") for n in fleet.SIZES]
+            + [shown(m.ratio(q.name, JOB, ("c", "job"), n)) for n in fleet.SIZES] for q in fleet.QUESTIONS]
+    zeroing = [shown(m.time(fleet.QUESTIONS[0].name, "-", "clear", n), "{:.0f}") for n in fleet.SIZES]
+    return table(head, rows + [["(zeroing alone)"] + zeroing + [""] * len(fleet.SIZES)])
+
+
+def narrow_table(m: Measured) -> str:
+    head = ["narrowing", "members", "µs", "/ C", "/ Rust"]
+    rows = []
+    for n in fleet.NARROWINGS:
+        ours = ("library", "narrow")
+        rows.append([n.name, str(m.sizes[0, n.name][0]), shown(m.time(n.name, *ours, 0), "{:.1f}"),
+                     shown(m.ratio(n.name, ours, ("c", "narrow"), 0)), shown(m.ratio(n.name, ours, ("rust", "narrow"), 0))])
+    return table(head, rows)
+
+
+# Goals.
+
+def missed(found: dict, good) -> str:
+    bad = {name: x for name, x in found.items() if x is not None and not good(x)}
+    values = [x for x in found.values() if x is not None]
+    if not values:
+        return "not measured here"
+    span = f"from {min(values):.2f} to {max(values):.2f}"
+    return f"met, {span}" if not bad else f"missed on {', '.join(f'{n} ({x:.2f})' for n, x in bad.items())}; {span}"
+
+
+def goals(m: Measured) -> str:
+    names = [q.name for q in fleet.QUESTIONS]
+    cases = {n.name: m.time(n.name, "library", "narrow", 0) for n in fleet.NARROWINGS}
+    of = lambda over, under: {n: m.ratio(n, over, under) for n in names}
+    net = {n: None if m.time(n, "graphblas", "whole") is None else m.time(n, "graphblas", "whole") / m.net(n, "job") for n in names}
+    lines = [
+        ("job at most 1.2 times C's", missed(of(JOB, ("c", "job")), lambda x: x <= 1.2)),
+        ("GraphBLAS from bytes takes longer than the job", missed(of(("graphblas", "whole"), JOB), lambda x: x > 1)),
+        ("the same, the job less zeroing", missed(net, lambda x: x > 1)),
+        ("SQLite from the links takes longer than the job", missed(of(("sqlite", "whole"), JOB), lambda x: x > 1)),
+        ("narrowing of the cases under 1,000 µs", missed({n: t for n, t in cases.items() if n.startswith("case")}, lambda x: x < 1000)),
+        ("narrowing of the worst found under 50,000 µs", missed({n: t for n, t in cases.items() if not n.startswith("case")}, lambda x: x < 50000)),
+        ("narrowed at most 1.1 times plain", missed(of(("library", "narrowed"), ("library", "plain")), lambda x: x <= 1.1)),
+        ("plain at least 2 times narrowed where a heavy chain is cut",
+         missed({q.name: m.ratio(q.name, ("library", "plain"), ("library", "narrowed")) for q in fleet.QUESTIONS if q.cuts}, lambda x: x >= 2)),
+        ("the same, both less zeroing",
+         missed({q.name: m.net(q.name, "plain") / m.net(q.name, "narrowed") for q in fleet.QUESTIONS if q.cuts}, lambda x: x >= 2)),
+    ]
+    return table(["goal, at N = 1,024", "found"], [list(line) for line in lines])
+
+
+def noise(m: Measured) -> str:
+    twice = [abs(m.ratio(q.name, ("library", "job again"), JOB, n) - 1) for q in fleet.QUESTIONS for n in fleet.SIZES]
+    return (f"Noise: the same job timed twice in the run differs by {100 * median(twice):.1f} % in the median, {100 * max(twice):.0f} % at most; "
+            f"the quartiles of a timing lie {100 * median(m.spread.values()):.1f} % of its median apart, in the median.")
+
+
+def machine() -> str:
+    names = [line.split(":")[1].strip() for line in Path("/proc/cpuinfo").read_text().splitlines() if line.startswith("model name")]
+    return f"{names[0] if names else platform.processor()}, {len(names)} cores, {platform.system()}"
+
+
+def tables(m: Measured, runs: str) -> str:
+    return "\n".join([
+        f"Machine: {machine()}. {runs}", noise(m), "", goals(m), "The whole job, N = 1,024:", "", job_table(m),
+        "The answers, N = 1,024:", "", answer_table(m), "Growth:", "", growth_table(m), "Narrowing alone:", "", narrow_table(m)])
+
+
+# The plot: a row for each question, a mark for each peer, on a logarithmic scale of microseconds.
+
+WIDTH, LEFT, TOP, STEP = 900, 130, 70, 26
+
+
+def mark(x: float, y: float, colour: str) -> str:
+    return f'<circle cx="{x:.1f}" cy="{y:.1f}" r="5" fill="{colour}" fill-opacity="0.85"/>'
+
+
+def text(x: float, y: float, words: str, anchor: str = "start") -> str:
+    return f'<text x="{x:.1f}" y="{y:.1f}" text-anchor="{anchor}">{words}</text>'
+
+
+def plot(m: Measured) -> str:
+    calls = {"library": "job", "c": "job", "rust": "job", "graphblas": "whole", "sqlite": "whole"}
+    found = [t for (n, _, peer, call), t in m.times.items() if n == LARGEST and calls.get(peer) == call]
+    low, high = int(log10(min(found))), int(log10(max(found))) + 1
+    place = lambda t: LEFT + (log10(t) - low) / (high - low) * (WIDTH - LEFT - 30)
+    height = TOP + STEP * len(fleet.QUESTIONS) + 40
+    parts = [f'<svg xmlns="http://www.w3.org/2000/svg" width="{WIDTH}" height="{height}" font-family="sans-serif" font-size="13">',
+             '<rect width="100%" height="100%" fill="white"/>', text(LEFT, 22, f"The whole job at N = {LARGEST:,}, microseconds (from the files' bytes)")]
+    for power in range(low, high + 1):
+        x = place(10 ** power)
+        parts += [f'<line x1="{x:.1f}" x2="{x:.1f}" y1="{TOP - 10}" y2="{height - 36}" stroke="#ddd"/>', text(x, height - 18, f"{10 ** power:,}", "middle")]
+    clear = place(m.time(fleet.QUESTIONS[0].name, "-", "clear"))
+    parts += [f'<line x1="{clear:.1f}" x2="{clear:.1f}" y1="{TOP - 10}" y2="{height - 36}" stroke="{COLOURS["library"]}" stroke-dasharray="4 3"/>',
+              text(clear + 4, TOP - 14, "zeroing of the work words")]
+    for i, (peer, name) in enumerate(PEERS.items()):
+        parts += [mark(LEFT + 110 * i, 42, COLOURS[peer]), text(LEFT + 110 * i + 10, 46, name)]
+    for row, q in enumerate(fleet.QUESTIONS):
+        y = TOP + STEP * row + 8
+        parts.append(text(LEFT - 10, y + 4, q.name, "end"))
+        parts += [mark(place(t), y, COLOURS[peer]) for peer, call in reversed(calls.items()) if (t := m.time(q.name, peer, call))]
+    return "\n".join(parts + ["</svg>", ""])
+
+
+def write(measured: str, runs: int) -> None:
+    RESULTS.mkdir(exist_ok=True)
+    said = f"Medians of {runs} runs (11 where a run takes over 20 ms); work words zero before each run, answer and file area not."
+    (RESULTS / "measured.csv").write_text(f"# {said}\n{measured}")
+    again()
+
+
+def again() -> None:
+    first, rest = (RESULTS / "measured.csv").read_text().split("\n", 1)
+    m = Measured(rest)
+    made = tables(m, first.removeprefix("# "))
+    (RESULTS / "tables.md").write_text(made)
+    (RESULTS / "plot.svg").write_text(plot(m))
+    readme = BENCH / "README.md"
+    page = readme.read_text()
+    readme.write_text(page[:page.index(START) + len(START)] + "\n" + made + page[page.index(END):])
+    print(goals(m), file=sys.stdout)
+
+
+if __name__ == "__main__":
+    again()

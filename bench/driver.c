@@ -4,8 +4,8 @@
  *
  * reads FOLDER/list. A line `answer N NAME` asks question-NAME on register-N by sheet; a line `narrow NAME` narrows narrow-NAME.question
  * by narrow-NAME.sheet. Each timing of a line is taken in turn, RUNS times over (11 times where it takes long), so that all of them meet
- * the same disturbances; before each timed run the same call runs once untimed, so that caches are as that call leaves them, and the work
- * words are zero, as each call leaves them. Prints a line for each timing, in CSV: what,N,name,peer,call,median,lower quartile,upper quartile (microseconds);
+ * the same disturbances; before each timed run the same call runs untimed (WARM_RUNS times, never where it takes long), so that caches are as that
+ * call leaves them, and the work words are zero, as each call leaves them. Prints a line for each timing, in CSV: what,N,name,peer,call,median,lower quartile,upper quartile (microseconds);
  * and for each question its members and pairs. Exits with 1 where two peers differ. */
 #include "paths.h"
 #include "peers.h"
@@ -16,7 +16,7 @@
 #include <string.h>
 #include <time.h>
 
-enum { MOST_RUNS = 1001, LONG_RUNS = 11, FILE_ROOM = 70149, WORDS = 1024 * 16 };
+enum { MOST_RUNS = 1001, LONG_RUNS = 11, WARM_RUNS = 3, FILE_ROOM = 70149, WORDS = 1024 * 16 };
 static const double LONG_CALL = 20000; /* microseconds from which a call is run LONG_RUNS times */
 
 typedef struct {
@@ -165,7 +165,7 @@ static void compare(const Timing *t, const char *name)
 /* One run of a timing, with the answer and the file marked before it, so that what an earlier run left cannot pass for its result. */
 static void run_once(Timing *t, const char *name)
 {
-    if (t->runs == 0 || t->times[0] < LONG_CALL)
+    for (int warm = 0; warm < WARM_RUNS && (t->runs == 0 || t->times[0] < LONG_CALL); warm++)
         t->run();
     memset(answer, 0x55, PATHS_ANSWER_WORDS(records) * 8);
     memset(file, 0x55, due_bytes);

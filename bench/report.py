@@ -1,4 +1,4 @@
-"""Tables and a plot of what the driver measured: bench/results/measured.csv, tables.md, plot.svg, and the tables in bench/README.md.
+"""Tables and plots of what the driver measured: bench/results/measured.csv, tables.md, job.svg, growth.svg, and the tables in bench/README.md.
 
     python3 -m bench.report
 
@@ -155,40 +155,70 @@ def tables(m: Measured, runs: str) -> str:
         "The answers, N = 1,024:", "", answer_table(m), "Growth:", "", growth_table(m), "Narrowing alone:", "", narrow_table(m)])
 
 
-# The plot: a row for each question, a mark for each peer, on a logarithmic scale of microseconds.
+# Plots, on logarithmic scales of microseconds.
 
-WIDTH, LEFT, TOP, STEP = 900, 130, 70, 26
+WIDTH, LEFT, RIGHT, TOP, STEP = 900, 130, 60, 90, 26
 
 
 def mark(x: float, y: float, colour: str) -> str:
     return f'<circle cx="{x:.1f}" cy="{y:.1f}" r="5" fill="{colour}" fill-opacity="0.85"/>'
 
 
-def text(x: float, y: float, words: str, anchor: str = "start") -> str:
-    return f'<text x="{x:.1f}" y="{y:.1f}" text-anchor="{anchor}">{words}</text>'
+def line(x1: float, y1: float, x2: float, y2: float, colour: str, dash: str = "") -> str:
+    return f'<line x1="{x1:.1f}" y1="{y1:.1f}" x2="{x2:.1f}" y2="{y2:.1f}" stroke="{colour}" stroke-dasharray="{dash}"/>'
 
 
-def plot(m: Measured) -> str:
+def words(x: float, y: float, said: str, anchor: str = "start") -> str:
+    return f'<text x="{x:.1f}" y="{y:.1f}" text-anchor="{anchor}">{said}</text>'
+
+
+def drawing(height: int, title: str, parts: list) -> str:
+    head = f'<svg xmlns="http://www.w3.org/2000/svg" width="{WIDTH}" height="{height}" font-family="sans-serif" font-size="13">'
+    return "\n".join([head, '<rect width="100%" height="100%" fill="white"/>', words(LEFT, 22, title), *parts, "</svg>", ""])
+
+
+def scale(found: list, start: float, end: float):
+    """The powers of ten around what was found, and where a time stands between start and end."""
+    low, high = int(log10(min(found))), int(log10(max(found))) + 1
+    return range(low, high + 1), lambda t: start + (log10(t) - low) / (high - low) * (end - start)
+
+
+def job_plot(m: Measured) -> str:
+    """A row for each question, a mark for each peer."""
     calls = {"library": "job", "c": "job", "rust": "job", "graphblas": "whole", "sqlite": "whole"}
     found = [t for (n, _, peer, call), t in m.times.items() if n == LARGEST and calls.get(peer) == call]
-    low, high = int(log10(min(found))), int(log10(max(found))) + 1
-    place = lambda t: LEFT + (log10(t) - low) / (high - low) * (WIDTH - LEFT - 30)
-    height = TOP + STEP * len(fleet.QUESTIONS) + 40
-    parts = [f'<svg xmlns="http://www.w3.org/2000/svg" width="{WIDTH}" height="{height}" font-family="sans-serif" font-size="13">',
-             '<rect width="100%" height="100%" fill="white"/>', text(LEFT, 22, f"The whole job at N = {LARGEST:,}, microseconds (from the files' bytes)")]
-    for power in range(low, high + 1):
-        x = place(10 ** power)
-        parts += [f'<line x1="{x:.1f}" x2="{x:.1f}" y1="{TOP - 10}" y2="{height - 36}" stroke="#ddd"/>', text(x, height - 18, f"{10 ** power:,}", "middle")]
+    powers, place = scale(found, LEFT, WIDTH - RIGHT)
+    foot = TOP + STEP * len(fleet.QUESTIONS)
+    parts = [part for p in powers for part in (line(place(10 ** p), TOP - 10, place(10 ** p), foot, "#ddd"), words(place(10 ** p), foot + 18, f"{10 ** p:,}", "middle"))]
     clear = place(m.time(fleet.QUESTIONS[0].name, "-", "clear"))
-    parts += [f'<line x1="{clear:.1f}" x2="{clear:.1f}" y1="{TOP - 10}" y2="{height - 36}" stroke="{COLOURS["library"]}" stroke-dasharray="4 3"/>',
-              text(clear + 4, TOP - 14, "zeroing of the work words")]
+    parts += [line(clear, TOP - 10, clear, foot, COLOURS["library"], "4 3"), words(clear + 4, TOP - 16, "zeroing of the work words")]
     for i, (peer, name) in enumerate(PEERS.items()):
-        parts += [mark(LEFT + 110 * i, 42, COLOURS[peer]), text(LEFT + 110 * i + 10, 46, name)]
+        parts += [mark(LEFT + 110 * i, 42, COLOURS[peer]), words(LEFT + 110 * i + 10, 46, name)]
     for row, q in enumerate(fleet.QUESTIONS):
         y = TOP + STEP * row + 8
-        parts.append(text(LEFT - 10, y + 4, q.name, "end"))
+        parts.append(words(LEFT - 10, y + 4, q.name, "end"))
         parts += [mark(place(t), y, COLOURS[peer]) for peer, call in reversed(calls.items()) if (t := m.time(q.name, peer, call))]
-    return "\n".join(parts + ["</svg>", ""])
+    return drawing(foot + 30, f"The whole job at N = {LARGEST:,}, microseconds (from the files' bytes)", parts)
+
+
+GROWING = {"sealed": "#7f8c8d", "inside": "#2471a3", "fitted": "#c0392b", "reach": "#1e8449"}
+
+
+def growth_plot(m: Measured) -> str:
+    """A line for each of some questions over the sizes: the library's job, and dashed the one in C."""
+    peers = {"library": "", "c": "4 3"}
+    found = [m.time(name, peer, "job", n) for name in GROWING for peer in peers for n in fleet.SIZES]
+    head, foot = 50, 400
+    powers, place = scale(found, foot, head)
+    across = lambda n: LEFT + log10(n / fleet.SIZES[0]) / log10(LARGEST / fleet.SIZES[0]) * (WIDTH - LEFT - 2 * RIGHT)
+    parts = [part for p in powers for part in (line(LEFT, place(10 ** p), across(LARGEST), place(10 ** p), "#ddd"), words(LEFT - 10, place(10 ** p) + 4, f"{10 ** p:,}", "end"))]
+    parts += [words(across(n), foot + 20, f"{n:,}", "middle") for n in fleet.SIZES]
+    for name, colour in GROWING.items():
+        for peer, dash in peers.items():
+            spots = [(across(n), place(m.time(name, peer, "job", n))) for n in fleet.SIZES]
+            parts += [line(*a, *b, colour, dash) for a, b in zip(spots, spots[1:])]
+        parts.append(words(across(LARGEST) + 8, place(m.time(name, "library", "job")) + 4, name))
+    return drawing(foot + 40, "The whole job by N, microseconds; dashed: C by hand", parts)
 
 
 def write(measured: str, runs: int) -> None:
@@ -203,7 +233,8 @@ def again() -> None:
     m = Measured(rest)
     made = tables(m, first.removeprefix("# "))
     (RESULTS / "tables.md").write_text(made)
-    (RESULTS / "plot.svg").write_text(plot(m))
+    (RESULTS / "job.svg").write_text(job_plot(m))
+    (RESULTS / "growth.svg").write_text(growth_plot(m))
     readme = BENCH / "README.md"
     page = readme.read_text()
     readme.write_text(page[:page.index(START) + len(START)] + "\n" + made + page[page.index(END):])

@@ -145,24 +145,39 @@ def right_fold(code: int, *paths: list) -> list:
     return whole
 
 
-# One kind that 14 links lead to itself, and a link from it to each of 64 kinds. Seven joined choices of two links make 128 triples with
-# the same ends; under a branch each of them is found again for each of the 64 kinds, and compared with the triples that stand already.
-FAN = 14
-FAN_SHEET = Sheet(64, FAN + 1, sorted({(0, link, 0) for link in range(FAN)} | {(0, FAN, kind) for kind in range(64)}))
-CHOICES = tuple(either(step(2 * i), step(2 * i + 1)) for i in range(FAN // 2))
+# A fan is a link from one kind to each of 64: under a branch the far kind is dropped, so that a triple is found again for each of them.
+ALL_KINDS = 64
 
 
-def fans() -> list:
-    """The ways to put two branches over the 128 triples."""
+def fan(source: int, link: int) -> set:
+    return {(source, link, kind) for kind in range(ALL_KINDS)}
+
+
+def flights() -> list:
+    """One kind, 14 links from it to itself: seven joined choices of two of them are 128 triples, under two branches by a fan."""
+    links = 14
+    sheet = Sheet(ALL_KINDS, links + 1, sorted({(0, link, 0) for link in range(links)} | fan(0, links)))
+    choices = [either(step(2 * i), step(2 * i + 1)) for i in range(links // 2)]
     found = []
-    for side, triples in (("left", fold(JOIN, *CHOICES)), ("right", right_fold(JOIN, *CHOICES))):
-        right = fold(BRANCH_RIGHT, triples, step(FAN), step(FAN))
-        left = right_fold(BRANCH_LEFT, step(FAN), step(FAN), triples)
-        found += [Narrowing(f"fan-{side}-right", FAN_SHEET, right), Narrowing(f"fan-{side}-left", FAN_SHEET, left)]
+    for side, triples in (("left", fold(JOIN, *choices)), ("right", right_fold(JOIN, *choices))):
+        found += [Narrowing(f"flight-{side}-right", sheet, fold(BRANCH_RIGHT, triples, step(links), step(links))),
+                  Narrowing(f"flight-{side}-left", sheet, right_fold(BRANCH_LEFT, step(links), step(links), triples))]
     return found
 
 
-NARROWINGS = [Narrowing(f"case-{case.number}", cases.SHEET, case.question) for case in cases.CASES] + fans()
+def ladders() -> list:
+    """Kinds 0 to 5, two links from each to the next: the chain of both has 114 triples from few symbols; then branches by a fan, as many
+    as a question has room for. For branches left the chain is cut to the walks from kind 0 first, and doubled twice."""
+    rungs = {(kind, link, kind + 1) for kind in range(5) for link in (0, 1)}
+    doubled = {(5, 2, 6), (5, 3, 6), (6, 5, 7), (6, 6, 7)}
+    climbs = chain(either(step(0), step(1)))
+    right = fold(BRANCH_RIGHT, joined(climbs, either(step(2), step(3))), *[step(4)] * 12)
+    from_foot = joined(right_fold(BRANCH_LEFT, step(4), climbs), either(step(2), step(3)), either(step(5), step(6)))
+    return [Narrowing("ladder-right", Sheet(ALL_KINDS, 7, sorted(rungs | doubled | fan(6, 4))), right),
+            Narrowing("ladder-left", Sheet(ALL_KINDS, 7, sorted(rungs | doubled | fan(0, 4))), right_fold(BRANCH_LEFT, *[step(4)] * 9, from_foot))]
+
+
+NARROWINGS = [Narrowing(f"case-{case.number}", cases.SHEET, case.question) for case in cases.CASES] + flights() + ladders()
 
 
 def main(folder: str) -> None:

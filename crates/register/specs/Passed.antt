@@ -2,10 +2,10 @@
 -- Assumes nothing.
 use mathlib.Core.Path.{_≡_}
 use mathlib.Core.List.{List}
-use Prim.Native.Nat.{ℕ, _+_, _<_, _≤_}
+use Prim.Native.Nat.{ℕ, _+_, _/_, _%_, _<_, _≤_}
 use lib.ListN.{length, getD, take, drop}
 use Rattle.fields.specs.Answer.{got}
-use Rattle.fields.specs.Reading.{word, body, field-at}
+use Rattle.fields.specs.Reading.{word, eight, body, field-at}
 use Rattle.register.specs.declared.Progress.{Progress}
 use Rattle.register.specs.Form.{due-entry}
 use Rattle.register.specs.Said.{entry-of}
@@ -17,13 +17,18 @@ pub record KindAt (s : List ℕ) (q : Progress) (at : ℕ) : Type 0 where
   pub tag : getD s at 0 ≡ 0x32
   pub len : word s (at + 1) ≡ 1
 
--- so too a link
-pub record LinkAt (s : List ℕ) (q : Progress) (at : ℕ) : Type 0 where
-  pub kinds : q .kindless ≡ 0
-  pub due : 0 < q .left
+-- the number in eight bytes that lie at a place
+pub record NumberAt (s : List ℕ) (at v : ℕ) : Type 0 where
   pub room : at + 8 ≤ length s
-  pub tag : getD s at 0 ≡ 0x33
-  pub len : word s (at + 1) ≡ 5
+  pub is : v ≡ eight s at
+
+-- a link is due, and the number of its field is within the bounds, its link one of 64, and to one of the records
+pub record Passes (v left floor top records : ℕ) : Type 0 where
+  pub due : 0 < left
+  pub low : floor ≤ v
+  pub high : v < top
+  pub label : v / 65536 % 256 < 64
+  pub to : v % 65536 < records
 
 -- from a place and a progress to another: none, or one field more
 pub data Passed (s : List ℕ) (q : Progress) (at : ℕ) : Progress → ℕ → Type 0 where

@@ -13,7 +13,7 @@ ghost use Rattle.fields.specs.Reading.{read};
 ghost use Rattle.theory.specs.Register.{records, kind};
 ghost use Rattle.register.specs.Form.{head-of, kind-of, link-of, key, register-form, register-in};
 ghost use Rattle.register.specs.Said.{due-of, entry-of, judged, Ready, turn-said, outcome-said, sizes-of, sized};
-ghost use Rattle.register.specs.Passed.{KindAt, LinkAt, Passed};
+ghost use Rattle.register.specs.Passed.{KindAt, NumberAt, Passes, Passed};
 ghost use Rattle.register.specs.Ahead.{Accepted, Ahead, SomeAhead, Next};
 
 // How far the reading has come: the numbers of records and links, of records whose kind is due, of links left, and the least key allowed next.
@@ -211,23 +211,34 @@ fn kind_lies(s: &[u8], at: usize, q: Progress) -> bool
     fields::two(s, at + 1) == 1
 }
 
-fn link_lies(s: &[u8], at: usize, q: Progress) -> bool
+// The number in the eight bytes at a place, or 0 where there are fewer.
+fn number_at(s: &[u8], at: usize) -> u64
     requires { ⌜ at ≤ length (now s) ⌝ }
-    ensures { λ r. ⌜ (r ≡ true → LinkAt (now (s .entry)) q at) ⌝ }
+    ensures { λ r. ⌜ (0 < r → NumberAt (now (s .entry)) at r) ⌝ }
 {
-    if q.kindless != 0 {
-        return false;
-    }
-    if q.left == 0 {
-        return false;
-    }
     if s.len() - at < 8 {
+        return 0;
+    }
+    fields::eight_at(s, at)
+}
+
+// Another link is due, and the number is one of its field: not below `floor`, below `top`, its link one of 64, and to a record.
+fn link_passes(v: u64, left: u16, floor: u64, top: u64, records: u64) -> bool
+    ensures { λ r. ⌜ (r ≡ true → Passes v left floor top records) ⌝ }
+{
+    if left == 0 {
         return false;
     }
-    if s[at] != 0x33 {
+    if v < floor {
         return false;
     }
-    fields::two(s, at + 1) == 5
+    if top <= v {
+        return false;
+    }
+    if 64 <= v / 65536 % 256 {
+        return false;
+    }
+    v % 65536 < records
 }
 
 // Past the kinds that are as they should be, in a loop of their own that is quick; whatever else lies there is left to the general loop.
@@ -251,25 +262,46 @@ fn past_kinds(s: &[u8], from: usize, start: Progress) -> Reached
     Reached { at, progress: q }
 }
 
-// The same of links.
+// The same of links, each taken as one number: tag, length and key, so that two comparisons are enough for tag, length, from and order.
+// A turn ends with the next number, since one that is used at once is put together from its bytes again.
 fn past_links(s: &[u8], from: usize, start: Progress) -> Reached
     requires { ⌜ from ≤ length (now s) ⌝ }
     ensures { λ r. ⌜ Passed (now (s .entry)) start from (r .progress) (r .at) ⌝ }
 {
-    let mut at = from;
-    let mut q = start;
-    while link_lies(s, at, q) {
-        match judge_link(q, at, &s[at + 3..at + 8]) {
-            Turn::Stop(_) => {
-                return Reached { at, progress: q };
-            }
-            Turn::Go(next) => {
-                q = next;
-                at = at + 8;
-            }
-        }
+    if start.kindless != 0 {
+        return Reached {
+            at: from,
+            progress: start,
+        };
     }
-    Reached { at, progress: q }
+    if 0x10000000000 < start.floor {
+        return Reached {
+            at: from,
+            progress: start,
+        };
+    }
+    let records = long(start.records);
+    let top = 0x3300050000000000 + records * 16777216;
+    let mut at = from;
+    let mut left = start.left;
+    let mut floor = 0x3300050000000000 + start.floor;
+    let mut v = number_at(s, at);
+    while link_passes(v, left, floor, top, records) {
+        at = at + 8;
+        left = left - 1;
+        floor = v + 1;
+        v = number_at(s, at);
+    }
+    Reached {
+        at,
+        progress: Progress {
+            records: start.records,
+            links: start.links,
+            kindless: 0,
+            left,
+            floor: floor - 0x3300050000000000,
+        },
+    }
 }
 
 fn past(s: &[u8], from: usize, start: Progress) -> Reached

@@ -1,71 +1,70 @@
 -- `register::past_links` meets its contract.
 -- Assumes nothing.
-use Rattle.register.specs.Said.{turn-said}
-use mathlib.Core.Path.{_∙_, sym, ap}
-use lib.ListN.{length-take, length-drop}
-use Rattle.register.proofs.Passing.{past-link}
-use Rattle.register.specs.Passed.{Passed, here}
-use lib.ListN.{length}
 use borrow.Author.Needs.{needs}
-use Prim.Native.Nat.{_-_, _≤_}
+use Prim.Native.Nat.{_-_}
+use lib.ListN.{length}
+use Rattle.register.specs.Passed.{here}
+use Rattle.register.proofs.Passing.{Linked, linked-start, linked-room, linked-more}
 use native.Mathlib.Omega.{arith}
 use Rattle.register.proofs.past_links.Statement.{statement}
 use Rattle.register.proofs.past_links.Tie as tie
 
 abbrev Inv-loop : tie.InvT-loop
-Inv-loop s from at₀ q₀ at q = Passed s q₀ from q at × (at ≤ length s)
+Inv-loop s from start records top at₀ left₀ floor₀ v₀ at left floor v = Linked s start from at left floor v
 
 abbrev μ-loop : tie.MeasureT-loop
-μ-loop s from at₀ q₀ at q = length s - at
-
-loop-holds : tie.Need-loop-holds Inv-loop μ-loop
-loop-holds c = (here, c .before .pre)
-
-link-lies-requires : tie.Need-link-lies-requires Inv-loop μ-loop
-link-lies-requires c κs = search needs
-
-add-judge-link : tie.Need-add-judge-link Inv-loop μ-loop
-add-judge-link c = search needs
-
-add-judge-link-2 : tie.Need-add-judge-link-2 Inv-loop μ-loop
-add-judge-link-2 c = search needs
-
-sub-judge-link : tie.Need-sub-judge-link Inv-loop μ-loop
-sub-judge-link c = search needs
-
-part-judge-link-start : tie.Need-part-judge-link-start Inv-loop μ-loop
-part-judge-link-start c = search needs
-
-part-judge-link-end : tie.Need-part-judge-link-end Inv-loop μ-loop
-part-judge-link-end c = omega (arith, c .before .link-lies .ensures (c .if1 .taken) .room)
-
-judge-link-requires : tie.Need-judge-link-requires Inv-loop μ-loop
-judge-link-requires c κs =
-    let l = c .before .before .link-lies .ensures (c .before .if1 .taken) in
-    (simp (length-take, length-drop) (omega (arith, l .room)), l .due)
-
-enum-told : tie.Need-enum-told Inv-loop μ-loop
-enum-told c = search needs
+μ-loop s from start records top at₀ left₀ floor₀ v₀ at left floor v = length s - at
 
 returns : tie.Need-returns Inv-loop μ-loop
-returns c = search needs
-
-enum-known-next : tie.Need-enum-known-next Inv-loop μ-loop
-enum-known-next c = search needs
-
-add-at : tie.Need-add-at Inv-loop μ-loop
-add-at c = search needs
-
-loop-less : tie.Need-loop-less Inv-loop μ-loop
-loop-less c = omega (arith, c .before .before .before .before .before .before .link-lies .ensures (c .before .before .before .before .before .if1 .taken) .room)
-
-loop-again : tie.Need-loop-again Inv-loop μ-loop
-loop-again c =
-    let l = c .before .before .before .before .before .before .link-lies .ensures (c .before .before .before .before .before .if1 .taken) in
-    (past-link (c .before .before .before .before .before .before .before .loop .inv .0) _ l (sym (c .before .before .before .judge-link .ensures) ∙ ap turn-said (c .before .next .given .1)), l .room)
+returns c = here
 
 returns-2 : tie.Need-returns-2 Inv-loop μ-loop
-returns-2 c = search needs
+returns-2 c = here
+
+long-requires : tie.Need-long-requires Inv-loop μ-loop
+long-requires c κs = search needs
+
+mul-top : tie.Need-mul-top Inv-loop μ-loop
+mul-top c = search needs
+
+add-top : tie.Need-add-top Inv-loop μ-loop
+add-top c = search needs
+
+add-floor : tie.Need-add-floor Inv-loop μ-loop
+add-floor c = search needs
+
+number-at-requires : tie.Need-number-at-requires Inv-loop μ-loop
+number-at-requires c κs = search needs
+
+loop-holds : tie.Need-loop-holds Inv-loop μ-loop
+loop-holds c = linked-start _ _ _ _ (c .before .before .before .before .before .if1 .left) (c .before .before .before .before .before .before .before .before .pre) (c .number-at .ensures)
+
+link-passes-requires : tie.Need-link-passes-requires Inv-loop μ-loop
+link-passes-requires c κs = search needs
+
+add-at : tie.Need-add-at Inv-loop μ-loop
+add-at c = let h = linked-room (c .before .before .loop .inv) (c .before .link-passes .ensures (c .if3 .taken)) in omega (arith, h)
+
+sub-left : tie.Need-sub-left Inv-loop μ-loop
+sub-left c = omega (arith, c .before .link-passes .ensures (c .if3 .taken) .due)
+
+add-floor-2 : tie.Need-add-floor-2 Inv-loop μ-loop
+add-floor-2 c = omega (arith, c .before .link-passes .ensures (c .if3 .taken) .high, c .before .before .before .before .before .long .ensures)
+
+number-at-requires-2 : tie.Need-number-at-requires-2 Inv-loop μ-loop
+number-at-requires-2 c κs = linked-room (c .before .before .loop .inv) (c .before .link-passes .ensures (c .if3 .taken))
+
+loop-less : tie.Need-loop-less Inv-loop μ-loop
+loop-less c = let h = linked-room (c .before .before .before .loop .inv) (c .before .before .link-passes .ensures (c .before .if3 .taken)) in omega (arith, h)
+
+loop-again : tie.Need-loop-again Inv-loop μ-loop
+loop-again c = linked-more (c .before .before .before .loop .inv) (c .before .before .link-passes .ensures (c .before .if3 .taken)) (λ k. omega (arith, c .before .before .before .before .before .before .before .before .before .before .before .shared-slice-known .given k)) (c .before .before .before .before .before .before .long .ensures .0) (c .before .before .before .before .before .before .long .ensures .1) _ (c .number-at2 .ensures)
+
+sub-t11 : tie.Need-sub-t11 Inv-loop μ-loop
+sub-t11 c = c .before .before .loop .inv .base
+
+returns-3 : tie.Need-returns-3 Inv-loop μ-loop
+returns-3 c = c .before .before .loop .inv .passed
 
 pub past-links-spec : {M : Type 1} → statement M
 past-links-spec =
@@ -73,18 +72,20 @@ past-links-spec =
     (tie.spec
     Inv-loop
     μ-loop
-    loop-holds
-    link-lies-requires
-    add-judge-link
-    add-judge-link-2
-    sub-judge-link
-    part-judge-link-start
-    part-judge-link-end
-    judge-link-requires
-    enum-told
     returns
-    enum-known-next
+    returns-2
+    long-requires
+    mul-top
+    add-top
+    add-floor
+    number-at-requires
+    loop-holds
+    link-passes-requires
     add-at
+    sub-left
+    add-floor-2
+    number-at-requires-2
     loop-less
     loop-again
-    returns-2)
+    sub-t11
+    returns-3)

@@ -54,10 +54,11 @@ link-number t n f l o v R ht hn hf hl ho hR e low high =
     let h : t * 65536 + n ≡ 0x330005 = omega arith in
     record { tag = omega (arith, h); len = omega (arith, h); key = omega (arith, h); from = omega (arith, h); label = omega arith; to = omega arith }
 
--- what stands after the number v of a link, where left links are due and floor is the least number allowed
+-- the progress where left links are due, and floor is the least number allowed
 abbrev pub standing : Progress → ℕ → ℕ → Progress
 standing q left floor = record { records = q .records; links = q .links; kindless = 0; left = left; floor = floor - 0x3300050000000000 }
 
+-- the parts of the number in eight bytes, and of a link's body, are bytes of the file
 module _ (s : List ℕ) (i : ℕ) where
   eight-parts : eight s i ≡ ((getD s i 0 * 65536 + word s (i + 1)) * 65536 + word s (i + 3)) * 16777216 + getD s (i + 5) 0 * 65536 + word s (i + 6)
   unfolding eight
@@ -86,13 +87,14 @@ pub record Linked (s : List ℕ) (q : Progress) (at i left floor v : ℕ) : Type
   pub base : 0x3300050000000000 ≤ floor
   pub number : 0 < v → NumberAt s i v
 
-pub linked-start : (s : List ℕ) (q : Progress) (at v : ℕ) → q .kindless ≡ 0 → at ≤ length s → (0 < v → NumberAt s at v) → Linked s q at at (q .left) (0x3300050000000000 + q .floor) v
-linked-start s q at v z h n =
-    let f : q .floor ≡ 0x3300050000000000 + q .floor - 0x3300050000000000 = omega arith in
-    let e : q ≡ standing q (q .left) (0x3300050000000000 + q .floor) =
-    λ j. record { records = q .records; links = q .links; kindless = z j; left = q .left; floor = f j } in
-    record { passed = subst (λ (p : Progress). Passed s q at p at) e here; inside = h; base = omega arith; number = n }
+pub linked-start : (s : List ℕ) (q : Progress) (at floor v : ℕ) → q .kindless ≡ 0 → at ≤ length s → floor ≡ 0x3300050000000000 + q .floor → (0 < v → NumberAt s at v)
+    → Linked s q at at (q .left) floor v
+linked-start s q at floor v z h e n =
+    let f : q .floor ≡ floor - 0x3300050000000000 = omega arith in
+    let p : q ≡ standing q (q .left) floor = λ j. record { records = q .records; links = q .links; kindless = z j; left = q .left; floor = f j } in
+    record { passed = subst (λ (p : Progress). Passed s q at p at) p here; inside = h; base = omega arith; number = n }
 
+-- a link that passes: there is room for it, and what holds at the loop's head holds after it
 module _ {s : List ℕ} {q : Progress} {at i left floor v records : ℕ} (g : Linked s q at i left floor v) (p : Passes v left floor (0x3300050000000000 + records * 16777216) records) where
   number-there : NumberAt s i v
   number-there = g .number (omega (arith, g .base, p .low))

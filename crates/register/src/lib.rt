@@ -262,8 +262,9 @@ fn past_kinds(s: &[u8], from: usize, start: Progress) -> Reached
     Reached { at, progress: q }
 }
 
-// The same of links, each taken as one number: tag, length and key, so that two comparisons are enough for tag, length, from and order.
-// A turn ends with the next number, since one that is used at once is put together from its bytes again.
+// The same of links, each as the number in its eight bytes: tag and length (0x330005) above the key, so that two bounds settle tag, length,
+// from and order. A turn ends with the next number: the compiler takes one that is used at once apart into bytes again. A floor above
+// every key, which no file leads to, is left to the general loop.
 fn past_links(s: &[u8], from: usize, start: Progress) -> Reached
     requires { ⌜ from ≤ length (now s) ⌝ }
     ensures { λ r. ⌜ Passed (now (s .entry)) start from (r .progress) (r .at) ⌝ }

@@ -37,7 +37,7 @@ number-at-requires : tie.Need-number-at-requires Inv-loop μ-loop
 number-at-requires c κs = search needs
 
 loop-holds : tie.Need-loop-holds Inv-loop μ-loop
-loop-holds c = linked-start _ _ _ _ (c .before .before .before .before .before .if1 .left) (c .before .before .before .before .before .before .before .before .pre) (c .number-at .ensures)
+loop-holds c = linked-start _ _ _ _ _ (c .before .before .before .before .before .if1 .left) (c .before .before .before .before .before .before .before .before .pre) (omega arith) (c .number-at .ensures)
 
 link-passes-requires : tie.Need-link-passes-requires Inv-loop μ-loop
 link-passes-requires c κs = search needs

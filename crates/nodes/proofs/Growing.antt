@@ -1,7 +1,7 @@
 -- A part of the table: looked through, kept, and with a node put at its end.
 -- Assumes nothing.
-use mathlib.Core.Path.{_≡_, _∙_}
-use mathlib.Core.Bool.{Bool, true, false}
+use mathlib.Core.Path.{_≡_, ap, _∙_}
+use mathlib.Core.Bool.{Bool, true, false, _||_, or-true, or-false}
 use mathlib.Core.Logic.{⊎-elim}
 use mathlib.Core.List.{List, [], _∷_, _++_}
 use Prim.Native.Nat.{ℕ, _+_, _-_, _<_, _≤_}
@@ -14,6 +14,7 @@ use Rattle.theory.specs.Inference.{Triple, triple?}
 use Rattle.theory.proofs.Lists.{length-tabulate, tabulate-suc, tabulate-same, tabulate-next}
 use Rattle.rows.specs.Kept.{Kept}
 use Rattle.rows.proofs.Words.{kept-set}
+use Rattle.rows.proofs.Ranges.{some-append}
 use Rattle.nodes.specs.declared.Node.{Node}
 use Rattle.nodes.specs.Table.{word-of}
 use Rattle.nodes.specs.Paths.{triple-of, Good, Sound, Has}
@@ -39,16 +40,25 @@ module _ (qs ws : List ℕ) where
   unfolding part-of
   part-over j e h = let q : e - j ≡ 0 = omega arith in rw q
 
-  -- a look through a part
-  module _ (f : Triple → Bool) (j e : ℕ) where
-    pub look-yes : j < e → f (triple-of qs ws j) ≡ true → some? f (part-of qs ws j (e - j)) ≡ true
-    look-yes h y = rw (part-next j e h, y)
+  -- a look through a part, from its end on
+  module _ (f : Triple → Bool) (s j : ℕ) where
+    look-last : s < j → some? f (part-of qs ws s (j - s)) ≡ some? f (part-of qs ws s (j - 1 - s)) || f (triple-of qs ws (j - 1))
+    look-last h =
+        let n : j - s ≡ j - 1 - s + 1 = omega arith in
+        let k : s + (j - 1 - s) ≡ j - 1 = omega arith in
+        ap (λ (m : ℕ). some? f (part-of qs ws s m)) n
+        ∙ ap (some? f) (part-end s (j - 1 - s))
+        ∙ some-append f (part-of qs ws s (j - 1 - s)) (triple-of qs ws (s + (j - 1 - s)) ∷ [])
+        ∙ ap (λ (b : Bool). some? f (part-of qs ws s (j - 1 - s)) || b) (or-false (f (triple-of qs ws (s + (j - 1 - s)))) ∙ ap (λ (m : ℕ). f (triple-of qs ws m)) k)
 
-    pub look-on : j < e → f (triple-of qs ws j) ≡ false → some? f (part-of qs ws j (e - j)) ≡ some? f (part-of qs ws (j + 1) (e - (j + 1)))
-    look-on h y = rw (part-next j e h, y)
+    pub look-yes : s < j → f (triple-of qs ws (j - 1)) ≡ true → some? f (part-of qs ws s (j - s)) ≡ true
+    look-yes h y = look-last h ∙ rw y (or-true (some? f (part-of qs ws s (j - 1 - s))))
 
-    pub look-end : e ≤ j → some? f (part-of qs ws j (e - j)) ≡ false
-    look-end h = rw (part-over j e h)
+    pub look-on : s < j → f (triple-of qs ws (j - 1)) ≡ false → some? f (part-of qs ws s (j - s)) ≡ some? f (part-of qs ws s (j - 1 - s))
+    look-on h y = look-last h ∙ rw y (or-false (some? f (part-of qs ws s (j - 1 - s))))
+
+    pub look-end : j ≤ s → some? f (part-of qs ws s (j - s)) ≡ false
+    look-end h = rw (part-over s j h)
 
 -- ---- what keeps the words below u
 module _ {u hi : ℕ} {xs ys : List ℕ} (h : Kept u hi xs ys) (qs : List ℕ) where

@@ -171,17 +171,18 @@ pub fn same(words: &[u64], used: usize, question: &[u8], a: usize, b: usize) -> 
     same_path(words, used, question, a, b)
 }
 
-// Does the triple of node u stand among those of nodes s to u - 1?
+// Does the triple of node u stand among those of nodes s to u - 1? The newest come first: under a branch right a triple
+// repeats the one just added.
 fn stands(words: &[u64], question: &[u8], s: usize, u: usize) -> bool
     requires { ⌜ Has (now question) (now words) (u + 1) u × (s ≤ u) ⌝ }
     ensures { λ r. ⌜ r ≡ some? (triple? (triple-of (now (question .entry)) (now (words .entry)) u)) (part-of (now (question .entry)) (now (words .entry)) s (u - s)) ⌝ }
 {
-    let mut j = s;
-    while j < u {
+    let mut j = u;
+    while s < j {
+        j = j - 1;
         if same(words, u + 1, question, u, j) {
             return true;
         }
-        j += 1;
     }
     false
 }

@@ -10,7 +10,7 @@ use native.Mathlib.Omega.{arith}
 use Rattle.theory.specs.Lists.{some?, range}
 use Rattle.theory.proofs.Lists.{tabulate-suc}
 
-some-append : (f : ℕ → Bool) (xs ys : List ℕ) → some? f (xs ++ ys) ≡ some? f xs || some? f ys
+pub some-append : {A : Type 0} (f : A → Bool) (xs ys : List A) → some? f (xs ++ ys) ≡ some? f xs || some? f ys
 some-append f [] ys = refl
 some-append f (x ∷ xs) ys = rw (some-append f xs ys) (sym (or-assoc (f x) (some? f xs) (some? f ys)))
 

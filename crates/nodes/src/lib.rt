@@ -122,7 +122,7 @@ fn same_codes(question: &[u8], s: usize, n: usize, t: usize, m: usize) -> bool
 
 // Have nodes a and b the same path? Paths share their operands, so that most comparisons end where two nodes
 // are one; the last symbols of the right operands come first, since a chain of joins often differs there.
-fn same_path(words: &[u64], used: usize, question: &[u8], a: usize, b: usize) -> bool
+pub fn same_path(words: &[u64], used: usize, question: &[u8], a: usize, b: usize) -> bool
     requires { ⌜ Has (now question) (now words) used a × Has (now question) (now words) used b ⌝ }
     ensures { λ r. ⌜ Decides (triple-of (now (question .entry)) (now (words .entry)) a .path ≡ triple-of (now (question .entry)) (now (words .entry)) b .path) r ⌝ }
 {

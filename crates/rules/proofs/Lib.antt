@@ -8,6 +8,7 @@ pub mod Ranging
 -- pairs
 pub mod Pairs
 pub mod Rows
+pub mod Repeating
 -- the rules
 pub mod Ruling
 pub mod PairRule

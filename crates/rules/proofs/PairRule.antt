@@ -1,13 +1,17 @@
 -- The rule of an operator of pairs: the sizes of all candidates, then the triples row by row.
 -- Assumes nothing.
-use mathlib.Core.Path.{_≡_, sym, ap, ap₂, _∙_}
+use mathlib.Core.Path.{_≡_, sym, ap, ap₂, subst, _∙_}
 use mathlib.Core.Bool.{true, false}
-use mathlib.Core.List.{List, _∷_, [], _++_}
+use mathlib.Core.Logic.{⊎-elim}
+use mathlib.Core.List.{List, _∷_, [], _++_, List·Memᴰ as In}
 use Prim.Native.Nat.{ℕ, _+_, _-_, _<_, _≤_}
+use native.Mathlib.Nat.{eq-or-lt-of-le}
 use native.Mathlib.Omega.{arith}
 use Rattle.theory.specs.Lists.{adjoin-all}
 use Rattle.theory.specs.Inference.{Triple, triple?, distinct}
 use Rattle.theory.specs.Narrowing.{short?}
+use Rattle.theory.proofs.Distinct.{adjoin-all-old, adjoin-all-new}
+use Rattle.theory.proofs.Triples.{triple-eq}
 use Rattle.rows.proofs.Words.{kept-refl}
 use Rattle.nodes.specs.Parts.{part-of}
 use Rattle.nodes.proofs.Triples.{triple-kept}
@@ -15,16 +19,19 @@ use Rattle.nodes.proofs.Growing.{part-kept}
 use Rattle.rules.specs.declared.Part.the-variants.{Made, Many, Long}
 use Rattle.rules.specs.Two.{of-two, Paired}
 use Rattle.rules.specs.Outcome.{Ruled, Done}
-use Rattle.rules.specs.Asks.{Lies, row-of, rows-of, Pairing, AddRow, TwoParts}
+use Rattle.rules.specs.Asks.{Lies, row-of, rows-of, Pairing, AddRow, AddNewRow, TwoParts}
 use Rattle.rules.proofs.Short.{short-left, short-right, short-distinct}
 use Rattle.rules.proofs.Grows.{Growing, rule-starts, grows-room, grows-over, grows-turn, grows-many}
 use Rattle.rules.proofs.Rows.{rows-next, rows-end}
 use Rattle.rules.proofs.Ruling.{ruled-long, ruled-many, ruled-made}
 
+-- what is left; and all that the nodes p to i give stands in the part
 pub record RowsGrowing (qs ws₀ ws : List ℕ) (made s count p d q e i : ℕ) : Type 0 where
+  pub from : p ≤ i
   pub to : i ≤ d
   pub grows : Growing qs ws₀ ws s s count (distinct (rows-of qs ws₀ made p d q e)) (rows-of qs ws₀ made i d q e)
   pub short : short? (rows-of qs ws₀ made i d q e) ≡ true
+  pub stand : (j : ℕ) → p ≤ j → j < i → (t : Triple) → In t (row-of qs ws₀ made j q e) → In t (part-of qs ws s count)
 
 module _ {qs ws₀ : List ℕ} {made s p d q e : ℕ} (b : Paired made) (h : TwoParts qs ws₀ s p d q e) where
   abbrev cs : List Triple
@@ -39,9 +46,15 @@ module _ {qs ws₀ : List ℕ} {made s p d q e : ℕ} (b : Paired made) (h : Two
   rule-long f = ruled-long (distinct cs) (short-distinct cs ∙ f) (kept-refl s (s + 129) ws₀)
 
   pub rule-start : short? (rows-of qs ws₀ made p d q e) ≡ true → RowsGrowing qs ws₀ ws₀ made s 0 p d q e p
-  rule-start f = record { to = h .left .ordered; grows = rule-starts cs (h .room); short = f }
+  rule-start f = record { from = omega arith; to = h .left .ordered; grows = rule-starts cs (h .room); short = f; stand = λ j a l. absurd (omega arith) }
 
   module _ {ws : List ℕ} {count i : ℕ} (g : RowsGrowing qs ws₀ ws made s count p d q e i) where
+    -- a row over the words as they stand is that over those of the start
+    same-row : (j : ℕ) → j < d → row-of qs ws made j q e ≡ row-of qs ws₀ made j q e
+    same-row j l =
+        ap₂ (λ (x : Triple) (ys : List Triple). of-two made (x ∷ []) ys) (triple-kept (g .grows .kept) qs j (omega (arith, h .left .below)))
+        (part-kept (g .grows .kept) qs q (e - q) (omega (arith, h .right .below, h .right .ordered)))
+
     module _ (l : i < d) where
       next : rows-of qs ws₀ made i d q e ≡ row-of qs ws₀ made i q e ++ rows-of qs ws₀ made (i + 1) d q e
       next = rows-next qs ws₀ made b i d q e l
@@ -50,12 +63,10 @@ module _ {qs ws₀ : List ℕ} {made s p d q e : ℕ} (b : Paired made) (h : Two
       split = ap short? (sym next) ∙ g .short
 
       here : row-of qs ws made i q e ≡ row-of qs ws₀ made i q e
-      here =
-          ap₂ (λ (x : Triple) (ys : List Triple). of-two made (x ∷ []) ys) (triple-kept (g .grows .kept) qs i (omega (arith, h .left .below)))
-          (part-kept (g .grows .kept) qs q (e - q) (omega (arith, h .right .below, h .right .ordered)))
+      here = same-row i l
 
-      pub rule-asks : AddRow qs ws made s count i q e
-      rule-asks =
+      asks-row : AddRow qs ws made s count i q e
+      asks-row =
           record {
             paired = b;
             room = grows-room (g .grows) (h .room);
@@ -64,13 +75,30 @@ module _ {qs ws₀ : List ℕ} {made s p d q e : ℕ} (b : Paired made) (h : Two
             short = ap short? here ∙ short-left (row-of qs ws₀ made i q e) (rows-of qs ws₀ made (i + 1) d q e) split;
           }
 
+      pub rule-asks : AddNewRow qs ws made s count p i q e
+      rule-asks =
+          record {
+            row = asks-row;
+            from = g .from;
+            stand = λ j a b t m. g .stand j a b t (subst (λ (xs : List Triple). In t xs) (same-row j (omega arith)) m);
+          }
+
       module _ {ws′ : List ℕ} {r : ℕ} (f : Done qs ws ws′ (s + count) s r (adjoin-all triple? (part-of qs ws s count) (row-of qs ws made i q e))) where
+        -- the rows before stay, and the row of node i is added
+        stand-more : r ≤ 128 → (j : ℕ) → p ≤ j → j < i + 1 → (t : Triple) → In t (row-of qs ws₀ made j q e) → In t (part-of qs ws′ s r)
+        stand-more m j a b t n =
+            rw (f .few m)
+            (⊎-elim (λ (z : j ≡ i). adjoin-all-new triple? triple-eq (part-of qs ws s count) (subst (λ (xs : List Triple). In t xs) (sym here) (subst (λ (k : ℕ). In t (row-of qs ws₀ made k q e)) z n)))
+            (λ (z : j < i). adjoin-all-old triple? (part-of qs ws s count) (row-of qs ws made i q e) (g .stand j a z t n)) (eq-or-lt-of-le (omega arith)))
+
         pub rule-turn : r ≤ 128 → RowsGrowing qs ws₀ ws′ made s r p d q e (i + 1)
         rule-turn m =
             record {
+              from = omega (arith, g .from);
               to = omega arith;
               grows = grows-turn (g .grows) (row-of qs ws made i q e) (row-of qs ws₀ made i q e) (rows-of qs ws₀ made (i + 1) d q e) f here next m;
               short = short-right (row-of qs ws₀ made i q e) (rows-of qs ws₀ made (i + 1) d q e) split;
+              stand = stand-more m;
             }
 
         pub rule-many : short? (rows-of qs ws₀ made p d q e) ≡ true → 128 < r → Ruled qs ws₀ ws′ s (distinct (rows-of qs ws₀ made p d q e)) Many

@@ -28,7 +28,7 @@ use Rattle.rules.proofs.Grows.{none-added, one-added}
 
 -- ---- a loaded node has its triple's ends and size
 module _ (qs : List ℕ) {ws : List ℕ} {i : ℕ} {x : Node} (l : Loaded ws i x) where
-  from-is : x .from ≡ triple-of qs ws i .from
+  pub from-is : x .from ≡ triple-of qs ws i .from
   from-is = ap (λ (m : Node). m .from) (l .is) ∙ sym (triple-from qs ws i)
 
   to-is : x .to ≡ triple-of qs ws i .to

@@ -94,6 +94,11 @@ module _ (made : ℕ) (h : Paired made) where
   unfolding symbol-numbered giving
   node-gives qs i j x y X Y e f g = paired-case (λ m. of-node qs (pair-node m i j x y) X Y ≡ giving m X Y) (rw (e, g)) (rw (e, f)) (rw (e, f)) (rw (e, g)) made h
 
+-- a branch left does not look at the end of its first triple
+pub left-rows : (x y : Triple) (zs : List Triple) → x .from ≡ y .from → x .path ≡ y .path → of-two 132 (x ∷ []) zs ≡ of-two 132 (y ∷ []) zs
+unfolding of-two symbol-numbered
+left-rows x y zs e f = rw (e, f)
+
 -- ---- the ends alone
 pub fitting-ends : (made : ℕ) (x y : Node) (X Y : Triple) → x .from ≡ X .from → x .to ≡ X .to → y .from ≡ Y .from → y .to ≡ Y .to → fitting made (ends-of x) (ends-of y) ≡ fitting made X Y
 unfolding fitting

@@ -2,7 +2,7 @@
 -- Assumes nothing.
 use mathlib.Core.Path.{_≡_}
 use mathlib.Core.Bool.{true}
-use mathlib.Core.List.{List, [], _∷_}
+use mathlib.Core.List.{List, [], _∷_, List·Memᴰ as In}
 use Prim.Native.Nat.{ℕ, _+_, _-_, _<_, _≤_}
 use lib.ListN.{length}
 use Rattle.theory.specs.Inference.{Triple}
@@ -58,6 +58,12 @@ pub record AddRow (qs ws : List ℕ) (made s count i q e : ℕ) : Type 0 where
   pub i-below : i < s + count
   pub lies : Lies (s + count) q e
   pub short : short? (row-of qs ws made i q e) ≡ true
+
+-- all that the nodes p to i give with the nodes q to e stands in the part
+pub record AddNewRow (qs ws : List ℕ) (made s count p i q e : ℕ) : Type 0 where
+  pub row : AddRow qs ws made s count i q e
+  pub from : p ≤ i
+  pub stand : (j : ℕ) → p ≤ j → j < i → (t : Triple) → In t (row-of qs ws made j q e) → In t (part-of qs ws s count)
 
 -- two parts below s
 pub record TwoParts (qs ws : List ℕ) (s p d q e : ℕ) : Type 0 where

@@ -1,14 +1,16 @@
 // The rules of inference that make a part of the table of nodes: of a sheet's table, and of parts of the table.
 use nodes::Node;
 ghost use mathlib.Core.Path.{_≡_};
-ghost use Prim.Native.Nat.{_+_, _<_};
+ghost use Prim.Native.Nat.{_+_, _<_, _≤_};
 ghost use Rattle.theory.specs.Lists.{adjoin-all};
 ghost use Rattle.theory.specs.Inference.{triple?, distinct};
 ghost use Rattle.theory.specs.Narrowing.{short?};
+ghost use Rattle.nodes.specs.Paths.{Has};
 ghost use Rattle.nodes.specs.Parts.{part-of};
 ghost use Rattle.rules.specs.Two.{Paired, fitting, giving, ends-of, pair-node, pair-short?};
 ghost use Rattle.rules.specs.Outcome.{Ruled, Done};
-ghost use Rattle.rules.specs.Asks.{Lies, part, pair-of, row-of, rows-of, Pairing, AddPair, AddRow, TwoParts, Unite, AddCopies};
+ghost use Rattle.rules.specs.Asks.{Lies, part, pair-of, row-of, rows-of, Pairing, AddPair, AddRow, AddNewRow, TwoParts, Unite, AddCopies};
+ghost use Rattle.rules.specs.Repeated.{Alike, Repeats};
 ghost use Rattle.rules.specs.Marks.{marked?, of-marks, mark-of, marks-of, AddMark, AddMarks};
 
 // What a rule makes.
@@ -130,6 +132,38 @@ fn rows_short(
     true
 }
 
+// ---- rows that repeat
+
+// Have nodes i and j the same from kind and the same path?
+fn alike(words: &[u64], used: usize, question: &[u8], i: usize, j: usize) -> bool
+    requires { ⌜ Has (now question) (now words) used i × Has (now question) (now words) used j ⌝ }
+    ensures { λ r. ⌜ Alike (now (question .entry)) (now (words .entry)) i j r ⌝ }
+{
+    if nodes::load(words, i).from != nodes::load(words, j).from {
+        return false;
+    }
+    nodes::same_path(words, used, question, i, j)
+}
+
+// Gives one of the nodes p to i the row that node i gives? A branch left drops the to kind of the left triple, so that
+// nodes that differ there alone give one row; the newest come first, since such nodes mostly stand side by side.
+fn repeats(words: &[u64], used: usize, question: &[u8], made: usize, p: usize, i: usize) -> bool
+    requires { ⌜ Has (now question) (now words) used i × (p ≤ i) ⌝ }
+    ensures { λ r. ⌜ Repeats (now (question .entry)) (now (words .entry)) made p i r ⌝ }
+{
+    if made != 132 {
+        return false;
+    }
+    let mut j = i;
+    while p < j {
+        j = j - 1;
+        if alike(words, used, question, i, j) {
+            return true;
+        }
+    }
+    false
+}
+
 // ---- triples: 12
 
 // Adds what node i gives with node j, where they fit; the new count.
@@ -179,6 +213,27 @@ pub fn add_row(
     count
 }
 
+// The same where the rows of nodes p to i are in the part: a row that repeats one of them is not gone through.
+fn add_new_row(
+    words: &mut [u64],
+    question: &[u8],
+    made: usize,
+    s: usize,
+    count: usize,
+    p: usize,
+    i: usize,
+    q: usize,
+    e: usize,
+) -> usize
+    requires { ⌜ AddNewRow (now question) (now words) made s count p i q e ⌝ }
+    ensures { λ r. ⌜ Done (now (question .entry)) (now (words .entry)) (now (words .exit)) (s + count) s r (adjoin-all triple? (part-of (now (question .entry)) (now (words .entry)) s count) (row-of (now (question .entry)) (now (words .entry)) made i q e)) ⌝ }
+{
+    if repeats(words, s + count, question, made, p, i) {
+        return count;
+    }
+    add_row(words, question, made, s, count, i, q, e)
+}
+
 // The rule of the operator `made` (join, both, a branch) for nodes p to d and nodes q to e: its part is made from s on.
 pub fn pair_rule(
     words: &mut [u64],
@@ -199,7 +254,7 @@ pub fn pair_rule(
     let mut count = 0;
     let mut i = p;
     while i < d {
-        count = add_row(words, question, made, s, count, i, q, e);
+        count = add_new_row(words, question, made, s, count, p, i, q, e);
         if 128 < count {
             return Part::Many;
         }

@@ -9,7 +9,7 @@ use Rattle.rules.proofs.pair_rule.Statement.{statement}
 use Rattle.rules.proofs.pair_rule.Tie as tie
 use Rattle.rules.proofs.pair_rule.Reads as reads
 use Rattle.rules.proofs.pair_rule.Lts as lts
-use Rattle.rules.proofs.add_row.Reads as add-row-reads
+use Rattle.rules.proofs.add_new_row.Reads as add-new-row-reads
 use Rattle.rules.proofs.rows_short.Reads as rows-short-reads
 
 abbrev Inv-loop : tie.InvT-loop
@@ -30,14 +30,14 @@ returns c = rule-long (c .before .before .before .before .before .pre .0) (c .be
 loop-holds : tie.Need-loop-holds Inv-loop μ-loop
 loop-holds c = rule-start (c .before .before .before .before .before .pre .0) (c .before .before .before .before .before .pre .1) (sym (c .before .rows-short .ensures) ∙ not-false _ (c .if1 .left))
 
-add-row-requires : tie.Need-add-row-requires Inv-loop μ-loop
-add-row-requires c κs = rule-asks (c .before .before .before .before .before .before .before .before .pre .0) (c .before .before .before .before .before .before .before .before .pre .1) (c .before .before .loop .inv) (c .before .loop-test .taken)
+add-new-row-requires : tie.Need-add-new-row-requires Inv-loop μ-loop
+add-new-row-requires c κs = rule-asks (c .before .before .before .before .before .before .before .before .pre .0) (c .before .before .before .before .before .before .before .before .pre .1) (c .before .before .loop .inv) (c .before .loop-test .taken)
 
 same-length-2 : tie.Need-same-length-2 Inv-loop μ-loop
 same-length-2 c = search needs
 
 returns-2 : tie.Need-returns-2 Inv-loop μ-loop
-returns-2 c = rule-many (c .before .before .before .before .before .before .before .before .before .before .before .before .pre .0) (c .before .before .before .before .before .before .before .before .before .before .before .before .pre .1) (c .before .before .before .before .before .before .loop .inv) (c .before .before .before .before .before .loop-test .taken) (c .before .before .before .add-row .ensures) (sym (c .before .before .before .before .before .before .before .before .rows-short .ensures) ∙ not-false _ (c .before .before .before .before .before .before .before .if1 .left)) (c .if2 .taken)
+returns-2 c = rule-many (c .before .before .before .before .before .before .before .before .before .before .before .before .pre .0) (c .before .before .before .before .before .before .before .before .before .before .before .before .pre .1) (c .before .before .before .before .before .before .loop .inv) (c .before .before .before .before .before .loop-test .taken) (c .before .before .before .add-new-row .ensures) (sym (c .before .before .before .before .before .before .before .before .rows-short .ensures) ∙ not-false _ (c .before .before .before .before .before .before .before .if1 .left)) (c .if2 .taken)
 
 add-i : tie.Need-add-i Inv-loop μ-loop
 add-i c = search needs
@@ -46,7 +46,7 @@ loop-less : tie.Need-loop-less Inv-loop μ-loop
 loop-less c = search needs
 
 loop-again : tie.Need-loop-again Inv-loop μ-loop
-loop-again c = rule-turn (c .before .before .before .before .before .before .before .before .before .before .before .before .pre .0) (c .before .before .before .before .before .before .before .before .before .before .before .before .pre .1) (c .before .before .before .before .before .before .loop .inv) (c .before .before .before .before .before .loop-test .taken) (c .before .before .before .add-row .ensures) (c .if2 .left)
+loop-again c = rule-turn (c .before .before .before .before .before .before .before .before .before .before .before .before .pre .0) (c .before .before .before .before .before .before .before .before .before .before .before .before .pre .1) (c .before .before .before .before .before .before .loop .inv) (c .before .before .before .before .before .loop-test .taken) (c .before .before .before .add-new-row .ensures) (c .if2 .left)
 
 same-length-3 : tie.Need-same-length-3 Inv-loop μ-loop
 same-length-3 c = search needs
@@ -64,7 +64,7 @@ pair-rule-spec =
     same-length
     returns
     loop-holds
-    add-row-requires
+    add-new-row-requires
     same-length-2
     returns-2
     add-i

@@ -1,0 +1,56 @@
+-- A row that repeats an earlier one adds nothing.
+-- Assumes nothing.
+use mathlib.Core.Path.{_≡_, sym, subst, _∙_}
+use mathlib.Core.Bool.{Bool, true, false, true≢false}
+use mathlib.Core.List.{List, List·Memᴰ as In}
+use Prim.Native.Nat.{ℕ, _+_, _<_, _≤_}
+use native.Mathlib.Omega.{arith}
+use Rattle.theory.specs.Lists.{adjoin-all}
+use Rattle.theory.specs.Inference.{Triple, triple?}
+use Rattle.theory.proofs.Growth.{adjoin-all-none}
+use Rattle.theory.proofs.Triples.{triple-eq, triple-refl}
+use Rattle.rows.proofs.Words.{kept-refl}
+use Rattle.nodes.specs.declared.Node.{Node}
+use Rattle.nodes.specs.Table.{Loaded}
+use Rattle.nodes.specs.Tests.{Decides}
+use Rattle.nodes.specs.Paths.{triple-of, Has}
+use Rattle.nodes.specs.Parts.{part-of}
+use Rattle.rules.specs.Outcome.{Done}
+use Rattle.rules.specs.Asks.{part, row-of, AddNewRow}
+use Rattle.rules.specs.Repeated.{Alike, Repeats}
+use Rattle.rules.proofs.TwoLists.{left-rows}
+use Rattle.rules.proofs.Pairs.{from-is}
+
+-- ---- two nodes
+pub not-alike : (qs ws : List ℕ) (i j : ℕ) → Alike qs ws i j false
+not-alike qs ws i j = record { same-from = λ e. absurd (true≢false (sym e)); same-path = λ e. absurd (true≢false (sym e)) }
+
+pub alike-paths : {qs ws : List ℕ} {i j : ℕ} {x y : Node} {r : Bool} → Loaded ws i x → Loaded ws j y → x .from ≡ y .from → Decides (triple-of qs ws i .path ≡ triple-of qs ws j .path) r → Alike qs ws i j r
+alike-paths {qs} lx ly e d = record { same-from = λ _. sym (from-is qs lx) ∙ e ∙ from-is qs ly; same-path = d .holds }
+
+-- ---- the search
+pub has-below : {qs ws : List ℕ} {used i j : ℕ} → Has qs ws used i → j < i → Has qs ws used j
+has-below h l = record { in-use = omega (arith, h .in-use); in-table = h .in-table; sound = h .sound }
+
+pub not-found : (qs ws : List ℕ) (made p i : ℕ) → Repeats qs ws made p i false
+not-found qs ws made p i = record { found = λ e. absurd (true≢false (sym e)) }
+
+pub found-row : {qs ws : List ℕ} {made p i j : ℕ} {r : Bool} → made ≡ 132 → p ≤ j → j < i → Alike qs ws i j r → r ≡ true → Repeats qs ws made p i true
+found-row {qs} {ws} {made} {p} {i} {j} m l b a t =
+    record {
+      found = λ _. record { node = j; least = l; below = b; same-rows = λ ys. rw m (left-rows (triple-of qs ws i) (triple-of qs ws j) ys (a .same-from t) (a .same-path t)) };
+    }
+
+-- ---- the row
+pub row-repeated : {qs ws : List ℕ} {made s count p i q e : ℕ} {r : Bool} → AddNewRow qs ws made s count p i q e → Repeats qs ws made p i r → r ≡ true
+    → Done qs ws ws (s + count) s count (adjoin-all triple? (part-of qs ws s count) (row-of qs ws made i q e))
+row-repeated {qs} {ws} {made} {s} {count} {p} {i} {q} {e} h f t =
+    let w = f .found t in
+    let inside : (x : Triple) → In x (row-of qs ws made i q e) → In x (part-of qs ws s count) = λ x m. h .stand (w .node) (w .least) (w .below) x (subst (λ (l : List Triple). In x l) (w .same-rows (part qs ws q e)) m) in
+    record {
+      kept = kept-refl (s + count) (s + 129) ws;
+      sound = h .row .room .sound;
+      few = λ _. sym (adjoin-all-none triple? triple-eq triple-refl (part-of qs ws s count) (row-of qs ws made i q e) inside);
+      many = λ l. absurd (omega (arith, h .row .room .few));
+      bound = omega (arith, h .row .room .few);
+    }

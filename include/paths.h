@@ -42,8 +42,8 @@
  * that first and second differ, and that no area overlaps a file or another area. Files may overlap.
  *
  * No call has state, takes memory from the heap or calls anything but memcpy, memmove and memset; every call returns. Threads may call
- * at once, each with areas of its own. 256 KiB of stack are enough; measured: paths_check and paths_narrow 65 KiB, paths_answer 2 KiB,
- * paths_answer_narrowed 114 KiB, paths_job 146 KiB.
+ * at once, each with areas of its own. 256 KiB of stack are enough; measured: paths_check and paths_narrow 65 KiB, paths_answer 10 KiB,
+ * paths_answer_narrowed 122 KiB, paths_job 154 KiB.
  *
  * What a call returns and leaves in each area is proved, for any bytes and areas (docs/MAP.md); not covered are the compiler's back end
  * and this header.

@@ -4,9 +4,10 @@
  *
  * reads FOLDER/list. A line `answer N NAME` asks question-NAME on register-N by sheet; a line `narrow NAME` narrows narrow-NAME.question
  * by narrow-NAME.sheet. Each timing of a line is taken in turn, RUNS times over (11 times where it takes long), so that all of them meet
- * the same disturbances; before each timed run the same call runs untimed (WARM_RUNS times, never where it takes long), so that caches are as that
- * call leaves them, and the work words are zero, as each call leaves them. Prints a line for each timing, in CSV: what,N,name,peer,call,median,lower quartile,upper quartile (microseconds);
- * and for each question its members and pairs. Exits with 1 where two peers differ. */
+ * the same disturbances, and the times of one round can be compared; before each timed run the same call runs untimed (WARM_RUNS times,
+ * never where it takes long), so that caches are as that call leaves them, and the work words are zero, as each call leaves them.
+ * Prints a line for each timing, `answer,N,name,peer,call,` and its times in microseconds, round by round, with blanks between; and for each
+ * question `size,N,name,members,pairs,` and both numbers. Exits with 1 where two peers differ. */
 #include "paths.h"
 #include "peers.h"
 
@@ -175,12 +176,6 @@ static void run_once(Timing *t, const char *name)
     compare(t, name);
 }
 
-static int ascending(const void *x, const void *y)
-{
-    double a = *(const double *)x, b = *(const double *)y;
-    return (a > b) - (a < b);
-}
-
 static void measure(Timing *timings, size_t count, size_t runs, const char *what, const char *name)
 {
     for (size_t i = 0; i < count; i++)
@@ -190,10 +185,9 @@ static void measure(Timing *timings, size_t count, size_t runs, const char *what
             if (r < LONG_RUNS || timings[i].times[0] < LONG_CALL)
                 run_once(&timings[i], name);
     for (size_t i = 0; i < count; i++) {
-        Timing *t = &timings[i];
-        qsort(t->times, t->runs, sizeof t->times[0], ascending);
-        printf("%s,%zu,%s,%s,%s,%.2f,%.2f,%.2f\n", what, records, name, t->peer, t->call, t->times[t->runs / 2], t->times[t->runs / 4],
-               t->times[t->runs * 3 / 4]);
+        printf("%s,%zu,%s,%s,%s,", what, records, name, timings[i].peer, timings[i].call);
+        for (size_t r = 0; r < timings[i].runs; r++)
+            printf(r + 1 < timings[i].runs ? "%.2f " : "%.2f\n", timings[i].times[r]);
     }
     fflush(stdout);
 }
@@ -232,7 +226,7 @@ static void answer_line(const char *folder, const char *size, const char *name, 
     memcpy(due_answer, answer, sizeof due_answer);
     for (size_t i = 0; i < PATHS_ANSWER_WORDS(records); i++)
         pairs += __builtin_popcountll(answer[i]);
-    printf("size,%zu,%s,members,pairs,%zu,%zu,0\n", records, name, members, pairs);
+    printf("size,%zu,%s,members,pairs,%zu %zu\n", records, name, members, pairs);
     measure(answers, sizeof answers / sizeof answers[0], runs, "answer", name);
 }
 
@@ -242,7 +236,7 @@ static void narrow_line(const char *folder, const char *name, size_t runs)
     load(&question, folder, "narrow-%s.question", name);
     records = 0;
     narrow_first();
-    printf("size,0,%s,members,bytes,%zu,%zu,0\n", name, (size_t)first, written);
+    printf("size,0,%s,members,bytes,%zu %zu\n", name, (size_t)first, written);
     measure(narrowings, sizeof narrowings / sizeof narrowings[0], runs, "narrow", name);
 }
 

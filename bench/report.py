@@ -1,21 +1,23 @@
-"""Tables and plots of what the driver measured: bench/results/measured.csv, tables.md, job.svg, growth.svg, and the tables in bench/README.md.
+"""Tables and plots of what the driver measured: bench/results/ (medians.csv, tables.md, job.svg, growth.svg), and the tables in
+bench/README.md.
 
     python3 -m bench.report
 
-makes them again from bench/results/measured.csv.
+makes them again from build/bench/runs.csv, the driver's lines. A ratio is the median of the ratios of each round, whose calls ran one
+after the other: what slows the machine for a while slows both.
 """
 from __future__ import annotations
 
 import platform
-import sys
 from math import log10
 from pathlib import Path
-from statistics import median
+from statistics import median, quantiles
 
 from bench import fleet
 
 BENCH = Path(__file__).resolve().parent
 RESULTS = BENCH / "results"
+RUNS = BENCH.parent / "build" / "bench" / "runs.csv"
 START, END = "<!-- measured: start -->", "<!-- measured: end -->"
 LARGEST = max(fleet.SIZES)
 PEERS = {"library": "library", "c": "C", "rust": "Rust", "graphblas": "GraphBLAS", "sqlite": "SQLite"}
@@ -23,29 +25,37 @@ COLOURS = {"library": "#c0392b", "c": "#2c3e50", "rust": "#d68910", "graphblas":
 
 
 class Measured:
-    """The driver's lines: medians and quartiles by size, name, peer and call; members and pairs by size and name."""
+    """The driver's lines: the times of each round by size, name, peer and call; members and pairs by size and name."""
 
     def __init__(self, text: str):
-        self.times, self.spread, self.sizes = {}, {}, {}
+        self.rounds, self.sizes = {}, {}
         for line in text.splitlines():
-            what, records, name, peer, call, *numbers = line.split(",")
-            middle, low, high = map(float, numbers)
+            what, records, name, peer, call, numbers = line.split(",")
             if what == "size":
-                self.sizes[int(records), name] = int(middle), int(low)
+                self.sizes[int(records), name] = tuple(map(int, numbers.split()))
             else:
-                self.times[int(records), name, peer, call] = middle
-                self.spread[int(records), name, peer, call] = (high - low) / middle
+                self.rounds[int(records), name, peer, call] = list(map(float, numbers.split()))
 
     def time(self, name: str, peer: str, call: str, records: int = LARGEST):
-        return self.times.get((records, name, peer, call))
+        found = self.rounds.get((records, name, peer, call))
+        return None if found is None else median(found)
+
+    def net(self, name: str, call: str, records: int = LARGEST) -> list:
+        """The library's call less the zeroing of the work words, round by round."""
+        return [a - b for a, b in zip(self.rounds[records, name, "library", call], self.rounds[records, name, "-", "clear"])]
 
     def ratio(self, name: str, over: tuple, under: tuple, records: int = LARGEST):
-        a, b = self.time(name, *over, records), self.time(name, *under, records)
-        return None if a is None or b is None else a / b
+        return paired(self.rounds.get((records, name, *over)), self.rounds.get((records, name, *under)))
 
-    def net(self, name: str, call: str, records: int = LARGEST) -> float:
-        """The library's call less the zeroing of the work words."""
-        return self.time(name, "library", call, records) - self.time(name, "-", "clear", records)
+    def spread(self, key: tuple) -> float:
+        """How far the quartiles of a timing lie apart, by its median."""
+        low, middle, high = quantiles(self.rounds[key], n=4)
+        return (high - low) / middle
+
+
+def paired(over, under):
+    """The median of the ratios of the rounds that both have."""
+    return None if over is None or under is None else median(a / b for a, b in zip(over, under))
 
 
 def shown(x, form: str = "{:.2f}") -> str:
@@ -60,16 +70,20 @@ def table(head: list, rows: list) -> str:
 JOB = ("library", "job")
 
 
+def against_net(m: Measured, name: str):
+    """GraphBLAS from bytes against the job less zeroing."""
+    return paired(m.rounds.get((LARGEST, name, "graphblas", "whole")), m.net(name, "job"))
+
+
 def job_table(m: Measured) -> str:
     head = ["question", "members", "pairs", "job, µs", "less zeroing", "job / C", "job / Rust", "GraphBLAS / job", "GraphBLAS / job less zeroing", "SQLite / job"]
     rows = []
     for q in fleet.QUESTIONS:
         members, pairs = m.sizes[LARGEST, q.name]
-        whole = m.time(q.name, "graphblas", "whole")
-        rows.append([q.name, str(members), f"{pairs:,}", shown(m.time(q.name, *JOB), "{:.0f}"), shown(m.net(q.name, "job"), "{:.0f}"),
+        rows.append([q.name, str(members), f"{pairs:,}", shown(m.time(q.name, *JOB), "{:.0f}"), shown(median(m.net(q.name, "job")), "{:.0f}"),
                      shown(m.ratio(q.name, JOB, ("c", "job"))), shown(m.ratio(q.name, JOB, ("rust", "job"))),
                      shown(m.ratio(q.name, ("graphblas", "whole"), JOB), "{:.1f}"),
-                     shown(None if whole is None else whole / m.net(q.name, "job"), "{:.1f}"),
+                     shown(against_net(m, q.name), "{:.1f}"),
                      shown(m.ratio(q.name, ("sqlite", "whole"), JOB), "{:.0f}")])
     return table(head, rows)
 
@@ -83,7 +97,7 @@ def answer_table(m: Measured) -> str:
         rows.append([q.name, shown(m.time(q.name, *plain), "{:.0f}"), shown(m.ratio(q.name, plain, ("c", "plain"))),
                      shown(m.ratio(q.name, plain, ("rust", "plain"))), shown(m.time(q.name, *narrowed), "{:.0f}"),
                      shown(m.ratio(q.name, narrowed, ("c", "narrowed"))), shown(m.ratio(q.name, narrowed, ("rust", "narrowed"))),
-                     shown(m.ratio(q.name, narrowed, plain)), shown(m.net(q.name, "plain") / m.net(q.name, "narrowed"), "{:.1f}"),
+                     shown(m.ratio(q.name, narrowed, plain)), shown(paired(m.net(q.name, "plain"), m.net(q.name, "narrowed")), "{:.1f}"),
                      "yes" if q.cuts else ""])
     return table(head, rows)
 
@@ -121,7 +135,7 @@ def goals(m: Measured) -> str:
     names = [q.name for q in fleet.QUESTIONS]
     cases = {n.name: m.time(n.name, "library", "narrow", 0) for n in fleet.NARROWINGS}
     of = lambda over, under: {n: m.ratio(n, over, under) for n in names}
-    net = {n: None if m.time(n, "graphblas", "whole") is None else m.time(n, "graphblas", "whole") / m.net(n, "job") for n in names}
+    net = {n: against_net(m, n) for n in names}
     lines = [
         ("job at most 1.2 times C's", missed(of(JOB, ("c", "job")), lambda x: x <= 1.2)),
         ("GraphBLAS from bytes takes longer than the job", missed(of(("graphblas", "whole"), JOB), lambda x: x > 1)),
@@ -133,7 +147,7 @@ def goals(m: Measured) -> str:
         ("plain at least 2 times narrowed where a heavy chain is cut",
          missed({q.name: m.ratio(q.name, ("library", "plain"), ("library", "narrowed")) for q in fleet.QUESTIONS if q.cuts}, lambda x: x >= 2)),
         ("the same, both less zeroing",
-         missed({q.name: m.net(q.name, "plain") / m.net(q.name, "narrowed") for q in fleet.QUESTIONS if q.cuts}, lambda x: x >= 2)),
+         missed({q.name: paired(m.net(q.name, "plain"), m.net(q.name, "narrowed")) for q in fleet.QUESTIONS if q.cuts}, lambda x: x >= 2)),
     ]
     return table(["goal, at N = 1,024", "found"], [list(line) for line in lines])
 
@@ -141,7 +155,7 @@ def goals(m: Measured) -> str:
 def noise(m: Measured) -> str:
     twice = [abs(m.ratio(q.name, ("library", "job again"), JOB, n) - 1) for q in fleet.QUESTIONS for n in fleet.SIZES]
     return (f"Noise: the same job timed twice in the run differs by {100 * median(twice):.1f} % in the median, {100 * max(twice):.0f} % at most; "
-            f"the quartiles of a timing lie {100 * median(m.spread.values()):.1f} % of its median apart, in the median.")
+            f"the quartiles of a timing lie {100 * median(m.spread(key) for key in m.rounds):.1f} % of its median apart, in the median.")
 
 
 def machine() -> str:
@@ -186,7 +200,7 @@ def scale(found: list, start: float, end: float):
 def job_plot(m: Measured) -> str:
     """A row for each question, a mark for each peer."""
     calls = {"library": "job", "c": "job", "rust": "job", "graphblas": "whole", "sqlite": "whole"}
-    found = [t for (n, _, peer, call), t in m.times.items() if n == LARGEST and calls.get(peer) == call]
+    found = [median(times) for (n, _, peer, call), times in m.rounds.items() if n == LARGEST and calls.get(peer) == call]
     powers, place = scale(found, LEFT, WIDTH - RIGHT)
     foot = TOP + STEP * len(fleet.QUESTIONS)
     parts = [part for p in powers for part in (line(place(10 ** p), TOP - 10, place(10 ** p), foot, "#ddd"), words(place(10 ** p), foot + 18, f"{10 ** p:,}", "middle"))]
@@ -221,25 +235,27 @@ def growth_plot(m: Measured) -> str:
     return drawing(foot + 40, "The whole job by N, microseconds; dashed: C by hand", parts)
 
 
-def write(measured: str, runs: int) -> None:
+def medians(m: Measured) -> str:
+    lines = ["N,name,peer,call,runs,lower quartile,median,upper quartile"]
+    for (records, name, peer, call), times in m.rounds.items():
+        lines.append(",".join([str(records), name, peer, call, str(len(times)), *(f"{t:.2f}" for t in quantiles(times, n=4))]))
+    return "\n".join(lines) + "\n"
+
+
+def write() -> None:
+    m = Measured(RUNS.read_text())
+    runs = max(map(len, m.rounds.values()))
+    made = tables(m, f"Medians of {runs} runs (11 where a run takes over 20 ms); work words zero before each run, answer and file area not.")
     RESULTS.mkdir(exist_ok=True)
-    said = f"Medians of {runs} runs (11 where a run takes over 20 ms); work words zero before each run, answer and file area not."
-    (RESULTS / "measured.csv").write_text(f"# {said}\n{measured}")
-    again()
-
-
-def again() -> None:
-    first, rest = (RESULTS / "measured.csv").read_text().split("\n", 1)
-    m = Measured(rest)
-    made = tables(m, first.removeprefix("# "))
+    (RESULTS / "medians.csv").write_text(medians(m))
     (RESULTS / "tables.md").write_text(made)
     (RESULTS / "job.svg").write_text(job_plot(m))
     (RESULTS / "growth.svg").write_text(growth_plot(m))
     readme = BENCH / "README.md"
     page = readme.read_text()
     readme.write_text(page[:page.index(START) + len(START)] + "\n" + made + page[page.index(END):])
-    print(goals(m), file=sys.stdout)
+    print(goals(m))
 
 
 if __name__ == "__main__":
-    again()
+    write()

@@ -93,7 +93,8 @@ def main() -> None:
     if given.check:
         print(f"the peers agree on {len(fleet.SIZES) * len(fleet.QUESTIONS)} questions and {len(fleet.NARROWINGS)} narrowings")
     else:
-        report.write(done.stdout, runs)
+        report.RUNS.write_text(done.stdout)
+        report.write()
 
 
 if __name__ == "__main__":

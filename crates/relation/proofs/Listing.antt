@@ -1,7 +1,7 @@
 -- The list of the rows that are not empty: how it is made, and that a round of Warshall's keeps it.
 -- Assumes nothing.
 use mathlib.Core.Path.{_≡_, refl, sym, ap, _∙_}
-use mathlib.Core.Bool.{Bool, true, false, _&&_, _||_, false≢true}
+use mathlib.Core.Bool.{Bool, true, false, or-true, _&&_, _||_, false≢true}
 use mathlib.Core.List.{List}
 use mathlib.Core.Logic.{⊎-elim}
 use Prim.Native.Nat.{ℕ, _+_, _*_, _/_, _≤_, _<_}
@@ -22,10 +22,6 @@ use Rattle.relation.specs.Sources.{listed, Sources}
 pub listed-more : (ls : List ℕ) (c s : ℕ) → listed ls (c + 1) s ≡ listed ls c s || eqb (getD ls c 0) s
 unfolding listed
 listed-more ls c s = rw add-one (some-suc (λ i. eqb (getD ls i 0) s) c)
-
-or-true : (a : Bool) → a || true ≡ true
-or-true true = refl
-or-true false = refl
 
 -- ---- the loop that makes it
 pub sources-none : (ls xs : List ℕ) (b w : ℕ) → Sources ls 0 xs b 0 w

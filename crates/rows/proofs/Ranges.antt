@@ -1,7 +1,7 @@
 -- Whether some number below n passes a test.
 -- Assumes nothing.
 use mathlib.Core.Path.{_≡_, refl, sym, ap, ap₂, _∙_, subst}
-use mathlib.Core.Bool.{Bool, true, false, _||_, or-false, or-assoc, true≢false}
+use mathlib.Core.Bool.{Bool, true, false, _||_, or-true, or-false, or-assoc, true≢false}
 use mathlib.Core.List.{List, [], _∷_, _++_}
 use mathlib.Core.Logic.{⊎-elim}
 use Prim.Native.Nat.{ℕ, zero, suc, _+_, _-_, _≤_, _<_}
@@ -32,10 +32,6 @@ some-none f (suc n) e = some-suc f n ∙ rw (some-none f n (λ z h. e z (omega a
 pub some-one : (f : ℕ → Bool) (n z : ℕ) → z < n → f z ≡ true → some? f (range n) ≡ true
 some-one f zero z h e = absurd (omega arith)
 some-one f (suc n) z h e = some-suc f n ∙ ⊎-elim (λ q. rw (← q, e) (or-true (some? f (range z)))) (λ l. rw (some-one f n z l e)) (eq-or-lt-of-le (omega arith))
-  where
-    or-true : (a : Bool) → a || true ≡ true
-    or-true true = refl
-    or-true false = refl
 
 -- two stretches
 pub some-add : (f : ℕ → Bool) (p k : ℕ) → some? f (range (p + k)) ≡ some? f (range p) || some? (λ i. f (p + i)) (range k)

@@ -13,7 +13,7 @@ use Rattle.theory.specs.Postfix.{path-of}
 use Rattle.theory.specs.Register.{Register}
 use Rattle.theory.specs.Merging.{member}
 use Rattle.theory.specs.Evaluation.{member-answer, narrowed-answer}
-use Rattle.fields.specs.Symbols.{symbols-given}
+use Rattle.symbols.specs.Symbols.{symbols-given}
 use Rattle.narrowed.specs.declared.Members.{Members}
 use Rattle.narrowed.specs.Form.{Flat, flat}
 use Rattle.narrowed.specs.Formed.{InOrder}

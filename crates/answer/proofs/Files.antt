@@ -12,7 +12,7 @@ use Rattle.fields.specs.Answer.{got, refused}
 use Rattle.fields.specs.Padded.{padded}
 use Rattle.fields.specs.Reading.{read}
 use Rattle.fields.specs.Said.{number-of, place-of}
-use Rattle.fields.specs.Symbols.{symbol-numbered}
+use Rattle.symbols.specs.Symbols.{symbol-numbered}
 use Rattle.fields.proofs.Bools.{onward-got, told-refused}
 use Rattle.fields.proofs.Padded.{pad-length}
 use Rattle.question.specs.declared.Outcome as question·Outcome

@@ -11,7 +11,7 @@ use borrow.Author.Tests.{lt-ltb, le-ltb, eq-eqb, ne-eqb}
 use Rattle.narrowed.specs.declared.Members.{Members}
 use Rattle.narrowed.specs.Form.{Flat, flat}
 use Rattle.narrowed.specs.Writing.{two-bytes, eight-bytes, field-bytes, symbol-bytes, symbols-bytes, member-bytes, members-bytes, encode}
-use Rattle.fields.specs.Symbols.{symbol-given, symbols-given}
+use Rattle.symbols.specs.Symbols.{symbol-given, symbols-given}
 use Rattle.narrowed.specs.Given.{members-given, given}
 use Rattle.bytes.specs.Size.{symbol-size}
 use Rattle.bytes.specs.Wrote.{Wrote}

@@ -6,7 +6,7 @@ use mathlib.Core.List.{List}
 use lib.ListN.{length, getD}
 use native.Mathlib.Omega.{arith}
 use Rattle.narrowed.specs.Writing.{symbol-bytes, symbols-bytes}
-use Rattle.fields.specs.Symbols.{symbol-given, symbols-given}
+use Rattle.symbols.specs.Symbols.{symbol-given, symbols-given}
 use Rattle.bytes.specs.Wrote.{Wrote}
 use Rattle.bytes.proofs.Along.{Along, along-start, along-more, along-end, along-room}
 use Rattle.bytes.proofs.Parts.{symbols-more}

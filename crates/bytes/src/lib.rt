@@ -7,7 +7,7 @@ ghost use lib.ListN.{length};
 ghost use lib.Seq.{sets};
 ghost use Rattle.narrowed.specs.Form.{flat};
 ghost use Rattle.narrowed.specs.Writing.{two-bytes, eight-bytes, field-bytes, symbol-bytes, symbols-bytes, member-bytes, encode};
-ghost use Rattle.fields.specs.Symbols.{symbol-given, symbols-given};
+ghost use Rattle.symbols.specs.Symbols.{symbol-given, symbols-given};
 ghost use Rattle.narrowed.specs.Given.{given};
 ghost use Rattle.bytes.specs.Size.{symbol-size};
 ghost use Rattle.bytes.specs.Wrote.{Wrote, Few};

@@ -19,7 +19,7 @@ use Rattle.theory.proofs.Distinct.{in-adjoin-all, adjoin-all-longer}
 use Rattle.theory.proofs.Triples.{in-pairs, pairs-in}
 use Rattle.theory.proofs.Walks.{level, in-walks, all-walks}
 use Rattle.theory.proofs.Growth.{grow-over, grow-turn, grow-longer, few-grown, many-grown}
-use Rattle.fields.specs.Symbols.{symbol-numbered}
+use Rattle.symbols.specs.Symbols.{symbol-numbered}
 use Rattle.rows.specs.Kept.{Kept}
 use Rattle.rows.proofs.Words.{kept-refl, kept-trans}
 use Rattle.nodes.specs.Paths.{triple-of, Sound}

@@ -9,7 +9,7 @@ use lib.ListN.{length, length-append}
 use Rattle.theory.specs.PathExpr.{postfix, size}
 use Rattle.theory.specs.Merging.{Member, members}
 use Rattle.theory.specs.Sorting.{grouped}
-use Rattle.fields.specs.Symbols.{Numbered, number-symbol}
+use Rattle.symbols.specs.Symbols.{Numbered, number-symbol}
 use Rattle.narrowed.specs.Form.{flat}
 use Rattle.narrowed.specs.Writing.{two-bytes, field-bytes, symbols-bytes, head-bytes, member-bytes, members-bytes, encode}
 use Rattle.narrowed.specs.Members.{flat-of, narrowed-file}

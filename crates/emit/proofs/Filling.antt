@@ -8,7 +8,7 @@ use native.Mathlib.Omega.{arith}
 use lib.ListN.{length, length-map}
 use Rattle.theory.specs.Merging.{Member}
 use Rattle.theory.specs.Sorting.{grouped}
-use Rattle.fields.specs.Symbols.{symbols-given}
+use Rattle.symbols.specs.Symbols.{symbols-given}
 use Rattle.narrowed.specs.Form.{Flat, flat}
 use Rattle.narrowed.specs.Writing.{two-bytes, field-bytes, member-bytes, members-bytes, encode}
 use Rattle.narrowed.specs.Members.{flat-of, narrowed-file}

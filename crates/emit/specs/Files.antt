@@ -10,7 +10,7 @@ use lib.ListN.{length, getD}
 use lib.Seq.{sets}
 use Rattle.theory.specs.Merging.{Member}
 use Rattle.theory.specs.Sorting.{grouped}
-use Rattle.fields.specs.Symbols.{Numbered, symbol-given, symbols-given}
+use Rattle.symbols.specs.Symbols.{Numbered, symbol-given, symbols-given}
 use Rattle.narrowed.specs.Form.{flat}
 use Rattle.narrowed.specs.Writing.{symbols-bytes, member-bytes}
 use Rattle.narrowed.specs.Members.{flat-of, narrowed-file}

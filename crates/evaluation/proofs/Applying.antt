@@ -13,7 +13,7 @@ use Rattle.theory.specs.PathExpr.{Direction, PathExpr, step, join, op, closure,
 use Rattle.theory.specs.Postfix.{Stack, push}
 use Rattle.theory.specs.Evaluation.{step?, evaluate}
 use Rattle.theory.proofs.Postfix.{none-some}
-use Rattle.fields.specs.Symbols.{symbol-numbered}
+use Rattle.symbols.specs.Symbols.{symbol-numbered}
 use Rattle.register.specs.Form.{register-in}
 use Rattle.rows.proofs.Words.{kept-in}
 use Rattle.relation.specs.Pairs.{pair-at, Made, Clean}

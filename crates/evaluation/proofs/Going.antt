@@ -12,7 +12,7 @@ use Rattle.theory.specs.Postfix.{Stack, push, read, path-of}
 use Rattle.theory.specs.TransitiveClosure.{look}
 use Rattle.theory.specs.Evaluation.{evaluate}
 use Rattle.theory.proofs.Postfix.{none-some, single, Step, read-step}
-use Rattle.fields.specs.Symbols.{symbol-numbered}
+use Rattle.symbols.specs.Symbols.{symbol-numbered}
 use Rattle.rows.specs.Kept.{Kept}
 use Rattle.rows.proofs.Words.{kept-refl, kept-trans}
 use Rattle.evaluation.specs.Ground.{symbols-in}

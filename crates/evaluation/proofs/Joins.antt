@@ -15,7 +15,7 @@ use Rattle.theory.specs.Evaluation.{passes?, join?, op?}
 use Rattle.rows.specs.Row.{row-bit, Row, mask-of}
 use Rattle.rows.proofs.Ranges.{some-same}
 use Rattle.rows.proofs.Masks.{mask-at}
-use Rattle.fields.specs.Symbols.{symbol-numbered}
+use Rattle.symbols.specs.Symbols.{symbol-numbered}
 use Rattle.register.specs.Form.{register-in}
 use Rattle.relation.specs.Pairs.{pair-at, Made}
 use Rattle.relation.proofs.Making.{made-is}

@@ -7,8 +7,8 @@ use native.Mathlib.Omega.{arith}
 use lib.Dec.{ltb, eqb, leb}
 use borrow.Author.Tests.{leb-true, leb-false, eqb-true, eqb-false}
 use Rattle.theory.specs.PathExpr.{forward, reverse, through, Symbol, s-step, s-join, s-op, s-closure}
-use Rattle.fields.specs.Symbols.{symbol-numbered, operator-numbered}
-use Rattle.fields.proofs.Numbers.{operator-number, through-number}
+use Rattle.symbols.specs.Symbols.{symbol-numbered, operator-numbered}
+use Rattle.symbols.proofs.Numbers.{operator-number, through-number}
 use Rattle.evaluation.specs.Ground.{closes?}
 
 -- ---- operators

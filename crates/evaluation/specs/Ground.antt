@@ -10,7 +10,7 @@ use Rattle.theory.specs.PathExpr.{Direction, forward, reverse, PathExpr, Symbol
 use Rattle.theory.specs.Postfix.{path-of}
 use Rattle.theory.specs.Register.{Edge, edge, same-edge?, records}
 use Rattle.theory.specs.Words.{row-words}
-use Rattle.fields.specs.Symbols.{symbol-numbered, symbols-given}
+use Rattle.symbols.specs.Symbols.{symbol-numbered, symbols-given}
 use Rattle.register.specs.Form.{register-in}
 use Rattle.register.specs.Ahead.{Accepted}
 

@@ -14,7 +14,7 @@ ghost use Rattle.theory.specs.Postfix.{path-of};
 ghost use Rattle.theory.specs.Register.{edge, kind, records};
 ghost use Rattle.theory.specs.TransitiveClosure.{look, table};
 ghost use Rattle.theory.specs.Evaluation.{step?, passes?};
-ghost use Rattle.fields.specs.Symbols.{symbol-numbered};
+ghost use Rattle.symbols.specs.Symbols.{symbol-numbered};
 ghost use Rattle.register.specs.Ahead.{Accepted};
 ghost use Rattle.register.specs.Form.{register-in};
 ghost use Rattle.rows.specs.Row.{row-bit, Row, mask-of, Word};

@@ -9,12 +9,9 @@ use lib.Seq.{getD-take, getD-drop}
 use lib.Dec.{leb, ltb, eqb}
 use native.Mathlib.Omega.{arith}
 use borrow.Author.Tests.{leb-true, ltb-false, eqb-true, eqb-false}
-use Rattle.fields.specs.declared.File.{File}
 use Rattle.fields.specs.declared.Due.{Due}
-use Rattle.fields.specs.declared.Stack.{Stack}
 use Rattle.fields.specs.Table.{among, rows, tag-length}
 use Rattle.fields.specs.Reading.{ends, wrong, body, field-at, fitting, word}
-use Rattle.fields.specs.Symbols.{due-symbols, symbol-length}
 use Rattle.fields.proofs.Rows.{own-length}
 use Rattle.fields.proofs.Bools.{cond-else, cond-then, and-left, and-right}
 
@@ -44,48 +41,8 @@ found d s at t n e =
     let hn : word s (at + 1) ≡ n = cc (g .1) in
     record { more = b .0; fit = rw (← ht, ← hn) (f .0); room = rw (← hn) (ltb-false _ _ (g .0)); tag = ht; len = hn }
 
--- within a path, a field that fits has a symbol's tag
-pub symbol-range : (f : File) (q : Stack) (t n : ℕ) → fitting (due-symbols f q) t n ≡ true → (0x43 ≤ t) × (t ≤ 0x45)
-unfolding fitting
-symbol-range f q t n e =
-    let h = and-left _ (among rows f t n) e in
-    (leb-true 0x43 t (and-left _ (leb t 0x45) h), leb-true t 0x45 (and-right (leb 0x43 t) _ h))
-
--- and its length
-pub symbol-len : (f : File) (q : Stack) (t n : ℕ) → fitting (due-symbols f q) t n ≡ true → n ≡ symbol-length t
-unfolding fitting tag-length rows
-symbol-len f q t n e = by-tag (eqb t 0x43) (eqb t 0x44) refl refl
-  where
-    own : n ≡ tag-length t
-    own = own-length f t n (and-right (leb 0x43 t && leb t 0x45) _ e)
-
-    by-tag : (a b : Bool) → eqb t 0x43 ≡ a → eqb t 0x44 ≡ b → n ≡ cond a 2 (cond b 1 8)
-    by-tag true b p r = own ∙ ap tag-length (eqb-true t 0x43 p)
-    by-tag false true p r = own ∙ ap tag-length (eqb-true t 0x44 r)
-    by-tag false false p r =
-        let x : t ≡ 0x43 → ⊥ = eqb-false t 0x43 p in
-        let y : t ≡ 0x44 → ⊥ = eqb-false t 0x44 r in
-        let g = symbol-range f q t n e in
-        let z : t ≡ 0x45 = omega (arith, g .0, g .1) in
-        own ∙ ap tag-length z
-
 pub body-length : {d : Due} {s : List ℕ} {at t n : ℕ} → Found d s at t n → length (take n (drop (at + 3) s)) ≡ n
 body-length r = let h = r .room in simp (length-take, length-drop) (omega arith)
-
--- what is known where a symbol's field was found
-pub record InPath (q : Stack) (s : List ℕ) (at t n : ℕ) : Type 0 where
-  pub room : at + 3 + n ≤ length s
-  pub long : length (take n (drop (at + 3) s)) ≡ symbol-length t
-  pub low : 0x43 ≤ t
-  pub high : t ≤ 0x45
-  pub some : 0 < q .left
-
-pub in-path : (f : File) (q : Stack) (s : List ℕ) (at t n : ℕ) → field-at (due-symbols f q) s at ≡ body t n → InPath q s at t n
-in-path f q s at t n e =
-    let r = found (due-symbols f q) s at t n e in
-    let h : q .left ≡ 0 → ⊥ = eqb-false (q .left) 0 (r .more) in
-    let g = symbol-range f q t n (r .fit) in
-    record { room = r .room; long = body-length r ∙ symbol-len f q t n (r .fit); low = g .0; high = g .1; some = omega arith }
 
 -- where one tag alone is due, the field has it, and its length
 pub one-due : (d : Due) (t n : ℕ) → d .lo ≡ d .hi → fitting d t n ≡ true → (t ≡ d .lo) × (n ≡ tag-length (d .lo))

@@ -6,9 +6,5 @@ pub mod Fields
 -- reading: the loop, and induction over an accepted file
 pub mod Going
 pub mod Accepted
--- symbols
-pub mod Symbols
-pub mod Numbers
-pub mod Counting
 -- arrays
 pub mod Padded

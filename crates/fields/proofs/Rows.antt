@@ -1,25 +1,17 @@
--- Laws of the table of tags, from a row on.
+-- Laws of the table of tags: each tag has one row, and so one length.
 -- Assumes nothing.
 use Prim.Native.Nat.{ℕ}
 use mathlib.Core.Path.{_≡_, refl, sym, ap, _∙_}
-use mathlib.Core.Bool.{Bool, true, false, cond, not, _&&_, _||_, true≢false, false≢true}
+use mathlib.Core.Bool.{Bool, true, false, cond, not, _&&_, _||_, true≢false, false≢true, and-false, or-false}
 use mathlib.Core.List.{List, [], _∷_}
-use lib.ListN.{getD}
 use Rattle.fields.specs.declared.File.{File}
+use Rattle.fields.specs.declared.File.the-variants.{Sheet, Question, Register, Narrowed}
 use Rattle.fields.specs.declared.Row.{Row}
-use Rattle.fields.specs.Table.{rows, allowed, matching, among, length-in, tag-length}
+use Rattle.fields.specs.Table.{rows, allowed, matching, among, row-in, row-of, tag-length}
 use Rattle.fields.proofs.Bools.{and-left, and-right}
 use borrow.Author.Tests.{eqb-true}
 use lib.Dec.{eqb}
 
-abbrev row-at : ℕ → Row
-row-at i = getD rows i (0, 0, false, false, false, false)
-
--- what row i says of its own tag, it says of a tag that is equal
-pub by-row : (i : ℕ) (f : File) (t n : ℕ) → t ≡ row-at i .0 → matching (row-at i) f (row-at i .0) n ≡ among rows f (row-at i .0) n → matching (row-at i) f t n ≡ among rows f t n
-by-row i f t n e h = rw e h
-
--- ---- the rule of the table: each tag has one length
 abbrev tagged : ℕ → List Row → Bool
 tagged t [] = false
 tagged t (r ∷ rs) = eqb (r .0) t || tagged t rs
@@ -38,31 +30,28 @@ among-tagged (r ∷ rs) f t n e = go (eqb (r .0) t) e (among-tagged rs f t n)
     go true e ih = refl
     go false e ih = ih e
 
-one-length : (rs : List Row) (f : File) (t n : ℕ) → single-rows rs ≡ true → among rs f t n ≡ true → n ≡ length-in rs t
+-- the tag's row tells of every field whether the table has it
+one-row : (rs : List Row) (f : File) (t n : ℕ) → single-rows rs ≡ true → matching (row-in rs t) f t n ≡ among rs f t n
 unfolding among
-one-length [] f t n h e = absurd (false≢true e)
-one-length (r ∷ rs) f t n h e = go (eqb (r .0) t) refl e (one-length rs f t n (and-right (not (tagged (r .0) rs)) (single-rows rs) h))
+one-row [] Sheet t n h = and-false (eqb 0 t && eqb 0 n)
+one-row [] Question t n h = and-false (eqb 0 t && eqb 0 n)
+one-row [] Register t n h = and-false (eqb 0 t && eqb 0 n)
+one-row [] Narrowed t n h = and-false (eqb 0 t && eqb 0 n)
+one-row (r ∷ rs) f t n h = go (eqb (r .0) t) refl (one-row rs f t n (and-right (not (tagged (r .0) rs)) (single-rows rs) h))
   where
-    alone : not (tagged (r .0) rs) ≡ true
-    alone = and-left (not (tagged (r .0) rs)) (single-rows rs) h
+    alone : (b : Bool) → among rs f (r .0) n ≡ b → b ≡ false
+    alone true e = absurd (true≢false (sym (and-left (not (tagged (r .0) rs)) (single-rows rs) h) ∙ ap not (among-tagged rs f (r .0) n e)))
+    alone false e = refl
 
-    here : (a b : Bool) → a && b ≡ true → eqb (r .1) n ≡ a → n ≡ r .1
-    here true b k q = sym (eqb-true (r .1) n q)
-    here false b k q = absurd (false≢true k)
+    go : (b : Bool) → eqb (r .0) t ≡ b → matching (row-in rs t) f t n ≡ among rs f t n → matching (cond b r (row-in rs t)) f t n ≡ matching r f t n || among rs f t n
+    go true q rest = rw (← eqb-true (r .0) t q, alone _ refl) (sym (or-false _))
+    go false q rest = rw q rest
 
-    go : (b : Bool) → eqb (r .0) t ≡ b → (b && eqb (r .1) n && allowed r f) || among rs f t n ≡ true → (among rs f t n ≡ true → n ≡ length-in rs t)
-        → n ≡ cond b (r .1) (length-in rs t)
-    go true q k ih = by-row (eqb (r .1) n && allowed r f) refl k
-      where
-        by-row : (c : Bool) → eqb (r .1) n && allowed r f ≡ c → c || among rs f t n ≡ true → n ≡ r .1
-        by-row true p k = here (eqb (r .1) n) (allowed r f) p refl
-        by-row false p k =
-            let e : r .0 ≡ t = eqb-true (r .0) t q in
-            let z : tagged (r .0) rs ≡ true = rw e (among-tagged rs f t n k) in
-            absurd (true≢false (sym alone ∙ ap not z))
-    go false q k ih = ih k
+pub row-among : (f : File) (t n : ℕ) → matching (row-of t) f t n ≡ among rows f t n
+unfolding row-of rows
+row-among f t n = one-row rows f t n refl
 
 -- a field that the table has has its tag's length
 pub own-length : (f : File) (t n : ℕ) → among rows f t n ≡ true → n ≡ tag-length t
-unfolding tag-length rows
-own-length f t n e = one-length rows f t n refl e
+unfolding tag-length row-of
+own-length f t n e = sym (eqb-true (row-of t .1) n (and-right (eqb (row-of t .0) t) _ (and-left _ (allowed (row-of t) f) (row-among f t n ∙ e))))

@@ -2,7 +2,6 @@ pub mod Answer
 pub mod Table
 pub mod Reading
 pub mod Raw
-pub mod Symbols
 pub mod Call
 pub mod Said
 pub mod Padded

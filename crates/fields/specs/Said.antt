@@ -11,15 +11,9 @@ use Rattle.fields.specs.declared.Written as declared·Written
 use Rattle.fields.specs.declared.Written.the-variants as written
 use Rattle.fields.specs.declared.Seen as declared·Seen
 use Rattle.fields.specs.declared.Seen.the-variants as seen
-use Rattle.fields.specs.declared.Read as declared·Read
-use Rattle.fields.specs.declared.Read.the-variants as read
-use Rattle.fields.specs.declared.Pushed as declared·Pushed
-use Rattle.fields.specs.declared.Pushed.the-variants as pushed
-use Rattle.fields.specs.declared.Stack.{Stack}
 use Rattle.fields.specs.Answer.{Answer, got, refused}
 use Rattle.fields.specs.Call.{Outcome, accepts, refuses, Size, size}
 use Rattle.fields.specs.Reading.{Field, ends, wrong, body}
-use Rattle.fields.specs.Symbols.{Numbered, numbered}
 
 abbrev pub number-of : Refusal → ℕ
 number-of (Truncated p) = 1
@@ -71,11 +65,3 @@ abbrev pub field-said : declared·Seen.Seen → Field
 field-said seen.Ends = ends
 field-said (seen.Wrong r) = wrong (number-of r) (place-of r)
 field-said (seen.Body t n) = body t n
-
-abbrev pub symbol-said : declared·Read.Read → Answer Numbered
-symbol-said (read.Refused r) = refusal-said r
-symbol-said (read.Is x) = got (numbered (x .number) (x .set))
-
-abbrev pub push-said : declared·Pushed.Pushed → Answer Stack
-push-said (pushed.Refused r) = refusal-said r
-push-said (pushed.Stands q) = got q

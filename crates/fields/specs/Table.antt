@@ -42,10 +42,14 @@ unfoldable pub among : List Row → File → ℕ → ℕ → Bool
 among [] f t n = false
 among (r ∷ rs) f t n = matching r f t n || among rs f t n
 
--- the length of a tag: that of its row
-abbrev pub length-in : List Row → ℕ → ℕ
-length-in [] t = 0
-length-in (r ∷ rs) t = cond (eqb (r .0) t) (r .1) (length-in rs t)
+-- the row of a tag; where there is none, one that allows no file
+abbrev pub row-in : List Row → ℕ → Row
+row-in [] t = row 0 0 false false false false
+row-in (r ∷ rs) t = cond (eqb (r .0) t) r (row-in rs t)
 
+unfoldable pub row-of : ℕ → Row
+row-of t = row-in rows t
+
+-- the length of a tag: that of its row
 unfoldable pub tag-length : ℕ → ℕ
-tag-length t = length-in rows t
+tag-length t = row-in rows t .1

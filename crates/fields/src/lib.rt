@@ -1,12 +1,11 @@
-// Fields of a file: why one is refused, the table of tags, the field reader, and the symbols of a path.
+// Fields of a file: why one is refused, the table of tags, and the field reader.
 ghost use mathlib.Core.Path.{_≡_};
 ghost use Prim.Native.Nat.{_+_, _≤_, _<_};
 ghost use lib.ListN.{length};
-ghost use Rattle.fields.specs.Table.{allowed, matching, among, rows};
+ghost use Rattle.fields.specs.Table.{allowed, matching, among, rows, row-of};
 ghost use Rattle.fields.specs.Reading.{fitting, field-at, word, eight};
 ghost use Rattle.fields.specs.Raw.{raw-at, body-in, judged};
-ghost use Rattle.fields.specs.Symbols.{symbol-length, step-of, operator-of, symbol-in, push, arity, due-symbols};
-ghost use Rattle.fields.specs.Said.{number-of, place-of, source-number, field-said, symbol-said, push-said};
+ghost use Rattle.fields.specs.Said.{number-of, place-of, source-number, field-said};
 
 // Why a file or a call is refused: the paper's numbers 1 to 6 and 11 to 16, each with its place.
 pub enum Refusal {
@@ -110,21 +109,69 @@ pub enum File {
     Narrowed,
 }
 
+// The bytes of a field's head: its tag, and the length of its body.
+pub const HEAD: usize = 3;
+
 // A tag, its one length, and whether a sheet, a question, a register, a narrowed question may have it.
 pub struct Row(pub u8, pub u16, pub bool, pub bool, pub bool, pub bool);
 
+// Of each field its tag, and the length of its body.
+pub const SHEET_TAG: u8 = 0x11;
+
+pub const SHEET_LENGTH: u16 = 2;
+
+pub const TRIPLE_TAG: u8 = 0x12;
+
+pub const TRIPLE_LENGTH: u16 = 3;
+
+pub const QUESTION_TAG: u8 = 0x21;
+
+pub const QUESTION_LENGTH: u16 = 1;
+
+pub const REGISTER_TAG: u8 = 0x31;
+
+pub const REGISTER_LENGTH: u16 = 4;
+
+pub const KIND_TAG: u8 = 0x32;
+
+pub const KIND_LENGTH: u16 = 1;
+
+pub const LINK_TAG: u8 = 0x33;
+
+pub const LINK_LENGTH: u16 = 5;
+
+pub const NARROWED_TAG: u8 = 0x41;
+
+pub const NARROWED_LENGTH: u16 = 2;
+
+pub const MEMBER_TAG: u8 = 0x42;
+
+pub const MEMBER_LENGTH: u16 = 17;
+
+pub const STEP_TAG: u8 = 0x43;
+
+pub const STEP_LENGTH: u16 = 2;
+
+pub const OPERATOR_TAG: u8 = 0x44;
+
+pub const OPERATOR_LENGTH: u16 = 1;
+
+pub const THROUGH_TAG: u8 = 0x45;
+
+pub const THROUGH_LENGTH: u16 = 8;
+
 const ROWS: [Row; 11] = [
-    Row(0x11, 2, true, false, false, false),
-    Row(0x12, 3, true, false, false, false),
-    Row(0x21, 1, false, true, false, false),
-    Row(0x31, 4, false, false, true, false),
-    Row(0x32, 1, false, false, true, false),
-    Row(0x33, 5, false, false, true, false),
-    Row(0x41, 2, false, false, false, true),
-    Row(0x42, 17, false, false, false, true),
-    Row(0x43, 2, false, true, false, true),
-    Row(0x44, 1, false, true, false, true),
-    Row(0x45, 8, false, false, false, true),
+    Row(SHEET_TAG, SHEET_LENGTH, true, false, false, false),
+    Row(TRIPLE_TAG, TRIPLE_LENGTH, true, false, false, false),
+    Row(QUESTION_TAG, QUESTION_LENGTH, false, true, false, false),
+    Row(REGISTER_TAG, REGISTER_LENGTH, false, false, true, false),
+    Row(KIND_TAG, KIND_LENGTH, false, false, true, false),
+    Row(LINK_TAG, LINK_LENGTH, false, false, true, false),
+    Row(NARROWED_TAG, NARROWED_LENGTH, false, false, false, true),
+    Row(MEMBER_TAG, MEMBER_LENGTH, false, false, false, true),
+    Row(STEP_TAG, STEP_LENGTH, false, true, false, true),
+    Row(OPERATOR_TAG, OPERATOR_LENGTH, false, true, false, true),
+    Row(THROUGH_TAG, THROUGH_LENGTH, false, false, false, true),
 ];
 
 fn allows(row: Row, file: File) -> bool
@@ -150,25 +197,33 @@ fn matches(row: Row, file: File, tag: u8, len: u16) -> bool
     false
 }
 
-// The table has the tag with this length for the file. Each tag names its row by a constant, since a row at an index that is only known
-// when it runs costs a copy of the whole table.
+// The row of a tag, or one that allows no file. Each tag names its row by a constant, since a row at an index that is only known when it
+// runs costs a copy of the whole table.
+fn row_of(tag: u8) -> Row
+    ensures { λ r. ⌜ r ≡ row-of tag ⌝ }
+{
+    let rows = ROWS;
+    match tag {
+        SHEET_TAG => rows[0],
+        TRIPLE_TAG => rows[1],
+        QUESTION_TAG => rows[2],
+        REGISTER_TAG => rows[3],
+        KIND_TAG => rows[4],
+        LINK_TAG => rows[5],
+        NARROWED_TAG => rows[6],
+        MEMBER_TAG => rows[7],
+        STEP_TAG => rows[8],
+        OPERATOR_TAG => rows[9],
+        THROUGH_TAG => rows[10],
+        _ => Row(0, 0, false, false, false, false),
+    }
+}
+
+// The table has the tag with this length for the file.
 fn own(file: File, tag: u8, len: u16) -> bool
     ensures { λ r. ⌜ r ≡ among rows file tag len ⌝ }
 {
-    match tag {
-        0x11 => matches(ROWS[0], file, tag, len),
-        0x12 => matches(ROWS[1], file, tag, len),
-        0x21 => matches(ROWS[2], file, tag, len),
-        0x31 => matches(ROWS[3], file, tag, len),
-        0x32 => matches(ROWS[4], file, tag, len),
-        0x33 => matches(ROWS[5], file, tag, len),
-        0x41 => matches(ROWS[6], file, tag, len),
-        0x42 => matches(ROWS[7], file, tag, len),
-        0x43 => matches(ROWS[8], file, tag, len),
-        0x44 => matches(ROWS[9], file, tag, len),
-        0x45 => matches(ROWS[10], file, tag, len),
-        _ => false,
-    }
+    matches(row_of(tag), file, tag, len)
 }
 
 // What is due at a place: the tags lo to hi; whether the file may end there; whether it must.
@@ -237,11 +292,11 @@ pub fn step_at(s: &[u8], at: usize) -> Raw
     if s.len() <= at {
         return Raw::End;
     }
-    if s.len() < at + 3 {
+    if s.len() < at + HEAD {
         return Raw::Cut;
     }
     let len = two(s, at + 1);
-    if s.len() < at + 3 + len as usize {
+    if s.len() < at + HEAD + len as usize {
         return Raw::Short(s[at], len);
     }
     Raw::Whole(s[at], len)
@@ -253,7 +308,7 @@ pub fn body_at(s: &[u8], at: usize) -> &[u8]
 {
     match step_at(s, at) {
         Raw::Whole(_, len) => {
-            let a = at + 3;
+            let a = at + HEAD;
             let e = a + len as usize;
             &s[a..e]
         }
@@ -312,122 +367,4 @@ pub fn field(s: &[u8], at: usize, due: Due) -> Seen
     ensures { λ r. ⌜ field-said r ≡ field-at due (now (s .entry)) at ⌝ }
 {
     judge(step_at(s, at), at, due)
-}
-
-// A symbol as a number: its code, and 255 for a join through a set; and the set, 0 where there is none.
-pub struct Symbol {
-    pub number: u8,
-    pub set: u64,
-}
-
-pub enum Read {
-    Refused(Refusal),
-    Is(Symbol),
-}
-
-fn step_in(at: usize, b: &[u8]) -> Read
-    requires { ⌜ length (now b) ≡ 2 ⌝ }
-    ensures { λ r. ⌜ symbol-said r ≡ step-of at (now (b .entry)) ⌝ }
-{
-    if b[0] < 2 {
-        if b[1] < 64 {
-            return Read::Is(Symbol {
-                number: b[0] * 64 + b[1],
-                set: 0,
-            });
-        }
-        return Read::Refused(Refusal::OutOfRange(at));
-    }
-    Read::Refused(Refusal::OutOfRange(at))
-}
-
-fn operator_in(at: usize, b: &[u8]) -> Read
-    requires { ⌜ length (now b) ≡ 1 ⌝ }
-    ensures { λ r. ⌜ symbol-said r ≡ operator-of at (now (b .entry)) ⌝ }
-{
-    if 128 <= b[0] {
-        if b[0] <= 133 {
-            return Read::Is(Symbol {
-                number: b[0],
-                set: 0,
-            });
-        }
-        return Read::Refused(Refusal::OutOfRange(at));
-    }
-    Read::Refused(Refusal::OutOfRange(at))
-}
-
-// The symbol in a field's body, by its tag; refusal 3.
-pub fn symbol_in(at: usize, tag: u8, b: &[u8]) -> Read
-    requires { ⌜ length (now b) ≡ symbol-length tag ⌝ }
-    ensures { λ r. ⌜ symbol-said r ≡ symbol-in at tag (now (b .entry)) ⌝ }
-{
-    if tag == 0x43 {
-        return step_in(at, b);
-    }
-    if tag == 0x44 {
-        return operator_in(at, b);
-    }
-    Read::Is(Symbol {
-        number: 255,
-        set: eight_at(b, 0),
-    })
-}
-
-// How many paths a symbol takes.
-pub fn operands(number: u8) -> u8
-    ensures { λ r. ⌜ r ≡ arity number ⌝ }
-{
-    if number < 128 {
-        return 0;
-    }
-    if number == 133 {
-        return 1;
-    }
-    2
-}
-
-// A path being read: the symbols still due, and the paths that stand on the stack.
-pub struct Stack {
-    pub left: u8,
-    pub depth: u8,
-}
-
-pub enum Pushed {
-    Refused(Refusal),
-    Stands(Stack),
-}
-
-// One symbol more, that takes k paths; its field is at a place, with the place after it: refusal 6.
-pub fn push_symbol(q: Stack, at: usize, next: usize, k: u8) -> Pushed
-    requires { ⌜ (0 < q .left) × (q .depth < 255) ⌝ }
-    ensures { λ r. ⌜ push-said r ≡ push q at next k ⌝ }
-{
-    if q.depth < k {
-        return Pushed::Refused(Refusal::Operands(at));
-    }
-    let depth = q.depth - k + 1;
-    if q.left == 1 {
-        if depth != 1 {
-            return Pushed::Refused(Refusal::Operands(next));
-        }
-    }
-    Pushed::Stands(Stack {
-        left: q.left - 1,
-        depth,
-    })
-}
-
-// What is due within a path: its symbols, and nothing after them.
-pub fn symbols_due(file: File, q: Stack) -> Due
-    ensures { λ r. ⌜ r ≡ due-symbols file q ⌝ }
-{
-    let over = q.left == 0;
-    Due {
-        file,
-        lo: 0x43,
-        hi: 0x45,
-        ends: over,
-        over,
-    }
 }

@@ -12,8 +12,8 @@ use Rattle.theory.specs.Postfix.{Stack, two-operands, push}
 use Rattle.theory.specs.Sheet.{Sheet}
 use Rattle.theory.specs.Inference.{Triple, distinct, of-closure, triples}
 use Rattle.theory.proofs.Ends.{triples-inside}
-use Rattle.fields.specs.Symbols.{symbol-numbered, arity}
-use Rattle.fields.proofs.Numbers.{join-number}
+use Rattle.symbols.specs.Symbols.{symbol-numbered, arity}
+use Rattle.symbols.proofs.Numbers.{join-number}
 use Rattle.nodes.proofs.Codes.{op-numbered}
 use Rattle.rules.specs.declared.Part.{Part}
 use Rattle.rules.specs.Two.{of-two}

@@ -11,8 +11,8 @@ use Rattle.theory.specs.PathExpr.{any, through, PathExpr, Symbol, s-step, s-joi
 use Rattle.theory.specs.Postfix.{Stack}
 use Rattle.theory.specs.Sorting.{set-of, sets-of}
 use Rattle.theory.proofs.Postfix.{path-of-postfix, symbols}
-use Rattle.fields.specs.Symbols.{Numbered, numbered, symbol-numbered, number-symbol}
-use Rattle.fields.proofs.Numbers.{symbol-comes}
+use Rattle.symbols.specs.Symbols.{Numbered, numbered, symbol-numbered, number-symbol}
+use Rattle.symbols.proofs.Numbers.{symbol-comes}
 use Rattle.question.specs.Form.{question-symbols}
 use Rattle.question.proofs.Paths.{Known, known-codes}
 use Rattle.nodes.specs.Paths.{original, Copied}

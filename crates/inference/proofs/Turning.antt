@@ -15,7 +15,7 @@ use Rattle.theory.specs.Sheet.{Sheet}
 use Rattle.theory.specs.Inference.{Triple, distinct, of-closure, triples}
 use Rattle.theory.specs.Narrowing.{Outcome, refuse, part-fault}
 use Rattle.theory.proofs.Postfix.{symbols, Step, read-step}
-use Rattle.fields.specs.Symbols.{symbol-numbered, arity}
+use Rattle.symbols.specs.Symbols.{symbol-numbered, arity}
 use Rattle.question.specs.Form.{question-symbols}
 use Rattle.rows.specs.Kept.{Kept}
 use Rattle.rows.proofs.Words.{le-or-lt}

@@ -90,7 +90,7 @@ pub fn infer(
     let mut used: usize = 0;
     for i in 0..count {
         let c = question[i];
-        let b = depth - fields::operands(c) as usize;
+        let b = depth - symbols::operands(c) as usize;
         let x = parts[b];
         match rule(words, question, table, kinds, c, used, i, x, parts[b + 1]) {
             Part::Long => {

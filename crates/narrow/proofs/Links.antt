@@ -13,7 +13,7 @@ use lib.Seq.{drop-cons, getD-take, length-take-le}
 use borrow.Author.Tests.{lt-ltb, le-ltb, le-leb, lt-leb}
 use Rattle.theory.specs.PathExpr.{through, s-join}
 use Rattle.theory.specs.Narrowing.{Outcome, refuse, unless, link-fault}
-use Rattle.fields.specs.Symbols.{operator-numbered, symbol-numbered}
+use Rattle.symbols.specs.Symbols.{operator-numbered, symbol-numbered}
 use Rattle.question.specs.Form.{question-symbols}
 use Rattle.rows.proofs.Words.{le-or-lt}
 use Rattle.narrow.specs.Said.{Unnamed, FirstUnnamed}

@@ -15,7 +15,7 @@ use Rattle.theory.specs.Merging.{members}
 use Rattle.theory.specs.Narrowing.{Outcome, refused, narrowed, refuse, link-fault, part-fault, narrow-symbols}
 use Rattle.fields.specs.declared.Written.{Written}
 use Rattle.fields.specs.Said.{written-said}
-use Rattle.fields.specs.Symbols.{symbol-numbered}
+use Rattle.symbols.specs.Symbols.{symbol-numbered}
 use Rattle.question.specs.Form.{question-symbols}
 use Rattle.rows.specs.Kept.{Kept}
 use Rattle.nodes.specs.Paths.{Sound}

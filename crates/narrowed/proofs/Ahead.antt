@@ -11,11 +11,11 @@ use Rattle.theory.specs.PathExpr.{before?}
 use Rattle.fields.specs.declared.File.the-variants as file
 use Rattle.fields.specs.Answer.{got}
 use Rattle.fields.specs.Reading.{word, eight}
-use Rattle.fields.specs.Symbols.{Numbered}
+use Rattle.symbols.specs.Symbols.{Numbered}
 use Rattle.fields.proofs.Bools.{cond-then, not-got, and-left, and-right}
 use Rattle.narrowed.specs.Form.{Flat, flat, Open, open-as, State, head, between, within, order-codes, open-of}
 use Rattle.narrowed.specs.Writing.{two-bytes, eight-bytes, field-bytes, symbols-bytes, head-bytes, members-bytes, encode}
-use Rattle.fields.specs.Symbols.{Runs}
+use Rattle.symbols.specs.Symbols.{Runs}
 use Rattle.narrowed.specs.Formed.{InOrder, WellFormed}
 use Rattle.narrowed.proofs.Bytes.{Bytes, listed, two-word, eight-of}
 

@@ -10,18 +10,19 @@ use native.Mathlib.Omega.{arith}
 use borrow.Author.Tests.{eqb-true, eqb-false, leb-true}
 use Rattle.theory.specs.PathExpr.{before?}
 use Rattle.fields.specs.declared.File.the-variants as file
-use Rattle.fields.specs.declared.Stack.{Stack}
+use Rattle.symbols.specs.declared.Stack.{Stack}
 use Rattle.fields.specs.Answer.{got, refused, onward}
 use Rattle.fields.specs.Table.{rows, tag-length}
 use Rattle.fields.specs.Reading.{ends, body, field-at, word, eight, read}
-use Rattle.fields.specs.Symbols.{Numbered, symbol-in, arity, push, due-symbols}
+use Rattle.symbols.specs.Symbols.{Numbered, symbol-in, arity, push, due-symbols}
 use Rattle.fields.proofs.Bools.{onward-got, cond-then, not-got}
-use Rattle.fields.proofs.Fields.{found, body-length, one-due, ended, in-path}
-use Rattle.fields.proofs.Symbols.{push-anywhere, push-got}
+use Rattle.fields.proofs.Fields.{found, body-length, one-due, ended}
+use Rattle.symbols.proofs.InPath.{in-path}
+use Rattle.symbols.proofs.Symbols.{push-anywhere, push-got}
 use Rattle.fields.proofs.Accepted.{accepted-ind}
 use Rattle.narrowed.specs.Form.{Flat, Open, open-as, State, head, between, within, order-codes, due, head-of, open-of, grown, judge, value, narrowed-form}
 use Rattle.narrowed.specs.Writing.{field-bytes, symbol-bytes, symbols-bytes, members-bytes, encode}
-use Rattle.fields.specs.Symbols.{Fine, Runs}
+use Rattle.symbols.specs.Symbols.{Fine, Runs}
 use Rattle.narrowed.specs.Formed.{Formed, InOrder, WellFormed}
 use Rattle.narrowed.proofs.Bytes.{Bytes, bytes-take, bytes-drop, eight-set}
 use Rattle.narrowed.proofs.Lies.{field-split}

@@ -8,7 +8,7 @@ use Rattle.theory.specs.Cases.{case-1, sealed}
 use Rattle.fields.specs.Answer.{Answer, got, refused}
 use Rattle.fields.specs.Table.{among, rows}
 use Rattle.fields.specs.Reading.{eight, fitting, field-at, walk, read}
-use Rattle.fields.specs.Symbols.{order-code, arity, step-of, operator-of, symbol-in, push, numbered}
+use Rattle.symbols.specs.Symbols.{order-code, arity, step-of, operator-of, symbol-in, push, numbered}
 use Rattle.narrowed.specs.Form.{Flat, flat, narrowed-form}
 use Rattle.narrowed.specs.Writing.{encode}
 use Rattle.narrowed.specs.Members.{narrowed-file}

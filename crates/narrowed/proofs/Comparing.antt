@@ -11,7 +11,7 @@ use lib.ListN.{length, getD, take, drop}
 use lib.Seq.{drop-cons}
 use borrow.Author.Tests.{lt-ltb, le-ltb, eq-eqb, ne-eqb, ltb-true, ltb-false}
 use Rattle.theory.specs.PathExpr.{before?}
-use Rattle.fields.specs.Symbols.{order-code}
+use Rattle.symbols.specs.Symbols.{order-code}
 use Rattle.narrowed.specs.Said.{segment-codes}
 
 module _ (l : List ℕ) where

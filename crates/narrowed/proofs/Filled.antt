@@ -7,7 +7,7 @@ use lib.ListN.{length, take, drop, set, replicate, length-append, length-map, le
 use lib.Seq.{take-at, drop-at, drop-append-le}
 use native.Mathlib.Omega.{arith}
 use Rattle.theory.specs.Lists.{concat-map}
-use Rattle.fields.specs.Symbols.{Numbered, numbered, order-code}
+use Rattle.symbols.specs.Symbols.{Numbered, numbered, order-code}
 use Rattle.fields.specs.Padded.{padded}
 use Rattle.fields.proofs.Padded.{pad-set, pad-length}
 use Rattle.narrowed.specs.Form.{Flat, flat, order-codes, numbers as nums, set-numbers as masks}

@@ -18,11 +18,11 @@ use Rattle.theory.proofs.Members.{narrow-fits}
 use Rattle.fields.specs.Answer.{got}
 use Rattle.fields.specs.Reading.{read}
 use Rattle.narrowed.specs.Form.{order-codes, narrowed-form}
-use Rattle.fields.specs.Symbols.{Runs, number-symbol}
+use Rattle.symbols.specs.Symbols.{Runs, number-symbol}
 use Rattle.narrowed.specs.Formed.{Formed, InOrder, WellFormed}
 use Rattle.narrowed.specs.Members.{flat-of, narrowed-file}
-use Rattle.fields.proofs.Numbers.{AllHeld, number-of, held-postfix, length-postfix}
-use Rattle.fields.proofs.Counting.{read-runs}
+use Rattle.symbols.proofs.Numbers.{AllHeld, number-of, held-postfix, length-postfix}
+use Rattle.symbols.proofs.Counting.{read-runs}
 use Rattle.narrowed.proofs.Forth.{read-encode}
 
 -- theory's codes are those by which members are compared in a file

@@ -9,16 +9,16 @@ use native.Mathlib.Omega.{arith}
 use borrow.Author.Tests.{le-leb, eq-eqb, ne-eqb}
 use Rattle.theory.specs.PathExpr.{before?}
 use Rattle.fields.specs.declared.File.the-variants as file
-use Rattle.fields.specs.declared.Stack.{Stack}
+use Rattle.symbols.specs.declared.Stack.{Stack}
 use Rattle.fields.specs.Answer.{Answer, got}
 use Rattle.fields.specs.Table.{among, rows}
 use Rattle.fields.specs.Reading.{eight, fitting, read}
-use Rattle.fields.specs.Symbols.{Numbered, arity, push, due-symbols}
-use Rattle.fields.proofs.Symbols.{push-got, push-anywhere}
+use Rattle.symbols.specs.Symbols.{Numbered, arity, push, due-symbols}
+use Rattle.symbols.proofs.Symbols.{push-got, push-anywhere}
 use Rattle.fields.proofs.Going.{Going, going-start, going-ends, going-more}
 use Rattle.narrowed.specs.Form.{Flat, Open, open-as, State, head, between, within, order-codes, due, grown, judge, narrowed-form}
 use Rattle.narrowed.specs.Writing.{two-bytes, eight-bytes, symbol-tag, symbol-body, symbol-bytes, symbols-bytes, head-bytes, members-bytes, encode}
-use Rattle.fields.specs.Symbols.{Fine, Runs}
+use Rattle.symbols.specs.Symbols.{Fine, Runs}
 use Rattle.narrowed.specs.Formed.{Formed, InOrder, WellFormed}
 use Rattle.narrowed.proofs.Bytes.{word-back, eight-back}
 use Rattle.narrowed.proofs.Lies.{field-lies, ends-lie}

@@ -8,9 +8,9 @@ use lib.ListN.{length, getD, drop, length-map}
 use lib.Seq.{getD-drop, drop-drop, drop-append-seam}
 use native.Mathlib.Omega.{arith}
 use borrow.Author.Tests.{eq-eqb, ne-eqb}
-use Rattle.fields.specs.declared.Stack.{Stack}
+use Rattle.symbols.specs.declared.Stack.{Stack}
 use Rattle.fields.specs.Padded.{padded}
-use Rattle.fields.specs.Symbols.{Numbered, numbered, symbol-given, symbols-given, Fine, Runs}
+use Rattle.symbols.specs.Symbols.{Numbered, numbered, symbol-given, symbols-given, Fine, Runs}
 use Rattle.narrowed.specs.declared.Members.{Members}
 use Rattle.narrowed.specs.Form.{Flat, flat, numbers, set-numbers}
 use Rattle.narrowed.specs.Formed.{InOrder, WellFormed}

@@ -10,7 +10,7 @@ use native.Mathlib.Omega.{arith}
 use Rattle.theory.specs.PathExpr.{before?}
 use Rattle.fields.specs.Answer.{Answer, got, refused}
 use Rattle.fields.specs.Reading.{Field, ends, wrong, body, field-at, word, read}
-use Rattle.fields.specs.Symbols.{Numbered, numbered}
+use Rattle.symbols.specs.Symbols.{Numbered, numbered}
 use Rattle.narrowed.specs.Form.{Flat, narrowed-form, order-codes}
 use Rattle.narrowed.specs.declared.Standing.{Standing}
 use Rattle.narrowed.specs.declared.Standing.the-variants.{Head, Between, Within}
@@ -20,7 +20,7 @@ use Rattle.narrowed.specs.declared.Outcome.the-variants as outcome
 use Rattle.narrowed.specs.declared.Members.{Members}
 use Rattle.narrowed.specs.declared.Marks.{Marks}
 use Rattle.narrowed.specs.Said as said
-use Rattle.fields.specs.declared.Stack.{Stack}
+use Rattle.symbols.specs.declared.Stack.{Stack}
 use Rattle.fields.proofs.Bools.{not-got}
 use Rattle.fields.proofs.Fields.{found}
 use Rattle.narrowed.proofs.Moves.{moves, count-go, open-go}

@@ -9,10 +9,10 @@ use lib.Dec.{leb, eqb}
 use native.Mathlib.Omega.{arith}
 use borrow.Author.Tests.{eqb-true, eqb-false}
 use Rattle.fields.specs.declared.File.the-variants as file
-use Rattle.fields.specs.declared.Stack.{Stack}
+use Rattle.symbols.specs.declared.Stack.{Stack}
 use Rattle.fields.specs.Answer.{got, refused, onward}
 use Rattle.fields.specs.Reading.{word, eight}
-use Rattle.fields.specs.Symbols.{Numbered, numbered, symbol-in, push, arity}
+use Rattle.symbols.specs.Symbols.{Numbered, numbered, symbol-in, push, arity}
 use Rattle.fields.proofs.Bools.{onward-got, refused-too, not-refused, cond-then, not-got}
 use Rattle.narrowed.specs.Form.{Flat, open-as, between, within, judge as judge-of, head-of, open-of, grown}
 use Rattle.narrowed.specs.declared.Standing.{Standing}

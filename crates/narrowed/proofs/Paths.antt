@@ -8,15 +8,15 @@ use Rattle.theory.specs.Postfix.{single-path, path-of}
 use Rattle.theory.specs.Merging.{Member, member}
 use Rattle.theory.specs.Narrowing.{MemberFits}
 use Rattle.theory.proofs.Postfix.{postfix-path-of, path-of-postfix}
-use Rattle.fields.specs.declared.Stack.{Stack}
-use Rattle.fields.specs.Symbols.{Numbered}
+use Rattle.symbols.specs.declared.Stack.{Stack}
+use Rattle.symbols.specs.Symbols.{Numbered}
 use Rattle.narrowed.specs.Form.{Flat, flat}
-use Rattle.fields.specs.Symbols.{Runs}
+use Rattle.symbols.specs.Symbols.{Runs}
 use Rattle.narrowed.specs.Formed.{Formed}
-use Rattle.fields.specs.Symbols.{number-symbol}
+use Rattle.symbols.specs.Symbols.{number-symbol}
 use Rattle.narrowed.specs.Members.{flat-of, flat-path}
-use Rattle.fields.proofs.Numbers.{symbol-of, symbol-comes, held-postfix, numbered-symbols}
-use Rattle.fields.proofs.Counting.{runs-read}
+use Rattle.symbols.proofs.Numbers.{symbol-of, symbol-comes, held-postfix, numbered-symbols}
+use Rattle.symbols.proofs.Counting.{runs-read}
 
 symbols-come : (xs : List Numbered) (q : Stack) → Runs q xs → map number-symbol (map symbol-of xs) ≡ xs
 symbols-come [] q r = refl

@@ -10,14 +10,15 @@ use native.Mathlib.Omega.{arith}
 use borrow.Author.Tests.{eqb-true, eqb-false, leb-true, eq-eqb, ne-eqb}
 use Rattle.theory.specs.PathExpr.{before?}
 use Rattle.fields.specs.declared.File.the-variants as file
-use Rattle.fields.specs.declared.Stack.{Stack}
+use Rattle.symbols.specs.declared.Stack.{Stack}
 use Rattle.fields.specs.Answer.{got, refused}
 use Rattle.fields.specs.Table.{rows, tag-length}
 use Rattle.fields.specs.Reading.{ends, wrong, body, field-at, read, word, eight}
-use Rattle.fields.specs.Symbols.{Numbered, numbered, arity}
+use Rattle.symbols.specs.Symbols.{Numbered, numbered, arity}
 use Rattle.fields.proofs.Bools.{and-left, and-right}
-use Rattle.fields.proofs.Fields.{found, body-length, one-due, ended, in-path}
-use Rattle.fields.proofs.Symbols.{push-got}
+use Rattle.fields.proofs.Fields.{found, body-length, one-due, ended}
+use Rattle.symbols.proofs.InPath.{in-path}
+use Rattle.symbols.proofs.Symbols.{push-got}
 use Rattle.fields.proofs.Going.{Going, going-start, going-ends, going-wrong, going-refused, going-more}
 use Rattle.narrowed.specs.Form.{Flat, flat, open-as, State, head, between, within, due, judge as judge-of, narrowed-form, order-codes}
 use Rattle.narrowed.specs.declared.Standing.{Standing}

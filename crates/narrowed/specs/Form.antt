@@ -9,10 +9,10 @@ use lib.ListN.{getD}
 use Rattle.theory.specs.PathExpr.{before?}
 use Rattle.fields.specs.declared.File.the-variants as file
 use Rattle.fields.specs.declared.Due.{Due}
-use Rattle.fields.specs.declared.Stack.{Stack}
+use Rattle.symbols.specs.declared.Stack.{Stack}
 use Rattle.fields.specs.Answer.{Answer, got, refused, onward}
 use Rattle.fields.specs.Reading.{Form, word, eight}
-use Rattle.fields.specs.Symbols.{Numbered, order-code, symbol-in, arity, push, due-symbols}
+use Rattle.symbols.specs.Symbols.{Numbered, order-code, symbol-in, arity, push, due-symbols}
 
 -- a member as its file has it: from set, to set, and its symbols in postfix order
 pub record Flat : Type 0 where

@@ -7,7 +7,7 @@ use Prim.Native.Nat.{ℕ, _≤_}
 use lib.ListN.{length}
 use Rattle.theory.specs.KindSet.{is-set}
 use Rattle.theory.specs.PathExpr.{before?}
-use Rattle.fields.specs.Symbols.{Runs}
+use Rattle.symbols.specs.Symbols.{Runs}
 use Rattle.narrowed.specs.Form.{Flat, order-codes}
 
 pub record Formed (m : Flat) : Type 0 where

@@ -6,7 +6,7 @@ use Prim.Native.Nat.{ℕ}
 use Rattle.theory.specs.PathExpr.{PathExpr, postfix}
 use Rattle.theory.specs.Postfix.{path-of}
 use Rattle.theory.specs.Merging.{Member}
-use Rattle.fields.specs.Symbols.{number-symbol, symbol-numbered}
+use Rattle.symbols.specs.Symbols.{number-symbol, symbol-numbered}
 use Rattle.narrowed.specs.Form.{Flat, flat}
 use Rattle.narrowed.specs.Writing.{encode}
 

@@ -9,12 +9,12 @@ use lib.ListN.{length, getD, take, drop}
 use Rattle.theory.specs.Lists.{concat-map}
 use Rattle.fields.specs.declared.File.the-variants as file
 use Rattle.fields.specs.declared.Due.{Due}
-use Rattle.fields.specs.declared.Stack.{Stack}
+use Rattle.symbols.specs.declared.Stack.{Stack}
 use Rattle.fields.specs.Answer.{Answer, got, refused, onward}
 use Rattle.fields.specs.Reading.{Field, field-at, word, eight}
 use Rattle.fields.specs.Reading as field
 use Rattle.fields.specs.Said.{refusal-said}
-use Rattle.fields.specs.Symbols.{Numbered, order-code, symbol-in, symbol-length, arity, push, due-symbols}
+use Rattle.symbols.specs.Symbols.{Numbered, order-code, symbol-in, symbol-length, arity, push, due-symbols}
 use Rattle.narrowed.specs.declared.Members.{Members}
 use Rattle.narrowed.specs.declared.Outcome.{Outcome}
 use Rattle.narrowed.specs.declared.Outcome.the-variants as outcome

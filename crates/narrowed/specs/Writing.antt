@@ -7,7 +7,7 @@ use Prim.Native.Nat.{ℕ, _/_, _%_}
 use lib.Dec.{ltb, eqb}
 use lib.ListN.{length}
 use Rattle.theory.specs.Lists.{concat-map}
-use Rattle.fields.specs.Symbols.{Numbered}
+use Rattle.symbols.specs.Symbols.{Numbered}
 use Rattle.narrowed.specs.Form.{Flat}
 
 -- two bytes, and eight, the high one first

@@ -1,18 +1,18 @@
 // Reads a narrowed question's file: its members, by value.
 use fields::Due;
 use fields::File;
-use fields::Pushed;
-use fields::Read;
 use fields::Refusal;
 use fields::Seen;
-use fields::Stack;
+use symbols::Pushed;
+use symbols::Read;
+use symbols::Stack;
 ghost use mathlib.Core.Path.{_≡_};
 ghost use mathlib.Core.List.{[]};
 ghost use Prim.Native.Nat.{_+_, _≤_, _<_};
 ghost use lib.ListN.{length, replicate, set};
 ghost use Rattle.theory.specs.PathExpr.{before?};
 ghost use Rattle.fields.specs.Reading.{read as read-file, word};
-ghost use Rattle.fields.specs.Symbols.{order-code, symbol-length};
+ghost use Rattle.symbols.specs.Symbols.{order-code, symbol-length};
 ghost use Rattle.narrowed.specs.Form.{narrowed-form};
 ghost use Rattle.narrowed.specs.Said.{Reads, segment-codes, due-of, count-of, open-move, symbol-move, judged, Ready, turn-said, Packed, Able, turned, marked, arrays};
 
@@ -88,7 +88,7 @@ fn due(st: Standing) -> Due
                 over,
             }
         }
-        Standing::Within(_, _, q) => fields::symbols_due(File::Narrowed, q),
+        Standing::Within(_, _, q) => symbols::symbols_due(File::Narrowed, q),
     }
 }
 
@@ -127,12 +127,12 @@ fn grow(l: u8, p: usize, q: Stack, at: usize, next: usize, tag: u8, b: &[u8]) ->
     requires { ⌜ (length (now b) ≡ symbol-length tag) × ((0 < q .left) × (q .depth < 255)) ⌝ }
     ensures { λ r. ⌜ turn-said r ≡ symbol-move l p q at next tag (now (b .entry)) ⌝ }
 {
-    match fields::symbol_in(at, tag, b) {
+    match symbols::symbol_in(at, tag, b) {
         Read::Refused(r) => Turn::Stop(r),
         Read::Is(x) => {
             let c = x.number;
             let m = x.set;
-            match fields::push_symbol(q, at, next, fields::operands(c)) {
+            match symbols::push_symbol(q, at, next, symbols::operands(c)) {
                 Pushed::Refused(r) => Turn::Stop(r),
                 Pushed::Stands(t) => {
                     if t.left == 0 {

@@ -7,8 +7,8 @@ use Prim.Native.Nat.{ℕ, zero, suc, _+_, _-_, _<_}
 use native.Mathlib.Omega.{arith}
 use Rattle.theory.specs.PathExpr.{Direction, forward, reverse, Op, union, conjunction, branch-right, branch-left, PathExpr, step, join, op, closure, Symbol, s-step, s-join, s-op, s-closure, step-code, op-code, code}
 use Rattle.theory.specs.Inference.{Triple}
-use Rattle.fields.specs.Symbols.{symbol-numbered}
-use Rattle.fields.proofs.Numbers.{forward-number, reverse-number}
+use Rattle.symbols.specs.Symbols.{symbol-numbered}
+use Rattle.symbols.proofs.Numbers.{forward-number, reverse-number}
 use Rattle.rows.proofs.Words.{le-or-lt}
 use Rattle.nodes.specs.declared.Node.{Node}
 use Rattle.nodes.specs.Paths.{built}

@@ -10,7 +10,7 @@ use lib.Pow.{shl-exact}
 use lib.ListN.{length, take, drop, replicate, length-replicate}
 use Rattle.theory.specs.KindSet.{singleton}
 use Rattle.theory.specs.PathExpr.{through, Direction, PathExpr, step, codes, code, size, step-code, op-code}
-use Rattle.fields.proofs.Numbers.{code-number}
+use Rattle.symbols.proofs.Numbers.{code-number}
 use Rattle.nodes.specs.declared.Node.{Node}
 use Rattle.nodes.specs.Table.{node-at}
 use Rattle.theory.specs.Sorting.{sets-of}

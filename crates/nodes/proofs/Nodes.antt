@@ -6,8 +6,8 @@ use Prim.Native.Nat.{ℕ, _<_, _≤_}
 use native.Mathlib.Omega.{arith}
 use Rattle.theory.specs.KindSet.{singleton}
 use Rattle.theory.specs.PathExpr.{Direction, any, through, Op, step, join, op, closure, s-step, s-op}
-use Rattle.fields.specs.Symbols.{symbol-numbered}
-use Rattle.fields.proofs.Numbers.{join-number, code-number}
+use Rattle.symbols.specs.Symbols.{symbol-numbered}
+use Rattle.symbols.proofs.Numbers.{join-number, code-number}
 use Rattle.nodes.specs.declared.Node.{Node}
 use Rattle.nodes.specs.Table.{node-at}
 use Rattle.nodes.specs.Paths.{original, triple-of, Two, Copied, Good, Has}

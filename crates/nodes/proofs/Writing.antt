@@ -10,7 +10,7 @@ use lib.Seq.{take-suc, getD-drop}
 use Rattle.theory.specs.PathExpr.{Via, Op, PathExpr, join, op, closure, s-join, postfix, codes, code, op-code, size}
 use Rattle.theory.proofs.Lists.{sets-append}
 use Rattle.theory.specs.Sorting.{set-of}
-use Rattle.fields.proofs.Numbers.{length-postfix}
+use Rattle.symbols.proofs.Numbers.{length-postfix}
 use Rattle.nodes.specs.Expansion.{Wrote, Expanded}
 
 -- ---- one after the other

@@ -7,7 +7,7 @@ use Rattle.fields.specs.Case.{Case, case, AllRead}
 use Rattle.fields.specs.Answer.{got, refused}
 use Rattle.fields.specs.Table.{among, rows}
 use Rattle.fields.specs.Reading.{eight, read, walk, field-at, fitting}
-use Rattle.fields.specs.Symbols.{step-of, operator-of, symbol-in, arity, push}
+use Rattle.symbols.specs.Symbols.{step-of, operator-of, symbol-in, arity, push}
 use Rattle.question.specs.Form.{question-form, head-of}
 
 -- the fields, before what comes after them

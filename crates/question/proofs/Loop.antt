@@ -9,16 +9,17 @@ use lib.Dec.{leb}
 use native.Mathlib.Omega.{arith}
 use borrow.Author.Tests.{leb-true}
 use Rattle.fields.specs.declared.File.the-variants as file
-use Rattle.fields.specs.declared.Stack.{Stack}
+use Rattle.symbols.specs.declared.Stack.{Stack}
 use Rattle.fields.specs.Answer.{got, refused, onward}
 use Rattle.fields.specs.Table.{rows, tag-length}
 use Rattle.fields.specs.Reading.{ends, wrong, body, field-at, read}
-use Rattle.fields.specs.Symbols.{symbol-in, push, arity}
+use Rattle.symbols.specs.Symbols.{symbol-in, push, arity}
 use Rattle.fields.proofs.Bools.{onward-got, refused-too, not-refused, cond-then, not-got, and-right}
-use Rattle.fields.proofs.Fields.{found, body-length, one-due, ended, in-path}
+use Rattle.fields.proofs.Fields.{found, body-length, one-due, ended}
+use Rattle.symbols.proofs.InPath.{in-path}
 use Rattle.fields.proofs.Going.{Going, going-start, going-ends, going-wrong, going-refused, going-more}
 use Rattle.fields.specs.Padded.{padded}
-use Rattle.fields.proofs.Symbols.{push-got}
+use Rattle.symbols.proofs.Symbols.{push-got}
 use Rattle.fields.proofs.Padded.{pad-set}
 use Rattle.question.specs.declared.Standing.{Standing}
 use Rattle.question.specs.declared.Standing.the-variants.{Head, Within}

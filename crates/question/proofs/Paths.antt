@@ -15,18 +15,19 @@ use Rattle.theory.specs.Postfix.{single-path, path-of}
 use Rattle.theory.proofs.Tests.{and-both}
 use Rattle.theory.proofs.Postfix.{postfix-path-of}
 use Rattle.fields.specs.declared.File.the-variants as file
-use Rattle.fields.specs.declared.Stack.{Stack}
+use Rattle.symbols.specs.declared.Stack.{Stack}
 use Rattle.fields.specs.Answer.{got}
 use Rattle.fields.specs.Table.{rows, among, tag-length}
 use Rattle.fields.specs.Reading.{ends, body, field-at, fitting, read}
-use Rattle.fields.specs.Symbols.{Numbered, numbered, symbol-in, symbol-numbered, number-symbol, arity, push, due-symbols, Runs}
+use Rattle.symbols.specs.Symbols.{Numbered, numbered, symbol-in, symbol-numbered, number-symbol, arity, push, due-symbols, Runs}
 use Rattle.fields.proofs.Bools.{onward-got, cond-then, not-got, and-left, and-right}
 use Rattle.fields.proofs.Rows.{own-length}
-use Rattle.fields.proofs.Fields.{found, ended, in-path}
+use Rattle.fields.proofs.Fields.{found, ended}
+use Rattle.symbols.proofs.InPath.{in-path}
 use Rattle.fields.proofs.Accepted.{accepted-ind}
-use Rattle.fields.proofs.Symbols.{symbol-plain, push-got, push-anywhere}
-use Rattle.fields.proofs.Numbers.{Held, symbol-of, symbol-comes, code-number, length-postfix}
-use Rattle.fields.proofs.Counting.{runs-read}
+use Rattle.symbols.proofs.Symbols.{symbol-plain, push-got, push-anywhere}
+use Rattle.symbols.proofs.Numbers.{Held, symbol-of, symbol-comes, code-number, length-postfix}
+use Rattle.symbols.proofs.Counting.{runs-read}
 use Rattle.question.specs.Form.{State, head, within, question-form, due, judge, head-of, fresh, one-more, question-symbols}
 
 -- field 45 is not a question's

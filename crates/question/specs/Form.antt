@@ -9,10 +9,10 @@ use lib.ListN.{getD}
 use Rattle.theory.specs.PathExpr.{Symbol}
 use Rattle.fields.specs.declared.File.the-variants as file
 use Rattle.fields.specs.declared.Due.{Due}
-use Rattle.fields.specs.declared.Stack.{Stack}
+use Rattle.symbols.specs.declared.Stack.{Stack}
 use Rattle.fields.specs.Answer.{Answer, got, refused, onward}
 use Rattle.fields.specs.Reading.{Form}
-use Rattle.fields.specs.Symbols.{Numbered, symbol-numbered, symbol-in, arity, push, due-symbols}
+use Rattle.symbols.specs.Symbols.{Numbered, symbol-numbered, symbol-in, arity, push, due-symbols}
 
 -- the head is due; or a path is being read, with the codes of its symbols so far
 pub data State : Type 0 where

@@ -6,11 +6,11 @@ use Prim.Native.Nat.{ℕ, _<_}
 use lib.ListN.{length, replicate}
 use Rattle.fields.specs.declared.Due.{Due}
 use Rattle.fields.specs.declared.File.the-variants as file
-use Rattle.fields.specs.declared.Stack.{Stack}
+use Rattle.symbols.specs.declared.Stack.{Stack}
 use Rattle.fields.specs.Answer.{Answer, got, refused, onward}
 use Rattle.fields.specs.Padded.{padded}
 use Rattle.fields.specs.Said.{refusal-said}
-use Rattle.fields.specs.Symbols.{symbol-in, symbol-length, arity, push, due-symbols}
+use Rattle.symbols.specs.Symbols.{symbol-in, symbol-length, arity, push, due-symbols}
 use Rattle.question.specs.declared.Outcome.{Outcome}
 use Rattle.question.specs.declared.Outcome.the-variants as outcome
 use Rattle.question.specs.declared.Standing.{Standing}

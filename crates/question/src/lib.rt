@@ -1,11 +1,11 @@
 // Reads a question's file: the codes of its symbols, by value.
 use fields::Due;
 use fields::File;
-use fields::Pushed;
-use fields::Read;
 use fields::Refusal;
 use fields::Seen;
-use fields::Stack;
+use symbols::Pushed;
+use symbols::Read;
+use symbols::Stack;
 ghost use mathlib.Core.Path.{_≡_};
 ghost use lib.ListN.{length, replicate};
 ghost use Rattle.fields.specs.Reading.{read as read-file};
@@ -47,7 +47,7 @@ fn due(st: Standing) -> Due
             ends: false,
             over: false,
         },
-        Standing::Within(q) => fields::symbols_due(File::Question, q),
+        Standing::Within(q) => symbols::symbols_due(File::Question, q),
     }
 }
 
@@ -72,11 +72,11 @@ fn grow(q: Stack, at: usize, next: usize, tag: u8, b: &[u8]) -> Turn
     requires { ⌜ Ready (Standing.Within q) tag (length (now b)) ⌝ }
     ensures { λ r. ⌜ turn-said r ≡ judged (Standing.Within q) at next tag (now (b .entry)) ⌝ }
 {
-    match fields::symbol_in(at, tag, b) {
+    match symbols::symbol_in(at, tag, b) {
         Read::Refused(r) => Turn::Stop(r),
         Read::Is(x) => {
             let c = x.number;
-            match fields::push_symbol(q, at, next, fields::operands(c)) {
+            match symbols::push_symbol(q, at, next, symbols::operands(c)) {
                 Pushed::Refused(r) => Turn::Stop(r),
                 Pushed::Stands(t) => Turn::More(c, t),
             }

@@ -12,7 +12,7 @@ use Rattle.theory.specs.Inference.{Triple, triple?, of-join}
 use Rattle.theory.specs.Growth.{no-triple, grown}
 use Rattle.theory.specs.Narrowing.{short?}
 use Rattle.theory.proofs.Lists.{tabulate-at}
-use Rattle.fields.specs.Symbols.{symbol-numbered}
+use Rattle.symbols.specs.Symbols.{symbol-numbered}
 use Rattle.nodes.specs.declared.Node.{Node}
 use Rattle.nodes.specs.Table.{Loaded}
 use Rattle.nodes.specs.Paths.{triple-of}

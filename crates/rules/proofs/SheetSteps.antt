@@ -12,7 +12,7 @@ use Rattle.theory.specs.Inference.{Triple, triple, between, stepped?, of-step}
 use Rattle.theory.specs.Sheet.{Sheet, sheet?}
 use Rattle.theory.proofs.Lists.{in-range}
 use Rattle.theory.proofs.Sheet.{kinds-fit}
-use Rattle.fields.specs.Symbols.{symbol-numbered}
+use Rattle.symbols.specs.Symbols.{symbol-numbered}
 use Rattle.sheet.specs.Table.{tabled?, table-of}
 use Rattle.sheet.proofs.Tables.{table-permits}
 use Rattle.rules.specs.Marks.{direction-of, link-of, step-of, marked?, of-marks, Tabled}

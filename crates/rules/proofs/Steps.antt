@@ -16,7 +16,7 @@ use Rattle.theory.specs.Narrowing.{short?}
 use Rattle.theory.proofs.Tests.{to-true}
 use Rattle.theory.proofs.Lists.{in-every}
 use Rattle.theory.proofs.Triples.{in-between}
-use Rattle.fields.specs.Symbols.{symbol-numbered}
+use Rattle.symbols.specs.Symbols.{symbol-numbered}
 use Rattle.rows.proofs.Words.{le-or-lt}
 use Rattle.nodes.specs.declared.Node.{Node}
 use Rattle.nodes.specs.Table.{word-of, InRange, node-at}

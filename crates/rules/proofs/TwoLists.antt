@@ -10,7 +10,7 @@ use borrow.Author.Tests.{ne-eqb}
 use Rattle.theory.specs.Lists.{guard, concat-map}
 use Rattle.theory.specs.PathExpr.{Via, Op, union, Symbol, s-join, s-op, size}
 use Rattle.theory.specs.Inference.{Triple, of-join, of-op, pairs, joined, conjoined, branched-right, branched-left}
-use Rattle.fields.specs.Symbols.{symbol-numbered}
+use Rattle.symbols.specs.Symbols.{symbol-numbered}
 use Rattle.nodes.specs.declared.Node.{Node}
 use Rattle.nodes.specs.Paths.{of-node}
 use Rattle.rules.specs.Two.{of-symbol, of-two, Paired, fitting, giving, ends-of, pair-node}

@@ -10,11 +10,11 @@ use lib.Dec.{leb, ltb, eqb}
 use native.Mathlib.Omega.{arith}
 use borrow.Author.Tests.{leb-true, lt-leb, le-leb}
 use Rattle.theory.specs.PathExpr.{before?}
-use Rattle.fields.specs.declared.Stack.{Stack}
+use Rattle.symbols.specs.declared.Stack.{Stack}
 use Rattle.fields.specs.Answer.{Answer, got, refused, onward}
-use Rattle.fields.specs.Symbols.{Numbered, arity, order-code, symbols-given}
+use Rattle.symbols.specs.Symbols.{Numbered, arity, order-code, symbols-given}
 use Rattle.fields.proofs.Bools.{cond-then, not-got, onward-got, and-right}
-use Rattle.fields.proofs.Symbols.{push-got}
+use Rattle.symbols.proofs.Symbols.{push-got}
 use Rattle.narrowed.specs.declared.Members.{Members}
 use Rattle.narrowed.specs.Form.{order-codes, numbers}
 use Rattle.narrowed.specs.Given.{members-given, given}

@@ -10,10 +10,10 @@ use native.Mathlib.Omega.{arith}
 use borrow.Author.Tests.{leb-true, eqb-true, ltb-true, ltb-false, lt-ltb, le-ltb, le-leb, lt-leb, eq-eqb, ne-eqb}
 use Rattle.theory.specs.PathExpr.{before?}
 use Rattle.fields.specs.declared.File.the-variants as file
-use Rattle.fields.specs.declared.Stack.{Stack}
+use Rattle.symbols.specs.declared.Stack.{Stack}
 use Rattle.fields.specs.Answer.{Answer, got, refused, onward}
 use Rattle.fields.specs.Reading.{read}
-use Rattle.fields.specs.Symbols.{Numbered, numbered, operator-of, symbol-in, arity, push, due-symbols, symbols-given}
+use Rattle.symbols.specs.Symbols.{Numbered, numbered, operator-of, symbol-in, arity, push, due-symbols, symbols-given}
 use Rattle.fields.proofs.Bools.{and-left}
 use Rattle.fields.proofs.Going.{Going, going-start, going-ends, going-more, going-refused}
 use Rattle.narrowed.specs.declared.Members.{Members}

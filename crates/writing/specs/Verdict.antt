@@ -7,10 +7,10 @@ use Prim.Native.Nat.{ℕ, _+_}
 use lib.Dec.{leb, ltb, eqb}
 use lib.ListN.{length}
 use Rattle.theory.specs.PathExpr.{before?}
-use Rattle.fields.specs.declared.Stack.{Stack}
+use Rattle.symbols.specs.declared.Stack.{Stack}
 use Rattle.fields.specs.Answer.{Answer, got, refused, onward}
 use Rattle.fields.specs.Said.{refusal-said}
-use Rattle.fields.specs.Symbols.{arity, push}
+use Rattle.symbols.specs.Symbols.{arity, push}
 use Rattle.narrowed.specs.Form.{Flat, order-codes, numbers}
 use Rattle.writing.specs.declared.Place.{Place}
 use Rattle.bytes.specs.Size.{symbol-size}

@@ -1,12 +1,12 @@
 // Writes a narrowed question's file: the members that it is given are judged as the file they would make.
-use fields::Pushed;
 use fields::Refusal;
-use fields::Stack;
 use narrowed::Members;
+use symbols::Pushed;
+use symbols::Stack;
 ghost use mathlib.Core.Path.{_≡_};
 ghost use Prim.Native.Nat.{_+_, _*_, _≤_, _<_};
 ghost use lib.ListN.{length, take, drop};
-ghost use Rattle.fields.specs.Said.{push-said};
+ghost use Rattle.symbols.specs.Said.{push-said};
 ghost use Rattle.narrowed.specs.Given.{given};
 ghost use Rattle.writing.specs.Outcome.{Writes};
 ghost use Rattle.writing.specs.Verdict.{symbol?, offered, path-verdict, member-verdict, verdict, place-said};
@@ -33,11 +33,11 @@ fn offer(q: Stack, at: usize, number: u8) -> Pushed
     ensures { λ r. ⌜ push-said r ≡ offered q at number ⌝ }
 {
     if known(number) {
-        return fields::push_symbol(
+        return symbols::push_symbol(
             q,
             at,
             at + bytes::symbol_size(number),
-            fields::operands(number),
+            symbols::operands(number),
         );
     }
     Pushed::Refused(Refusal::OutOfRange(at))

@@ -4,10 +4,10 @@ use Rattle.evaluation.proofs.Applying.{fits-operator}
 use mathlib.Core.Path.{sym, _∙_}
 use Prim.Native.Nat.{_-_}
 use Rattle.evaluation.proofs.Applying.{fits-step, fits-one, fits-two, applied-step, applied-closure, applied-binary}
-use Rattle.fields.proofs.Numbers.{forward-number, reverse-number}
+use Rattle.symbols.proofs.Numbers.{forward-number, reverse-number}
 use Rattle.evaluation.proofs.Numbers.{closure-number, binary-number}
 use Rattle.evaluation.proofs.Grounds.{small, rows-hold, narrow}
-use Rattle.fields.specs.Symbols.{symbol-numbered}
+use Rattle.symbols.specs.Symbols.{symbol-numbered}
 use Rattle.theory.specs.PathExpr.{forward, reverse}
 use native.Mathlib.Omega.{arith}
 use borrow.Author.Needs.{needs}

@@ -1,7 +1,7 @@
 -- `evaluation::combine` meets its contract.
 -- Assumes nothing.
 use Rattle.evaluation.proofs.Joins.{by-join, by-op}
-use Rattle.fields.proofs.Numbers.{join-number, union-number, conjunction-number, right-number, left-number, through-number}
+use Rattle.symbols.proofs.Numbers.{join-number, union-number, conjunction-number, right-number, left-number, through-number}
 use Rattle.evaluation.proofs.Numbers.{last-number}
 use Rattle.evaluation.proofs.Grounds.{rows-hold, narrow}
 use Rattle.theory.specs.PathExpr.{any, through, union, conjunction, branch-right, branch-left}

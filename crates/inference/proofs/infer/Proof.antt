@@ -7,7 +7,7 @@ use Rattle.inference.proofs.infer.Statement.{statement}
 use Rattle.inference.proofs.infer.Tie as tie
 use Rattle.inference.proofs.infer.Reads as reads
 use Rattle.inference.proofs.infer.Lts as lts
-use Rattle.fields.proofs.operands.Reads as operands-reads
+use Rattle.symbols.proofs.operands.Reads as operands-reads
 use Rattle.inference.proofs.origin.Reads as origin-reads
 use Rattle.inference.proofs.rule.Reads as rule-reads
 use Rattle.inference.specs.Questions.{Asking}

@@ -1,7 +1,7 @@
 -- `narrowed::code` meets its contract.
 -- Assumes nothing.
 use borrow.Author.Tests.{eq-eqb, ne-eqb}
-use Rattle.fields.specs.Symbols.{order-code}
+use Rattle.symbols.specs.Symbols.{order-code}
 use Rattle.narrowed.proofs.code.Statement.{statement}
 use Rattle.narrowed.proofs.code.Tie as tie
 

@@ -1,7 +1,7 @@
 -- `writing::judge_path` meets its contract.
 -- Assumes nothing.
 use mathlib.Core.Path.{_∙_, ap, sym}
-use Rattle.fields.specs.Said.{push-said}
+use Rattle.symbols.specs.Said.{push-said}
 use lib.ListN.{length}
 use Rattle.writing.proofs.Judging.{AtSymbol, path-start, path-ends, path-refused, path-more}
 use borrow.Author.Needs.{needs}

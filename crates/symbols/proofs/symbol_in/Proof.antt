@@ -1,12 +1,12 @@
--- `fields::symbol_in` meets its contract.
+-- `symbols::symbol_in` meets its contract.
 -- Assumes nothing.
 use native.Mathlib.Omega.{arith}
 use borrow.Author.Tests.{eq-eqb, ne-eqb}
 use mathlib.Core.Path.{_∙_, ap}
 use Rattle.fields.specs.Answer.{got}
-use Rattle.fields.specs.Symbols.{symbol-in, numbered}
-use Rattle.fields.proofs.symbol_in.Statement.{statement}
-use Rattle.fields.proofs.symbol_in.Tie as tie
+use Rattle.symbols.specs.Symbols.{symbol-in, numbered}
+use Rattle.symbols.proofs.symbol_in.Statement.{statement}
+use Rattle.symbols.proofs.symbol_in.Tie as tie
 
 step-in-requires : tie.Need-step-in-requires
 step-in-requires c κs = c .before .before .pre ∙ simp (eq-eqb _ _ (c .if1 .taken))

@@ -1,10 +1,10 @@
--- `fields::operator_in` meets its contract.
+-- `symbols::operator_in` meets its contract.
 -- Assumes nothing.
 use borrow.Author.Needs.{needs}
 use borrow.Author.Tests.{le-leb, lt-leb}
-use Rattle.fields.specs.Symbols.{operator-of}
-use Rattle.fields.proofs.operator_in.Statement.{statement}
-use Rattle.fields.proofs.operator_in.Tie as tie
+use Rattle.symbols.specs.Symbols.{operator-of}
+use Rattle.symbols.proofs.operator_in.Statement.{statement}
+use Rattle.symbols.proofs.operator_in.Tie as tie
 
 shared-slice-read-if1 : tie.Need-shared-slice-read-if1
 shared-slice-read-if1 c = search needs

@@ -8,11 +8,11 @@ use native.Mathlib.Omega.{arith}
 use lib.Dec.{ltb, leb, eqb}
 use lib.ListN.{getD}
 use borrow.Author.Tests.{ltb-true, leb-true, eqb-false}
-use Rattle.fields.specs.declared.Stack.{Stack}
+use Rattle.symbols.specs.declared.Stack.{Stack}
 use Rattle.fields.specs.Answer.{got}
 use Rattle.fields.specs.Reading.{eight}
-use Rattle.fields.specs.Symbols.{Numbered, numbered, step-of, operator-of, symbol-in, push, Plain}
+use Rattle.symbols.specs.Symbols.{Numbered, numbered, step-of, operator-of, symbol-in, push, Plain}
 use Rattle.fields.proofs.Bools.{cond-else, cond-then, and-left, and-right, not-got}
 
 step-plain : (at : ℕ) (b : List ℕ) (x : Numbered) → step-of at b ≡ got x → Plain x
 unfolding step-of

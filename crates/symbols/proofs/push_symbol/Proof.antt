@@ -1,11 +1,11 @@
--- `fields::push_symbol` meets its contract.
+-- `symbols::push_symbol` meets its contract.
 -- Assumes nothing.
 use borrow.Author.Needs.{needs}
 use mathlib.Core.Logic.{⊎-elim}
 use borrow.Author.Tests.{lt-ltb, le-ltb, eq-eqb, ne-eqb}
-use Rattle.fields.specs.Symbols.{push}
-use Rattle.fields.proofs.push_symbol.Statement.{statement}
-use Rattle.fields.proofs.push_symbol.Tie as tie
+use Rattle.symbols.specs.Symbols.{push}
+use Rattle.symbols.proofs.push_symbol.Statement.{statement}
+use Rattle.symbols.proofs.push_symbol.Tie as tie
 
 returns : tie.Need-returns
 unfolding push

@@ -1,10 +1,10 @@
--- `fields::step_in` meets its contract.
+-- `symbols::step_in` meets its contract.
 -- Assumes nothing.
-use Rattle.fields.specs.Symbols.{step-of}
+use Rattle.symbols.specs.Symbols.{step-of}
 use borrow.Author.Tests.{lt-ltb, le-ltb}
 use borrow.Author.Needs.{needs}
-use Rattle.fields.proofs.step_in.Statement.{statement}
-use Rattle.fields.proofs.step_in.Tie as tie
+use Rattle.symbols.proofs.step_in.Statement.{statement}
+use Rattle.symbols.proofs.step_in.Tie as tie
 
 shared-slice-read-if1 : tie.Need-shared-slice-read-if1
 shared-slice-read-if1 c = search needs

@@ -13,14 +13,14 @@ use borrow.Author.Tests.{le-ltb, eq-eqb, ne-eqb, ltb-false, eqb-true}
 use Rattle.theory.specs.PathExpr.{PathExpr, step, join, op, closure, Symbol, s-step, s-join, s-op, s-closure}
 use Rattle.theory.specs.Postfix.{push as push-path, go-on, read as read-paths}
 use Rattle.theory.proofs.Postfix.{none-some}
-use Rattle.fields.specs.declared.Stack.{Stack}
+use Rattle.symbols.specs.declared.Stack.{Stack}
 use Rattle.fields.specs.Answer.{got}
-use Rattle.fields.specs.Symbols.{Numbered, arity, push}
+use Rattle.symbols.specs.Symbols.{Numbered, arity, push}
 use Rattle.fields.proofs.Bools.{cond-else, not-got}
-use Rattle.fields.proofs.Symbols.{push-got}
-use Rattle.fields.specs.Symbols.{Runs}
-use Rattle.fields.specs.Symbols.{number-symbol}
-use Rattle.fields.proofs.Numbers.{operands, AllHeld, number-of, symbol-of, symbol-comes}
+use Rattle.symbols.proofs.Symbols.{push-got}
+use Rattle.symbols.specs.Symbols.{Runs}
+use Rattle.symbols.specs.Symbols.{number-symbol}
+use Rattle.symbols.proofs.Numbers.{operands, AllHeld, number-of, symbol-of, symbol-comes}
 
 -- ---- theory's stack: a symbol lacks an operand, or takes its operands and leaves one path
 record Pushed (s : Symbol) (st : List PathExpr) : Type 0 where

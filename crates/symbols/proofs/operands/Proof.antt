@@ -1,9 +1,9 @@
--- `fields::operands` meets its contract.
+-- `symbols::operands` meets its contract.
 -- Assumes nothing.
-use Rattle.fields.specs.Symbols.{arity}
+use Rattle.symbols.specs.Symbols.{arity}
 use borrow.Author.Tests.{lt-ltb, le-ltb, eq-eqb, ne-eqb}
-use Rattle.fields.proofs.operands.Statement.{statement}
-use Rattle.fields.proofs.operands.Tie as tie
+use Rattle.symbols.proofs.operands.Statement.{statement}
+use Rattle.symbols.proofs.operands.Tie as tie
 
 returns : tie.Need-returns
 unfolding arity

@@ -13,9 +13,9 @@ use Rattle.theory.specs.KindSet.{is-set}
 use Rattle.theory.specs.PathExpr.{forward, reverse, any, through, union, conjunction, branch-right, branch-left, PathExpr, step, join, op, closure, Symbol, s-step, s-join, s-op, s-closure, postfix, size, code, links?}
 use Rattle.theory.specs.Narrowing.{via-fits, sets-fit}
 use Rattle.theory.proofs.Tests.{tests}
-use Rattle.fields.specs.Symbols.{Numbered, numbered, order-code, arity, operator-numbered, symbol-numbered}
-use Rattle.fields.specs.Symbols.{Fine}
-use Rattle.fields.specs.Symbols.{number-symbol}
+use Rattle.symbols.specs.Symbols.{Numbered, numbered, order-code, arity, operator-numbered, symbol-numbered}
+use Rattle.symbols.specs.Symbols.{Fine}
+use Rattle.symbols.specs.Symbols.{number-symbol}
 
 -- a file can hold the symbol
 abbrev pub Held : Symbol → Type 0

@@ -1,0 +1,127 @@
+// The symbols of a path: what a symbol's field holds, and the counting of operands.
+use fields::Due;
+use fields::File;
+use fields::Refusal;
+ghost use mathlib.Core.Path.{_≡_};
+ghost use Prim.Native.Nat.{_<_};
+ghost use lib.ListN.{length};
+ghost use Rattle.symbols.specs.Symbols.{symbol-length, step-of, operator-of, symbol-in, push, arity, due-symbols};
+ghost use Rattle.symbols.specs.Said.{symbol-said, push-said};
+
+// A symbol as a number: its code, and 255 for a join through a set; and the set, 0 where there is none.
+pub struct Symbol {
+    pub number: u8,
+    pub set: u64,
+}
+
+pub enum Read {
+    Refused(Refusal),
+    Is(Symbol),
+}
+
+fn step_in(at: usize, b: &[u8]) -> Read
+    requires { ⌜ length (now b) ≡ 2 ⌝ }
+    ensures { λ r. ⌜ symbol-said r ≡ step-of at (now (b .entry)) ⌝ }
+{
+    if b[0] < 2 {
+        if b[1] < 64 {
+            return Read::Is(Symbol {
+                number: b[0] * 64 + b[1],
+                set: 0,
+            });
+        }
+        return Read::Refused(Refusal::OutOfRange(at));
+    }
+    Read::Refused(Refusal::OutOfRange(at))
+}
+
+fn operator_in(at: usize, b: &[u8]) -> Read
+    requires { ⌜ length (now b) ≡ 1 ⌝ }
+    ensures { λ r. ⌜ symbol-said r ≡ operator-of at (now (b .entry)) ⌝ }
+{
+    if 128 <= b[0] {
+        if b[0] <= 133 {
+            return Read::Is(Symbol {
+                number: b[0],
+                set: 0,
+            });
+        }
+        return Read::Refused(Refusal::OutOfRange(at));
+    }
+    Read::Refused(Refusal::OutOfRange(at))
+}
+
+// The symbol in a field's body, by its tag; refusal 3.
+pub fn symbol_in(at: usize, tag: u8, b: &[u8]) -> Read
+    requires { ⌜ length (now b) ≡ symbol-length tag ⌝ }
+    ensures { λ r. ⌜ symbol-said r ≡ symbol-in at tag (now (b .entry)) ⌝ }
+{
+    if tag == 0x43 {
+        return step_in(at, b);
+    }
+    if tag == 0x44 {
+        return operator_in(at, b);
+    }
+    Read::Is(Symbol {
+        number: 255,
+        set: fields::eight_at(b, 0),
+    })
+}
+
+// How many paths a symbol takes.
+pub fn operands(number: u8) -> u8
+    ensures { λ r. ⌜ r ≡ arity number ⌝ }
+{
+    if number < 128 {
+        return 0;
+    }
+    if number == 133 {
+        return 1;
+    }
+    2
+}
+
+// A path being read: the symbols still due, and the paths that stand on the stack.
+pub struct Stack {
+    pub left: u8,
+    pub depth: u8,
+}
+
+pub enum Pushed {
+    Refused(Refusal),
+    Stands(Stack),
+}
+
+// One symbol more, that takes k paths; its field is at a place, with the place after it: refusal 6.
+pub fn push_symbol(q: Stack, at: usize, next: usize, k: u8) -> Pushed
+    requires { ⌜ (0 < q .left) × (q .depth < 255) ⌝ }
+    ensures { λ r. ⌜ push-said r ≡ push q at next k ⌝ }
+{
+    if q.depth < k {
+        return Pushed::Refused(Refusal::Operands(at));
+    }
+    let depth = q.depth - k + 1;
+    if q.left == 1 {
+        if depth != 1 {
+            return Pushed::Refused(Refusal::Operands(next));
+        }
+    }
+    Pushed::Stands(Stack {
+        left: q.left - 1,
+        depth,
+    })
+}
+
+// What is due within a path: its symbols, and nothing after them.
+pub fn symbols_due(file: File, q: Stack) -> Due
+    ensures { λ r. ⌜ r ≡ due-symbols file q ⌝ }
+{
+    let over = q.left == 0;
+    Due {
+        file,
+        lo: 0x43,
+        hi: 0x45,
+        ends: over,
+        over,
+    }
+}

@@ -252,12 +252,12 @@ fn look(s: &[u8], st: Standing, at: usize) -> Turn
     requires { ⌜ Able st × (at ≤ length (now s)) ⌝ }
     ensures { λ r. ⌜ turn-said r ≡ turned st at (now (s .entry)) ⌝ }
 {
-    match fields::field(s, at, due(st)) {
+    match reader::field(s, at, due(st)) {
         Seen::Ends => Turn::Ends,
         Seen::Wrong(r) => Turn::Stop(r),
         Seen::Body(tag, len) => {
             let next = at + 3 + len as usize;
-            judge(st, at, next, tag, fields::body_at(s, at))
+            judge(st, at, next, tag, reader::body_at(s, at))
         }
     }
 }

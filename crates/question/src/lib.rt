@@ -111,7 +111,7 @@ pub fn read(s: &[u8]) -> Question
     let mut at = 0;
     let mut count = 0;
     loop {
-        match fields::field(s, at, due(st)) {
+        match reader::field(s, at, due(st)) {
             Seen::Ends => {
                 let outcome = Outcome::Accepted(count);
                 return Question { outcome, codes };
@@ -121,7 +121,7 @@ pub fn read(s: &[u8]) -> Question
             }
             Seen::Body(tag, len) => {
                 let next = at + 3 + len as usize;
-                match judge(st, at, next, tag, fields::body_at(s, at)) {
+                match judge(st, at, next, tag, reader::body_at(s, at)) {
                     Turn::Stop(r) => {
                         return refused(r);
                     }

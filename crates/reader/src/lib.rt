@@ -3,7 +3,6 @@
 use fields::Due;
 use fields::Seen;
 ghost use mathlib.Core.Path.{_≡_};
-ghost use Prim.Native.Nat.{_+_, _<_, _^_};
 ghost use Rattle.fields.specs.Reading.{field-at};
 ghost use Rattle.fields.specs.Raw.{body-in};
 ghost use Rattle.fields.specs.Said.{field-said};
@@ -14,11 +13,11 @@ pub struct Reader<'a> {
     pub at: usize,
 }
 
-// At the file's first field.
-pub fn new<'a>(src: &'a [u8]) -> Reader<'a>
-    ensures { λ r. ⌜ (r .src ≡ src .entry) × (r .at ≡ 0) ⌝ }
+// At a place of the file.
+pub fn new<'a>(src: &'a [u8], at: usize) -> Reader<'a>
+    ensures { λ r. ⌜ (r .src ≡ src .entry) × (r .at ≡ at) ⌝ }
 {
-    Reader { src, at: 0 }
+    Reader { src, at }
 }
 
 // What the field at the cursor is to the reader.
@@ -35,13 +34,16 @@ pub fn body<'a>(r: Reader<'a>) -> &'a [u8]
     fields::body_at(r.src, r.at)
 }
 
-// Past the field at the cursor, whose body has this length.
-pub fn past<'a>(r: Reader<'a>, len: u16) -> Reader<'a>
-    requires { ⌜ r .at + 3 + len < 2 ^ 64 ⌝ }
-    ensures { λ q. ⌜ (q .src ≡ r .entry .src) × (q .at ≡ r .entry .at + 3 + len) ⌝ }
+// The field at a place of a file, for callers that hold no reader.
+pub fn field(s: &[u8], at: usize, due: Due) -> Seen
+    ensures { λ r. ⌜ field-said r ≡ field-at due (now (s .entry)) at ⌝ }
 {
-    Reader {
-        src: r.src,
-        at: r.at + 3 + len as usize,
-    }
+    next(new(s, at), due)
+}
+
+// The body of the field at a place of a file, as that part of it; an empty part where there is no whole field.
+pub fn body_at(s: &[u8], at: usize) -> &[u8]
+    ensures { λ r. ⌜ now r ≡ body-in (now (s .entry)) at ⌝ }
+{
+    body(new(s, at))
 }

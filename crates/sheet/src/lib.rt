@@ -189,7 +189,7 @@ pub fn read(s: &[u8]) -> Reading
     let mut st = Standing::Head;
     let mut at = 0;
     loop {
-        match fields::field(s, at, due(st)) {
+        match reader::field(s, at, due(st)) {
             Seen::Ends => {
                 let outcome = accepted(st);
                 return Reading { outcome, table };
@@ -199,7 +199,7 @@ pub fn read(s: &[u8]) -> Reading
             }
             Seen::Body(_, len) => {
                 let next = at + 3 + len as usize;
-                match judge(st, at, fields::body_at(s, at)) {
+                match judge(st, at, reader::body_at(s, at)) {
                     Turn::Stop(r) => {
                         return refused(r);
                     }

@@ -1,11 +1,11 @@
--- Files with what reading them yields, computed: the sheet of the cases and the edges of a sheet.
--- 01-scope.md, "Sheet and register of the cases", and refusals 1 to 5.
+-- Files with what reading them yields, computed: a sheet, and the edges of one.
+-- 01-scope.md, refusals 1 to 5.
 -- Assumes nothing.
 use mathlib.Core.Path.{refl}
 use mathlib.Core.List.{List, [], _∷_, _++_}
 use Prim.Native.Nat.{ℕ}
 use Rattle.theory.specs.Sheet.{Sheet}
-use Rattle.theory.specs.Cases.{sheet}
+use Rattle.theory.specs.Register.{edge}
 use Rattle.fields.specs.Answer.{got, refused}
 use Rattle.fields.specs.Case.{Case, case, AllRead}
 use Rattle.fields.specs.Reading.{read, walk, field-at, fitting}
@@ -20,7 +20,7 @@ triple a l b = 0x12 ∷ 0 ∷ 3 ∷ a ∷ l ∷ b ∷ []
 
 abbrev pub cases : List (Case Sheet)
 cases =
-    case (head 6 5 ++ triple 0 0 1 ++ triple 0 3 3 ++ triple 0 4 4 ++ triple 1 1 2 ++ triple 1 3 3 ++ triple 2 2 2 ++ triple 4 4 5) (got sheet)
+    case (head 6 5 ++ triple 0 0 1 ++ triple 0 3 3) (got (record { kinds = 6; link-names = 5; permitted = edge 0 0 1 ∷ edge 0 3 3 ∷ [] }))
     -- the edges of the ranges
     ∷ case (head 64 64) (got (record { kinds = 64; link-names = 64; permitted = [] }))
     ∷ case (head 65 5) (refused 3 0)
@@ -38,5 +38,5 @@ cases =
     ∷ []
 
 pub all-read : AllRead sheet-form cases
-unfolding sheet read walk field-at fitting among rows head-of next
+unfolding read walk field-at fitting among rows head-of next
 all-read = refl

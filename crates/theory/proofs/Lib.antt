@@ -38,4 +38,3 @@ pub mod Members
 pub mod Words
 pub mod Demand3
 pub mod Answers
-pub mod Starred

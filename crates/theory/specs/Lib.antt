@@ -17,6 +17,5 @@ pub mod Sorting
 pub mod Narrowing
 pub mod Evaluation
 pub mod Words
--- what is promised, and the cases
+-- what is promised
 pub mod Demand3
-pub mod Cases

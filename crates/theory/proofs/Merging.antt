@@ -37,12 +37,12 @@ module _ (r : Register) where
   via-left : (v w : Via) (z : ℕ) → passes r v z → passes r (merge-via v w) z
   via-left any w z h = tt
   via-left (through a) any z h = tt
-  via-left (through a) (through b) z h = has-union-left a b _ h
+  via-left (through a) (through b) z h = search (has-union-left, has-union-right)
 
   via-right : (v w : Via) (z : ℕ) → passes r w z → passes r (merge-via v w) z
   via-right any w z h = tt
   via-right (through a) any z h = tt
-  via-right (through a) (through b) z h = has-union-right a b _ h
+  via-right (through a) (through b) z h = search (has-union-left, has-union-right)
 
   abbrev Within : PathExpr → PathExpr → Type 0
   Within p q = (s t : ℕ) → Holds r p s t → Holds r q s t

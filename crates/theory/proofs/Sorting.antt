@@ -199,7 +199,7 @@ via-assoc : (u v w : Via) → merge-via (merge-via u v) w ≡ merge-via u (merge
 via-assoc any v w = refl
 via-assoc (through a) any w = refl
 via-assoc (through a) (through b) any = refl
-via-assoc (through a) (through b) (through c) = ap through (union-assoc a b c)
+via-assoc (through a) (through b) (through c) = ap through (simp union-assoc)
 
 pub merge-assoc : (p q r : PathExpr) → erase p ≡ erase q → erase q ≡ erase r → merge (merge p q) r ≡ merge p (merge q r)
 merge-assoc (step d l) q r e f = refl

@@ -108,8 +108,8 @@ module _ (s : List ℕ) where
   body-edge : (at n : ℕ) → n ≡ 5 → edge-at s at ≡ edge-of (take n (drop (at + 3) s))
   body-edge at n hn =
       let a = body-word at n 0 (at + 3) (omega arith) (omega arith) in
-      let b = body-get s (at + 3) n 2 (at + 5) (omega arith) (omega arith) in
-      let c = body-word at n 3 (at + 6) (omega arith) (omega arith) in
+      let b = body-get s (at + 3) n 2 (at + 3 + 2) (omega arith) (omega arith) in
+      let c = body-word at n 3 (at + 3 + 3) (omega arith) (omega arith) in
       sym (λ i. record { from = a i; label = b i; to = c i })
 
   after-33 : (q q′ : Progress) (ks : List ℕ) (es : List Edge) (at n : ℕ) (v : Register) → n ≡ 5 → at + 3 + n ≤ length s → q .kindless ≡ 0 → q′ .kindless ≡ 0 → q .left ≡ suc (q′ .left)
@@ -201,7 +201,7 @@ module _ (s : List ℕ) (c : declared·Links.Links) where
       by-links (e ∷ es) a = a .lie .0
 
   pub next-more : (from label to : ℕ) (d : declared·Links.Links) → (c .left ≡ 0 → ⊥)
-      → from ≡ word s (c .at + 3) → label ≡ getD s (c .at + 5) 0 → to ≡ word s (c .at + 6) → d .at ≡ c .at + 8 → d .left ≡ c .left - 1
+      → from ≡ word s (c .at + 3) → label ≡ getD s (c .at + 3 + 2) 0 → to ≡ word s (c .at + 3 + 3) → d .at ≡ c .at + 8 → d .left ≡ c .left - 1
       → Next s c (next-link.Link from (record { 0 = label }) to d)
   next-more from label to d h hf hl ht ha hd [] a = absurd (h (a .left))
   next-more from label to d h hf hl ht ha hd (e ∷ es) a =

@@ -18,7 +18,7 @@ Accepted s = read register-form s ≡ got (register-in s)
 
 -- the link in the field at a place
 abbrev pub edge-at : List ℕ → ℕ → Edge
-edge-at s at = edge (word s (at + 3)) (getD s (at + 5) 0) (word s (at + 6))
+edge-at s at = edge (word s (at + 3)) (getD s (at + 3 + 2) 0) (word s (at + 3 + 3))
 
 -- the links es lie one after the other, from a place on
 abbrev pub Lie : List ℕ → ℕ → List Edge → Type 0

@@ -1,6 +1,7 @@
 // Reads a register's file, and hands on its kinds and links from where they lie.
 use fields::Due;
 use fields::File;
+use fields::HEAD;
 use fields::Kind;
 use fields::Link;
 use fields::Refusal;
@@ -15,6 +16,26 @@ ghost use Rattle.register.specs.Form.{head-of, kind-of, link-of, key, re
 ghost use Rattle.register.specs.Said.{due-of, entry-of, judged, Ready, turn-said, outcome-said, sizes-of, sized};
 ghost use Rattle.register.specs.Passed.{KindAt, NumberAt, Passes, Passed};
 ghost use Rattle.register.specs.Ahead.{Accepted, Ahead, SomeAhead, Next};
+
+// The bytes of a whole field of a kind, and of a link.
+const KIND_BYTES: usize = HEAD + fields::KIND_LENGTH as usize;
+
+const LINK_BYTES: usize = HEAD + fields::LINK_LENGTH as usize;
+
+// Where the file has its numbers of records and of links, the field of its first kind, and that kind itself.
+const RECORD_COUNT_AT: usize = HEAD;
+
+const LINK_COUNT_AT: usize = HEAD + 2;
+
+const KINDS_AT: usize = HEAD + fields::REGISTER_LENGTH as usize;
+
+const FIRST_KIND_AT: usize = KINDS_AT + HEAD;
+
+// Every key is below it: from, link and to are 40 bits.
+const KEYS: u64 = 0x10000000000;
+
+// A link's field as one number, but for its key: tag and length above the bits of the key.
+const LINK_NUMBER: u64 = (fields::LINK_TAG as u64 * 65536 + fields::LINK_LENGTH as u64) * KEYS;
 
 // How far the reading has come: the numbers of records and links, of records whose kind is due, of links left, and the least key allowed next.
 pub struct Progress {
@@ -151,8 +172,8 @@ fn due_at(st: Position) -> Due
     match st {
         Position::Start => Due {
             file: File::Register,
-            lo: 0x31,
-            hi: 0x31,
+            lo: fields::REGISTER_TAG,
+            hi: fields::REGISTER_TAG,
             ends: false,
             over: false,
         },
@@ -161,16 +182,16 @@ fn due_at(st: Position) -> Due
                 let over = q.left == 0;
                 return Due {
                     file: File::Register,
-                    lo: 0x33,
-                    hi: 0x33,
+                    lo: fields::LINK_TAG,
+                    hi: fields::LINK_TAG,
                     ends: over,
                     over,
                 };
             }
             Due {
                 file: File::Register,
-                lo: 0x32,
-                hi: 0x32,
+                lo: fields::KIND_TAG,
+                hi: fields::KIND_TAG,
                 ends: false,
                 over: false,
             }
@@ -202,21 +223,21 @@ fn kind_lies(s: &[u8], at: usize, q: Progress) -> bool
     if q.kindless == 0 {
         return false;
     }
-    if s.len() - at < 4 {
+    if s.len() - at < KIND_BYTES {
         return false;
     }
-    if s[at] != 0x32 {
+    if s[at] != fields::KIND_TAG {
         return false;
     }
-    fields::two(s, at + 1) == 1
+    fields::two(s, at + 1) == fields::KIND_LENGTH
 }
 
-// The number in the eight bytes at a place, or 0 where there are fewer.
+// The number in the bytes of a link's field, which are eight, at a place; or 0 where there are fewer.
 fn number_at(s: &[u8], at: usize) -> u64
     requires { ⌜ at ≤ length (now s) ⌝ }
     ensures { λ r. ⌜ (0 < r → NumberAt (now (s .entry)) at r) ⌝ }
 {
-    if s.len() - at < 8 {
+    if s.len() - at < LINK_BYTES {
         return 0;
     }
     fields::eight_at(s, at)
@@ -249,21 +270,21 @@ fn past_kinds(s: &[u8], from: usize, start: Progress) -> Reached
     let mut at = from;
     let mut q = start;
     while kind_lies(s, at, q) {
-        match judge_kind(q, at, &s[at + 3..at + 4]) {
+        match judge_kind(q, at, &s[at + HEAD..at + KIND_BYTES]) {
             Turn::Stop(_) => {
                 return Reached { at, progress: q };
             }
             Turn::Go(next) => {
                 q = next;
-                at = at + 4;
+                at = at + KIND_BYTES;
             }
         }
     }
     Reached { at, progress: q }
 }
 
-// The same of links, each as the number in its eight bytes: tag and length (0x330005) above the key, so that two bounds settle tag, length,
-// from and order. A turn ends with the next number: the compiler takes one that is used at once apart into bytes again. A floor above
+// The same of links, each as the number in its eight bytes: tag and length above the key, so that two bounds settle tag, length, from and
+// order. A turn ends with the next number: the compiler takes one that is used at once apart into bytes again. A floor above
 // every key, which no file leads to, is left to the general loop.
 fn past_links(s: &[u8], from: usize, start: Progress) -> Reached
     requires { ⌜ from ≤ length (now s) ⌝ }
@@ -275,20 +296,20 @@ fn past_links(s: &[u8], from: usize, start: Progress) -> Reached
             progress: start,
         };
     }
-    if 0x10000000000 < start.floor {
+    if KEYS < start.floor {
         return Reached {
             at: from,
             progress: start,
         };
     }
     let records = long(start.records);
-    let top = 0x3300050000000000 + records * 16777216;
+    let top = LINK_NUMBER + records * 16777216;
     let mut at = from;
     let mut left = start.left;
-    let mut floor = 0x3300050000000000 + start.floor;
+    let mut floor = LINK_NUMBER + start.floor;
     let mut v = number_at(s, at);
     while link_passes(v, left, floor, top, records) {
-        at = at + 8;
+        at = at + LINK_BYTES;
         left = left - 1;
         floor = v + 1;
         v = number_at(s, at);
@@ -300,7 +321,7 @@ fn past_links(s: &[u8], from: usize, start: Progress) -> Reached
             links: start.links,
             kindless: 0,
             left,
-            floor: floor - 0x3300050000000000,
+            floor: floor - LINK_NUMBER,
         },
     }
 }
@@ -331,7 +352,7 @@ pub fn read(s: &[u8]) -> Outcome
                     return Outcome::Refused(r);
                 }
                 Turn::Go(q) => {
-                    let r = past(s, at + 3 + len as usize, q);
+                    let r = past(s, at + HEAD + len as usize, q);
                     let reached = r.progress;
                     st = Position::Within(reached);
                     at = r.at;
@@ -346,7 +367,7 @@ pub fn kind_at(s: &[u8], i: usize) -> Kind
     requires { ⌜ i < records (register-in (now s)) ⌝ }
     ensures { λ r. ⌜ r .0 ≡ kind (register-in (now (s .entry))) i ⌝ }
 {
-    Kind(s[10 + 4 * i])
+    Kind(s[FIRST_KIND_AT + KIND_BYTES * i])
 }
 
 // The links still to come of an accepted file: the place of the next one, and their number.
@@ -365,10 +386,10 @@ pub fn links_of(s: &[u8]) -> Links
     requires { ⌜ Accepted (now s) ⌝ }
     ensures { λ r. ⌜ Ahead (now (s .entry)) r (register-in (now (s .entry)) .links) ⌝ }
 {
-    let records = fields::two(s, 3) as usize;
-    let left = fields::two(s, 5) as usize;
+    let records = fields::two(s, RECORD_COUNT_AT) as usize;
+    let left = fields::two(s, LINK_COUNT_AT) as usize;
     Links {
-        at: 7 + 4 * records,
+        at: KINDS_AT + KIND_BYTES * records,
         left,
     }
 }
@@ -381,15 +402,16 @@ pub fn next_link(s: &[u8], c: Links) -> NextLink
         return NextLink::Done;
     }
     let at = c.at;
-    let from = fields::two(s, at + 3) as usize;
-    let label = Link(s[at + 5]);
-    let to = fields::two(s, at + 6) as usize;
+    let body = at + HEAD;
+    let from = fields::two(s, body) as usize;
+    let label = Link(s[body + 2]);
+    let to = fields::two(s, body + 3) as usize;
     NextLink::Link(
         from,
         label,
         to,
         Links {
-            at: at + 8,
+            at: at + LINK_BYTES,
             left: c.left - 1,
         },
     )

@@ -2,7 +2,7 @@
 -- Assumes nothing.
 use mathlib.Core.Bool.{Bool, true, false, cond, _&&_, _||_}
 use mathlib.Core.List.{List, [], _∷_}
-use Prim.Native.Nat.{ℕ}
+use Prim.Native.Nat.{ℕ, _+_}
 use lib.Dec.{eqb}
 use Rattle.fields.specs.declared.File.{File}
 use Rattle.fields.specs.declared.File.the-variants.{Sheet, Question, Register, Narrowed}
@@ -53,3 +53,7 @@ row-of t = row-in rows t
 -- the length of a tag: that of its row
 unfoldable pub tag-length : ℕ → ℕ
 tag-length t = row-in rows t .1
+
+-- the bytes of a whole field: its head, which has the tag and the length, and its body
+unfoldable pub field-size : ℕ → ℕ
+field-size t = 3 + tag-length t

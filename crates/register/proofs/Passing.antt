@@ -10,7 +10,7 @@ use lib.Dec.{eqb}
 use lib.ListN.{length, getD, take, drop}
 use Rattle.fields.specs.Answer.{got}
 use Rattle.fields.specs.declared.Due.{Due}
-use Rattle.fields.specs.Table.{among, rows}
+use Rattle.fields.specs.Table.{among, rows, tag-length, field-size}
 use Rattle.fields.specs.Reading.{body, field-at, fitting, word, eight}
 use Rattle.fields.proofs.Fields.{found, body-get}
 use Rattle.register.specs.declared.Progress.{Progress}
@@ -28,13 +28,22 @@ field-there d s at t n o f h x y =
     rw (x, y) (simp (lt-leb (length s) at (omega arith), o, le-ltb (length s) (at + 3) (omega arith), f, le-ltb (length s) (at + 3 + n) h))
 
 -- ---- one field more was passed over
+module _ {s : List ℕ} {q : Progress} {at : ℕ} (k : KindAt s q at) where
+  pub kind-room : at + 4 ≤ length s
+  unfolding field-size tag-length rows
+  kind-room = k .room
+
+  kind-length : word s (at + 1) ≡ 1
+  unfolding tag-length rows
+  kind-length = k .len
+
 module _ {s : List ℕ} {q p : Progress} {at i : ℕ} (d : Passed s q at p i) (r : Progress) where
   pub past-kind : KindAt s p i → kind-of p i (take (i + 4 - (i + 3)) (drop (i + 3) s)) ≡ got r → Passed s q at r (i + 4)
   unfolding fitting among rows entry-of
   past-kind k e =
       let o : i + 4 - (i + 3) ≡ 1 = omega arith in
       let z : eqb (p .kindless) 0 ≡ false = ne-eqb (p .kindless) 0 (λ e. omega (arith, k .due)) in
-      let f = field-there (due-entry p) s i 0x32 1 (simp z) (simp z) (omega (arith, k .room)) (k .tag) (k .len) in
+      let f = field-there (due-entry p) s i 0x32 1 (simp z) (simp z) (omega (arith, kind-room k)) (k .tag) (kind-length k) in
       let w : i + 3 + 1 ≡ i + 4 = omega arith in
       subst (Passed s q at r) w (further p i 0x32 1 r d f (rw (z, ← o) e))
 

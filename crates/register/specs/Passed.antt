@@ -4,6 +4,7 @@ use mathlib.Core.Path.{_≡_}
 use mathlib.Core.List.{List}
 use Prim.Native.Nat.{ℕ, _+_, _/_, _%_, _<_, _≤_}
 use lib.ListN.{length, getD, take, drop}
+use Rattle.fields.specs.Table.{tag-length, field-size}
 use Rattle.fields.specs.Answer.{got}
 use Rattle.fields.specs.Reading.{word, eight, body, field-at}
 use Rattle.register.specs.declared.Progress.{Progress}
@@ -13,9 +14,9 @@ use Rattle.register.specs.Said.{entry-of}
 -- a kind is due at a place, and a whole field with its tag and length lies there
 pub record KindAt (s : List ℕ) (q : Progress) (at : ℕ) : Type 0 where
   pub due : 0 < q .kindless
-  pub room : at + 4 ≤ length s
+  pub room : at + field-size 0x32 ≤ length s
   pub tag : getD s at 0 ≡ 0x32
-  pub len : word s (at + 1) ≡ 1
+  pub len : word s (at + 1) ≡ tag-length 0x32
 
 -- the number in eight bytes that lie at a place
 pub record NumberAt (s : List ℕ) (at v : ℕ) : Type 0 where

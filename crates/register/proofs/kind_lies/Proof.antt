@@ -4,6 +4,7 @@ use mathlib.Core.Path.{_∙_, sym}
 use mathlib.Core.Bool.{false≢true}
 use borrow.Author.Tests.{eqb-true}
 use native.Mathlib.Omega.{arith}
+use Rattle.fields.specs.Table.{rows, tag-length, field-size}
 use borrow.Author.Needs.{needs}
 use Rattle.register.proofs.kind_lies.Statement.{statement}
 use Rattle.register.proofs.kind_lies.Tie as tie
@@ -30,6 +31,7 @@ two-requires : tie.Need-two-requires
 two-requires c κs = search needs
 
 returns-4 : tie.Need-returns-4
+unfolding field-size tag-length rows
 returns-4 c = λ e. record { due = omega (arith, c .before .before .before .before .if1 .left); room = omega (arith, c .before .before .before .if2 .left, c .before .before .before .before .before .before .before .pre); tag = c .before .if3 .left; len = sym (c .two .ensures) ∙ eqb-true _ _ e }
 
 pub kind-lies-spec : {M : Type 1} → statement M

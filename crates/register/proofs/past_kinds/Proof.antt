@@ -3,7 +3,7 @@
 use Rattle.register.specs.Said.{turn-said}
 use mathlib.Core.Path.{_∙_, sym, ap}
 use lib.ListN.{length-take, length-drop}
-use Rattle.register.proofs.Passing.{past-kind}
+use Rattle.register.proofs.Passing.{kind-room, past-kind}
 use Rattle.register.specs.Passed.{Passed, here}
 use lib.ListN.{length}
 use borrow.Author.Needs.{needs}
@@ -37,12 +37,12 @@ part-judge-kind-start : tie.Need-part-judge-kind-start Inv-loop μ-loop
 part-judge-kind-start c = search needs
 
 part-judge-kind-end : tie.Need-part-judge-kind-end Inv-loop μ-loop
-part-judge-kind-end c = omega (arith, c .before .kind-lies .ensures (c .if1 .taken) .room)
+part-judge-kind-end c = omega (arith, kind-room (c .before .kind-lies .ensures (c .if1 .taken)))
 
 judge-kind-requires : tie.Need-judge-kind-requires Inv-loop μ-loop
 judge-kind-requires c κs =
     let l = c .before .before .kind-lies .ensures (c .before .if1 .taken) in
-    (simp (length-take, length-drop) (omega (arith, l .room)), l .due)
+    (simp (length-take, length-drop) (omega (arith, kind-room l)), l .due)
 
 enum-told : tie.Need-enum-told Inv-loop μ-loop
 enum-told c = search needs
@@ -57,12 +57,12 @@ add-at : tie.Need-add-at Inv-loop μ-loop
 add-at c = search needs
 
 loop-less : tie.Need-loop-less Inv-loop μ-loop
-loop-less c = omega (arith, c .before .before .before .before .before .before .kind-lies .ensures (c .before .before .before .before .before .if1 .taken) .room)
+loop-less c = omega (arith, kind-room (c .before .before .before .before .before .before .kind-lies .ensures (c .before .before .before .before .before .if1 .taken)))
 
 loop-again : tie.Need-loop-again Inv-loop μ-loop
 loop-again c =
     let l = c .before .before .before .before .before .before .kind-lies .ensures (c .before .before .before .before .before .if1 .taken) in
-    (past-kind (c .before .before .before .before .before .before .before .loop .inv .0) _ l (sym (c .before .before .before .judge-kind .ensures) ∙ ap turn-said (c .before .next .given .1)), l .room)
+    (past-kind (c .before .before .before .before .before .before .before .loop .inv .0) _ l (sym (c .before .before .before .judge-kind .ensures) ∙ ap turn-said (c .before .next .given .1)), kind-room l)
 
 returns-2 : tie.Need-returns-2 Inv-loop μ-loop
 returns-2 c = search needs

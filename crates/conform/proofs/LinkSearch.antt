@@ -18,9 +18,9 @@ use Rattle.register.specs.declared.Links.{Links}
 use Rattle.register.specs.declared.NextLink.{NextLink}
 use Rattle.register.specs.declared.NextLink.the-variants as next-link
 use Rattle.register.specs.Form.{register-in}
-use Rattle.register.specs.Ahead.{Accepted, Ahead, SomeAhead, Next}
+use Rattle.register.specs.Ahead.{Accepted, cursor-at, OnLinks, to-come, handed}
 use Rattle.register.proofs.AcceptedRegister.{accepted-register, Limits}
-use Rattle.register.proofs.Walk.{none-left, stepped, still-ahead}
+use Rattle.register.proofs.Walk.{all-to-come, on-start, none-left, stepped, still-on}
 use Rattle.sheet.specs.Table.{tabled?}
 use Rattle.conform.specs.Said.{link-tabled?, first-forbidden}
 use Rattle.conform.proofs.Search.{fails-here, fails-later}
@@ -43,35 +43,36 @@ kind-fits s a i k e = omega (arith, e, accepted-register s (register-in s) a .ki
 
 -- the search over the links still to come, counted from a place, finds what the whole search finds
 pub record LinksFrom (s t : List ℕ) (place : ℕ) (c : Links) : Type 0 where
-  pub ahead : SomeAhead s c
-  ranges : (e : Edge) → In e (ahead .links) → InRange (register-in s) e
-  pub count : place + length (ahead .links) ≤ 5120
-  same : first-failing (link-tabled? t (register-in s)) place (ahead .links) ≡ first-forbidden t (register-in s)
+  pub cursor : OnLinks s c
+  ranges : (e : Edge) → In e (to-come s c) → InRange (register-in s) e
+  pub count : place + length (to-come s c) ≤ 5120
+  same : first-failing (link-tabled? t (register-in s)) place (to-come s c) ≡ first-forbidden t (register-in s)
 
-pub links-start : (s t : List ℕ) (n : ℕ) (c : Links) → Accepted s → n ≡ records (register-in s) → Ahead s c (register-in s .links) → LinksFrom s t n c
+pub links-start : (s t : List ℕ) (n : ℕ) (c : Links) → Accepted s → n ≡ records (register-in s) → c ≡ cursor-at s (length (register-in s .links)) → LinksFrom s t n c
 unfolding first-forbidden
 links-start s t n c a e h =
     let l = accepted-register s (register-in s) a in
+    let all = all-to-come s c h in
     record {
-      ahead = record { links = register-in s .links; ahead = h };
-      ranges = in-range (register-in s) l;
-      count = omega (arith, l .few-records, l .few-links);
-      same = ap (λ i. first-failing (link-tabled? t (register-in s)) i (register-in s .links)) e;
+      cursor = on-start s c h a;
+      ranges = λ x m. in-range (register-in s) l x (subst (In x) all m);
+      count = omega (arith, l .few-records, l .few-links, ap length all);
+      same = rw all (ap (λ i. first-failing (link-tabled? t (register-in s)) i (register-in s .links)) e);
     }
 
-module _ (s t : List ℕ) (place : ℕ) (c : Links) (h : LinksFrom s t place c) (r : NextLink) (e : Next s c r) where
+module _ (s t : List ℕ) (place : ℕ) (c : Links) (h : LinksFrom s t place c) (r : NextLink) (e : r ≡ handed s (to-come s c)) where
   pub links-end : r ≡ next-link.Done → none ≡ first-forbidden t (register-in s)
-  links-end l = rw (none-left s c (h .ahead) r e l) at (h .same)
+  links-end l = rw (none-left s c (h .cursor) r e l) at (h .same)
 
   module _ (from : ℕ) (label : Link) (to : ℕ) (d : Links) (l : r ≡ next-link.Link from label to d) where
     abbrev link : Edge
     link = edge from (label .0) to
 
     abbrev rest : List Edge
-    rest = stepped s c (h .ahead) r e from label to d l .0
+    rest = to-come s d
 
-    links-are : h .ahead .links ≡ link ∷ rest
-    links-are = stepped s c (h .ahead) r e from label to d l .1
+    links-are : to-come s c ≡ link ∷ rest
+    links-are = stepped s c (h .cursor) r e from label to d l
 
     range : InRange (register-in s) link
     range = h .ranges link (subst (In link) (sym links-are) (here refl))
@@ -98,7 +99,7 @@ module _ (s t : List ℕ) (place : ℕ) (c : Links) (h : LinksFrom s t place c) 
 
       pub link-permitted : p ≡ true → LinksFrom s t (place + 1) d
       link-permitted f = record {
-        ahead = still-ahead s c (h .ahead) r e from label to d l;
+        cursor = still-on s c (h .cursor) r e from label to d l;
         ranges = λ x m. h .ranges x (subst (In x) (sym links-are) (there m));
         count = omega (arith, h .count, ap length links-are);
         same = rw add-one (sym (fails-later (link-tabled? t (register-in s)) place link rest (sym test ∙ f)) ∙ from-here);

@@ -5,6 +5,7 @@ use mathlib.Core.Bool.{Bool, true, false, _&&_, _||_, or-false, or-assoc}
 use mathlib.Core.List.{List, _∷_}
 use Prim.Native.Nat.{ℕ, _+_, _*_, _/_, _<_}
 use native.Mathlib.Omega.{arith}
+use lib.ListN.{length}
 use lib.Dec.{T, eqb, ltb, ltb→lt}
 use borrow.Author.Tests.{eq-eqb, ne-eqb}
 use Rattle.theory.specs.Lists.{some?, every?}
@@ -17,8 +18,8 @@ use Rattle.register.specs.declared.Links.{Links}
 use Rattle.register.specs.declared.NextLink.{NextLink}
 use Rattle.register.specs.declared.NextLink.the-variants as next-link
 use Rattle.register.specs.Form.{register-in}
-use Rattle.register.specs.Ahead.{Ahead, SomeAhead, Stepped, Next}
-use Rattle.register.proofs.Walk.{none-left, stepped, still-ahead}
+use Rattle.register.specs.Ahead.{cursor-at, OnLinks, to-come, handed}
+use Rattle.register.proofs.Walk.{all-to-come, on-start, none-left, stepped, still-on}
 use Rattle.rows.specs.Kept.{Kept, Wrote}
 use Rattle.rows.proofs.Words.{kept-refl, kept-trans}
 use Rattle.relation.specs.Pairs.{pair-at, Made}
@@ -77,53 +78,53 @@ inside? n e = ltb (e .from) n && ltb (e .to) n
 
 -- the links still to come, and with their pairs the relation is what it was with all pairs of the step
 pub record Passing (s : List ℕ) (b n w : ℕ) (d : Direction) (l : ℕ) (xs ys : List ℕ) (c : Links) : Type 0 where
-  pub ahead : SomeAhead s c
-  pub inside : T (every? (inside? n) (ahead .links))
+  pub cursor : OnLinks s c
+  pub inside : T (every? (inside? n) (to-come s c))
   pub kept : Kept b (b + n * w) xs ys
   pub pair : (i j : ℕ) → i < n → j / 64 < w
-      → pair-at ys b w i j || some? (λ e. leads? d l e i j) (ahead .links) ≡ pair-at xs b w i j || step? (register-in s) d l i j
+      → pair-at ys b w i j || some? (λ e. leads? d l e i j) (to-come s c) ≡ pair-at xs b w i j || step? (register-in s) d l i j
 
-pub passing-start : {s : List ℕ} {b n w : ℕ} {c : Links} (d : Direction) (l : ℕ) (xs : List ℕ) → Ground s n w → Ahead s c (register-in s .links) → Passing s b n w d l xs xs c
+pub passing-start : {s : List ℕ} {b n w : ℕ} {c : Links} (d : Direction) (l : ℕ) (xs : List ℕ) → Ground s n w → c ≡ cursor-at s (length (register-in s .links)) → Passing s b n w d l xs xs c
 unfolding well-formed?
-passing-start {s} {b} {n} {w} d l xs g a = record {
-  ahead = record { links = register-in s .links; ahead = a };
-  inside = subst (λ (k : ℕ). T (every? (inside? k) (register-in s .links))) (g .count) (limits g .formed);
+passing-start {s} {b} {n} {w} {c} d l xs g a = record {
+  cursor = on-start s c a (g .accepted);
+  inside = rw (all-to-come s c a) (subst (λ (k : ℕ). T (every? (inside? k) (register-in s .links))) (g .count) (limits g .formed));
   kept = kept-refl b (b + n * w) xs;
-  pair = λ i j hi hj. ap (λ (x : Bool). pair-at xs b w i j || x) (step-links (register-in s) d l i j);
+  pair = λ i j hi hj. rw (all-to-come s c a) (ap (λ (x : Bool). pair-at xs b w i j || x) (step-links (register-in s) d l i j));
 }
 
 module _
     {s : List ℕ} {b n w l : ℕ} {d : Direction} {xs ys : List ℕ} {c : Links} (p : Passing s b n w d l xs ys c)
-    (r : NextLink) (e : Next s c r) where
+    (r : NextLink) (e : r ≡ handed s (to-come s c)) where
   pub passing-end : r ≡ next-link.Done → Made b n w (λ i j. pair-at xs b w i j || step? (register-in s) d l i j) xs ys
   passing-end q =
-      let z = none-left s c (p .ahead) r e q in
+      let z = none-left s c (p .cursor) r e q in
       record {
         kept = p .kept;
         pair = λ i j hi hj. sym (ap (λ (es : List Edge). pair-at ys b w i j || some? (λ x. leads? d l x i j) es) z ∙ or-false (pair-at ys b w i j)) ∙ p .pair i j hi hj;
       }
 
   module _ (from : ℕ) (label : declared·Link.Link) (to : ℕ) (rest : Links) (q : r ≡ next-link.Link from label to rest) where
-    abbrev next : Stepped s (p .ahead .links) (next-link.Link from label to rest)
-    next = stepped s c (p .ahead) r e from label to rest q
+    links-are : to-come s c ≡ edge from (label .0) to ∷ to-come s rest
+    links-are = stepped s c (p .cursor) r e from label to rest q
 
-    inside-all : T (every? (inside? n) (edge from (label .0) to ∷ next .0))
-    inside-all = subst (λ (es : List Edge). T (every? (inside? n) es)) (next .1) (p .inside)
+    inside-all : T (every? (inside? n) (edge from (label .0) to ∷ to-come s rest))
+    inside-all = subst (λ (es : List Edge). T (every? (inside? n) es)) links-are (p .inside)
 
     pub link-inside : (from < n) × (to < n)
     link-inside =
-        let h = and-left (inside? n (edge from (label .0) to)) (every? (inside? n) (next .0)) inside-all in
+        let h = and-left (inside? n (edge from (label .0) to)) (every? (inside? n) (to-come s rest)) inside-all in
         (ltb→lt from n (and-left (ltb from n) (ltb to n) h), ltb→lt to n (and-right (ltb from n) (ltb to n) h))
 
     pub passing-more : {zs : List ℕ} → Made b n w (λ i j. pair-at ys b w i j || leads? d l (edge from (label .0) to) i j) ys zs → Passing s b n w d l xs zs rest
     passing-more m = record {
-      ahead = still-ahead s c (p .ahead) r e from label to rest q;
-      inside = and-right (inside? n (edge from (label .0) to)) (every? (inside? n) (next .0)) inside-all;
+      cursor = still-on s c (p .cursor) r e from label to rest q;
+      inside = and-right (inside? n (edge from (label .0) to)) (every? (inside? n) (to-come s rest)) inside-all;
       kept = kept-trans (p .kept) (m .kept) (omega arith) (omega arith) (omega arith) (omega arith);
       pair = λ i j hi hj.
-          ap (λ (x : Bool). x || some? (λ e. leads? d l e i j) (next .0)) (m .pair i j hi hj)
-          ∙ or-assoc (pair-at ys b w i j) (leads? d l (edge from (label .0) to) i j) (some? (λ e. leads? d l e i j) (next .0))
-          ∙ sym (ap (λ (es : List Edge). pair-at ys b w i j || some? (λ e. leads? d l e i j) es) (next .1))
+          ap (λ (x : Bool). x || some? (λ e. leads? d l e i j) (to-come s rest)) (m .pair i j hi hj)
+          ∙ or-assoc (pair-at ys b w i j) (leads? d l (edge from (label .0) to) i j) (some? (λ e. leads? d l e i j) (to-come s rest))
+          ∙ sym (ap (λ (es : List Edge). pair-at ys b w i j || some? (λ e. leads? d l e i j) es) links-are)
           ∙ p .pair i j hi hj;
     }
 

@@ -6,6 +6,6 @@ pub mod Passing
 -- what an accepted file holds, and where
 pub mod AcceptedRegister
 pub mod Told
-pub mod Places
 pub mod Walk
+pub mod Places
 pub mod Cases

@@ -1,4 +1,4 @@
--- Where the kinds and links of an accepted file lie: kind i has its field at byte 7 + 4 i, and the links come after the last kind.
+-- Where the kinds and links of an accepted file lie: kind i has its field at byte 7 + 4 i, and the links come after the last kind, up to the end.
 -- Assumes nothing.
 use mathlib.Core.Path.{_≡_, refl, sym, ap, ap₂, subst, _∙_}
 use mathlib.Core.Bool.{false≢true}
@@ -8,7 +8,8 @@ use native.Mathlib.Omega.{arith}
 use borrow.Author.Tests.{eqb-true, eq-eqb, ne-eqb}
 use lib.Dec.{eqb}
 use lib.ListN.{length, getD, take, drop}
-use Rattle.theory.specs.Register.{Edge, Register, records, kind}
+use Rattle.theory.specs.Register.{Edge, edge, Register, records, kind}
+use Rattle.fields.specs.Table.{rows, tag-length, field-size}
 use Rattle.fields.specs.Answer.{Answer, got, refused}
 use Rattle.fields.specs.Reading.{ends, body, field-at, word, read}
 use Rattle.fields.proofs.Bools.{and-left, and-right}
@@ -18,8 +19,9 @@ use Rattle.register.specs.declared.Progress.{Progress}
 use Rattle.register.specs.declared.Links as declared·Links
 use Rattle.register.specs.declared.NextLink.the-variants as next-link
 use Rattle.register.specs.Form.{State, start, within, due, due-head, due-entry, judge, value, register-form, value-of, register-in, edge-of, after-head}
-use Rattle.register.specs.Ahead.{Accepted, edge-at, Lie, Ahead, SomeAhead, Next}
+use Rattle.register.specs.Ahead.{Accepted, cursor-at, OnLinks, to-come, handed}
 use Rattle.register.proofs.Fields.{head-length, entry-length}
+use Rattle.register.proofs.Walk.{to-come-length}
 use Rattle.register.proofs.Sound.{by-head, by-entry, head-got, kind-got, link-got}
 
 no-length : {A : Type 0} (xs : List A) → length xs ≡ 0 → xs ≡ []
@@ -31,6 +33,15 @@ no-length (x ∷ xs) e = absurd (omega arith)
 abbrev KindsLie : List ℕ → ℕ → List ℕ → Type 0
 KindsLie s at [] = Unit {0}
 KindsLie s at (k ∷ ks) = (at + 4 ≤ length s) × (getD s (at + 3) 0 ≡ k) × KindsLie s (at + 4) ks
+
+-- the link in the field at a place
+abbrev edge-at : List ℕ → ℕ → Edge
+edge-at s at = edge (word s (at + 3)) (getD s (at + 3 + 2) 0) (word s (at + 3 + 3))
+
+-- the links es lie one after the other, from a place to the file's end
+abbrev Lie : List ℕ → ℕ → List Edge → Type 0
+Lie s at [] = at ≡ length s
+Lie s at (e ∷ es) = (edge-at s at ≡ e) × Lie s (at + 8) es
 
 -- the register v is the kinds ks and links es, and after them those that lie from a place on
 record Rest (s : List ℕ) (q : Progress) (ks : List ℕ) (es : List Edge) (at : ℕ) (v : Register) : Type 0 where
@@ -53,22 +64,22 @@ record Placed (s : List ℕ) (v : Register) : Type 0 where
 
 abbrev Ends : List ℕ → State → ℕ → Register → Type 0
 Ends s start at v = at ≡ 0 → Placed s v
-Ends s (within q ks es) at v = Rest s q ks es at v
+Ends s (within q ks es) at v = at ≤ length s → Rest s q ks es at v
 
 module _ (s : List ℕ) where
   at-end : (st : State) (at : ℕ) → field-at (due st) s at ≡ ends → Ends s st at (value st)
   at-end start at e = absurd (false≢true (ended due-head s at e .may))
-  at-end (within q ks es) at e =
-      let h = ended (due-entry q) s at e .may in
+  at-end (within q ks es) at e = λ inside.
+      let x = ended (due-entry q) s at e in
       record {
         more-kinds = [];
         more-links = [];
         kinds = sym (append-nil ks);
         links = sym (append-nil es);
-        kindless = sym (eqb-true (q .kindless) 0 (and-left _ (eqb (q .left) 0) h));
-        left = sym (eqb-true (q .left) 0 (and-right (eqb (q .kindless) 0) _ h));
+        kindless = sym (eqb-true (q .kindless) 0 (and-left _ (eqb (q .left) 0) (x .may)));
+        left = sym (eqb-true (q .left) 0 (and-right (eqb (q .kindless) 0) _ (x .may)));
         kinds-lie = tt;
-        links-lie = tt;
+        links-lie = omega (arith, x .past);
       }
 
   -- a word of a body is a word of the file
@@ -128,7 +139,7 @@ module _ (s : List ℕ) where
         links-lie =
             let h : at + 3 + n + 4 * length (r .more-kinds) ≡ at + 4 * 0 + 8 = omega arith in
             let o : at + 4 * 0 ≡ at = omega arith in
-            (omega arith, ap (edge-at s) o ∙ body-edge at n hn, subst (λ (a : ℕ). Lie s a (r .more-links)) h (r .links-lie));
+            (ap (edge-at s) o ∙ body-edge at n hn, subst (λ (a : ℕ). Lie s a (r .more-links)) h (r .links-lie));
       }
 
   at-body : (st : State) (at t n : ℕ) (st′ : State) (v : Register) → field-at (due st) s at ≡ body t n
@@ -137,20 +148,21 @@ module _ (s : List ℕ) where
       by-head (λ x. Ends s x (at + 3 + n) v → Placed s v) at (at + 3 + n) t (take n (drop (at + 3) s)) st′ j
       (λ q g r.
       let h = head-got at (take n (drop (at + 3) s)) q g .2 in
-      after-31 at n v (head-length s at t n e) z (found due-head s at t n e .room) (subst (λ (p : Progress). Rest s p [] [] (at + 3 + n) v) (sym h) r))
+      let room = found due-head s at t n e .room in
+      after-31 at n v (head-length s at t n e) z room (subst (λ (p : Progress). Rest s p [] [] (at + 3 + n) v) (sym h) (r room)))
       ih
-  at-body (within q ks es) at t n st′ v e j ih =
+  at-body (within q ks es) at t n st′ v e j ih = λ inside.
       let f = found (due-entry q) s at t n e in
       let b = take n (drop (at + 3) s) in
       by-entry (λ x. Ends s x (at + 3 + n) v → Rest s q ks es at v) q ks es at (at + 3 + n) t b st′ (f .more) j
       (λ q′ k l g r.
       let h = link-got q at b q′ g .1 in
       let hn : n ≡ 5 = entry-length q s at t n e ∙ simp (eq-eqb _ _ k) in
-      after-33 q q′ ks es at n v hn (f .room) k (omega (arith, ap (λ (p : Progress). p .kindless) h)) (omega (arith, ap (λ (p : Progress). p .left) h)) r)
+      after-33 q q′ ks es at n v hn (f .room) k (omega (arith, ap (λ (p : Progress). p .kindless) h)) (omega (arith, ap (λ (p : Progress). p .left) h)) (r (f .room)))
       (λ q′ k g r.
       let h = kind-got q at b q′ g .1 in
       let hn : n ≡ 1 = entry-length q s at t n e ∙ simp (ne-eqb (q .kindless) 0 (omega arith)) in
-      after-32 q q′ ks es at n v hn (f .room) (omega (arith, ap (λ (p : Progress). p .kindless) h)) (ap (λ (p : Progress). p .left) h) r)
+      after-32 q q′ ks es at n v hn (f .room) (omega (arith, ap (λ (p : Progress). p .kindless) h)) (ap (λ (p : Progress). p .left) h) (r (f .room)))
       ih
 
   placed : (v : Register) → read register-form s ≡ got v → Placed s v
@@ -180,30 +192,65 @@ kind-lies s i h = by-answer (read register-form s) refl h
         (omega (arith, r .0), ap (λ (a : ℕ). getD s a 0) z ∙ r .1)
 
 -- ---- the links
+lie-end : (s : List ℕ) (at : ℕ) (es : List Edge) → Lie s at es → at + 8 * length es ≡ length s
+lie-end s at [] l = omega (arith, l)
+lie-end s at (e ∷ es) l = omega (arith, lie-end s (at + 8) es (l .1))
+
+lie-drop : (s : List ℕ) (at : ℕ) (es : List Edge) (k : ℕ) → Lie s at es → k ≤ length es → Lie s (at + 8 * k) (drop k es)
+lie-drop s at es zero l h = let z : at ≡ at + 8 * 0 = omega arith in subst (λ (a : ℕ). Lie s a es) z l
+lie-drop s at [] (suc k) l h = absurd (omega arith)
+lie-drop s at (e ∷ es) (suc k) l h =
+    let z : at + 8 + 8 * k ≡ at + 8 * suc k = omega arith in
+    subst (λ (a : ℕ). Lie s a (drop k es)) z (lie-drop s (at + 8) es k (l .1) (omega arith))
+
+whole-length : (s : List ℕ) (v : Register) → Placed s v → 7 + 4 * records v + 8 * length (v .links) ≡ length s
+whole-length s v p = lie-end s (7 + 4 * records v) (v .links) (p .links-lie)
+
 pub head-room : (s : List ℕ) → Accepted s → 7 ≤ length s
 head-room s e = placed s (register-in s) e .head
 
-pub links-start : (s : List ℕ) (c : declared·Links.Links) → Accepted s → c .at ≡ 7 + 4 * word s 3 → c .left ≡ word s 5 → Ahead s c (register-in s .links)
+-- the cursor, with the eight bytes of a link's field
+cursor-place : (s : List ℕ) (k : ℕ) → cursor-at s k .at ≡ length s - 8 * k
+unfolding cursor-at field-size tag-length rows
+cursor-place s k = refl
+
+cursor-is : (s : List ℕ) (c : declared·Links.Links) (k : ℕ) → c .at ≡ length s - 8 * k → c .left ≡ k → c ≡ cursor-at s k
+unfolding cursor-at field-size tag-length rows
+cursor-is s c k a l = λ i. record { at = a i; left = l i }
+
+pub links-start : (s : List ℕ) (c : declared·Links.Links) → Accepted s → c .at ≡ 7 + 4 * word s 3 → c .left ≡ word s 5 → c ≡ cursor-at s (length (register-in s .links))
 links-start s c e a l =
     let p = placed s (register-in s) e in
-    let z : 7 + 4 * records (register-in s) ≡ c .at = omega (arith, p .kinds) in
-    record { left = l ∙ sym (p .links); lie = subst (λ (x : ℕ). Lie s x (register-in s .links)) z (p .links-lie) }
+    cursor-is s c (length (register-in s .links)) (omega (arith, p .kinds, whole-length s (register-in s) p)) (l ∙ sym (p .links))
 
-module _ (s : List ℕ) (c : declared·Links.Links) where
-  pub next-done : c .left ≡ 0 → Next s c next-link.Done
-  next-done z es a = no-length es (sym (a .left) ∙ z)
+module _ (s : List ℕ) (c : declared·Links.Links) (h : OnLinks s c) where
+  -- those to come lie from the cursor on
+  lies : Lie s (c .at) (to-come s c)
+  unfolding to-come
+  lies =
+      let p = placed s (register-in s) (h .accepted) in
+      let n = length (register-in s .links) in
+      let e = ap (λ (d : declared·Links.Links). d .at) (h .placed) ∙ cursor-place s (c .left) in
+      let z : 7 + 4 * records (register-in s) + 8 * (n - c .left) ≡ c .at = omega (arith, whole-length s (register-in s) p, h .few, e) in
+      subst (λ (a : ℕ). Lie s a (to-come s c)) z (lie-drop s (7 + 4 * records (register-in s)) (register-in s .links) (n - c .left) (p .links-lie) (omega arith))
 
-  pub next-room : SomeAhead s c → (c .left ≡ 0 → ⊥) → c .at + 8 ≤ length s
-  next-room a h = by-links (a .links) (a .ahead)
-    where
-      by-links : (es : List Edge) → Ahead s c es → c .at + 8 ≤ length s
-      by-links [] a = absurd (h (a .left))
-      by-links (e ∷ es) a = a .lie .0
+  pub next-done : c .left ≡ 0 → next-link.Done ≡ handed s (to-come s c)
+  unfolding handed
+  next-done z = sym (ap (handed s) (no-length (to-come s c) (to-come-length s c h ∙ z)))
 
-  pub next-more : (from label to : ℕ) (d : declared·Links.Links) → (c .left ≡ 0 → ⊥)
-      → from ≡ word s (c .at + 3) → label ≡ getD s (c .at + 3 + 2) 0 → to ≡ word s (c .at + 3 + 3) → d .at ≡ c .at + 8 → d .left ≡ c .left - 1
-      → Next s c (next-link.Link from (record { 0 = label }) to d)
-  next-more from label to d h hf hl ht ha hd [] a = absurd (h (a .left))
-  next-more from label to d h hf hl ht ha hd (e ∷ es) a =
-      let z : e ≡ record { from = from; label = label; to = to } = sym (a .lie .1) ∙ sym (λ i. record { from = hf i; label = hl i; to = ht i }) in
-      (es, ap (λ (x : Edge). x ∷ es) z, record { left = omega (arith, a .left); lie = subst (λ (x : ℕ). Lie s x es) (sym ha) (a .lie .2) })
+  module _ (some : c .left ≡ 0 → ⊥) where
+    pub next-room : c .at + 8 ≤ length s
+    next-room = omega (arith, lie-end s (c .at) (to-come s c) lies, to-come-length s c h)
+
+    pub next-more : (from label to : ℕ) (d : declared·Links.Links)
+        → from ≡ word s (c .at + 3) → label ≡ getD s (c .at + 3 + 2) 0 → to ≡ word s (c .at + 3 + 3) → d .at ≡ c .at + 8 → d .left ≡ c .left - 1
+        → next-link.Link from (record { 0 = label }) to d ≡ handed s (to-come s c)
+    unfolding handed
+    next-more from label to d hf hl ht ha hd = by-links (to-come s c) (to-come-length s c h) lies
+      where
+        by-links : (es : List Edge) → length es ≡ c .left → Lie s (c .at) es → next-link.Link from (record { 0 = label }) to d ≡ handed s es
+        by-links [] n l = absurd (some (sym n))
+        by-links (e ∷ es) n l =
+            let z : edge from label to ≡ e = (λ i. edge (hf i) (hl i) (ht i)) ∙ l .0 in
+            let w : d ≡ cursor-at s (length es) = cursor-is s d (length es) (omega (arith, lie-end s _ es (l .1))) (omega arith) in
+            λ i. next-link.Link (z i .from) (record { 0 = z i .label }) (z i .to) (w i)

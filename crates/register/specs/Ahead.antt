@@ -2,11 +2,12 @@
 -- Assumes nothing.
 use mathlib.Core.Path.{_≡_}
 use mathlib.Core.List.{List, [], _∷_}
-use Prim.Native.Nat.{ℕ, _+_, _≤_}
-use lib.ListN.{length, getD}
-use Rattle.theory.specs.Register.{Edge, edge}
+use Prim.Native.Nat.{ℕ, _*_, _-_, _≤_}
+use lib.ListN.{length, drop}
+use Rattle.theory.specs.Register.{Edge}
 use Rattle.fields.specs.Answer.{got}
-use Rattle.fields.specs.Reading.{word, read}
+use Rattle.fields.specs.Table.{field-size}
+use Rattle.fields.specs.Reading.{read}
 use Rattle.register.specs.declared.Links as declared·Links
 use Rattle.register.specs.declared.NextLink as declared·NextLink
 use Rattle.register.specs.declared.NextLink.the-variants as next-link
@@ -16,30 +17,21 @@ use Rattle.register.specs.Form.{register-form, register-in}
 abbrev pub Accepted : List ℕ → Type 0
 Accepted s = read register-form s ≡ got (register-in s)
 
--- the link in the field at a place
-abbrev pub edge-at : List ℕ → ℕ → Edge
-edge-at s at = edge (word s (at + 3)) (getD s (at + 3 + 2) 0) (word s (at + 3 + 3))
+-- the cursor before the last k links: they stand at the file's end
+unfoldable pub cursor-at : List ℕ → ℕ → declared·Links.Links
+cursor-at s k = record { at = length s - field-size 0x33 * k; left = k }
 
--- the links es lie one after the other, from a place on
-abbrev pub Lie : List ℕ → ℕ → List Edge → Type 0
-Lie s at [] = Unit {0}
-Lie s at (e ∷ es) = (at + 8 ≤ length s) × (edge-at s at ≡ e) × Lie s (at + 8) es
+-- c is a cursor of an accepted file: before the last links, as many as are left
+pub record OnLinks (s : List ℕ) (c : declared·Links.Links) : Type 0 where
+  pub accepted : Accepted s
+  pub few : c .left ≤ length (register-in s .links)
+  pub placed : c ≡ cursor-at s (c .left)
 
--- the links still to come at c are es
-pub record Ahead (s : List ℕ) (c : declared·Links.Links) (es : List Edge) : Type 0 where
-  pub left : c .left ≡ length es
-  pub lie : Lie s (c .at) es
+-- the links still to come at c: the last ones, as many as are left
+unfoldable pub to-come : List ℕ → declared·Links.Links → List Edge
+to-come s c = drop (length (register-in s .links) - c .left) (register-in s .links)
 
--- some links are
-pub record SomeAhead (s : List ℕ) (c : declared·Links.Links) : Type 0 where
-  pub links : List Edge
-  pub ahead : Ahead s c links
-
--- of the links es, none is left; or the first was taken, and the rest are still to come
-abbrev pub Stepped : List ℕ → List Edge → declared·NextLink.NextLink → Type 0
-Stepped s es next-link.Done = es ≡ []
-Stepped s es (next-link.Link from label to c) = (rest : List Edge) × (es ≡ edge from (label .0) to ∷ rest) × Ahead s c rest
-
--- whichever links are still to come at c
-abbrev pub Next : List ℕ → declared·Links.Links → declared·NextLink.NextLink → Type 0
-Next s c r = (es : List Edge) → Ahead s c es → Stepped s es r
+-- what is handed out where the links es are still to come
+unfoldable pub handed : List ℕ → List Edge → declared·NextLink.NextLink
+handed s [] = next-link.Done
+handed s (e ∷ es) = next-link.Link (e .from) (record { 0 = e .label }) (e .to) (cursor-at s (length es))

@@ -15,7 +15,7 @@ ghost use Rattle.theory.specs.Register.{records, kind};
 ghost use Rattle.register.specs.Form.{head-of, kind-of, link-of, key, register-form, register-in};
 ghost use Rattle.register.specs.Said.{due-of, entry-of, judged, Ready, turn-said, outcome-said, sizes-of, sized};
 ghost use Rattle.register.specs.Passed.{KindAt, NumberAt, Passes, Passed};
-ghost use Rattle.register.specs.Ahead.{Accepted, Ahead, SomeAhead, Next};
+ghost use Rattle.register.specs.Ahead.{Accepted, cursor-at, OnLinks, to-come, handed};
 
 // The bytes of a whole field of a kind, and of a link.
 const KIND_BYTES: usize = HEAD + fields::KIND_LENGTH as usize;
@@ -370,7 +370,7 @@ pub fn kind_at(s: &[u8], i: usize) -> Kind
     Kind(s[FIRST_KIND_AT + KIND_BYTES * i])
 }
 
-// The links still to come of an accepted file: the place of the next one, and their number.
+// The links still to come of an accepted file: the place of the next one, or the file's end where none is left, and their number.
 pub struct Links {
     pub at: usize,
     pub left: usize,
@@ -384,7 +384,7 @@ pub enum NextLink {
 
 pub fn links_of(s: &[u8]) -> Links
     requires { ⌜ Accepted (now s) ⌝ }
-    ensures { λ r. ⌜ Ahead (now (s .entry)) r (register-in (now (s .entry)) .links) ⌝ }
+    ensures { λ r. ⌜ r ≡ cursor-at (now (s .entry)) (length (register-in (now (s .entry)) .links)) ⌝ }
 {
     let records = fields::two(s, RECORD_COUNT_AT) as usize;
     let left = fields::two(s, LINK_COUNT_AT) as usize;
@@ -395,8 +395,8 @@ pub fn links_of(s: &[u8]) -> Links
 }
 
 pub fn next_link(s: &[u8], c: Links) -> NextLink
-    requires { ⌜ SomeAhead (now s) c ⌝ }
-    ensures { λ r. ⌜ Next (now (s .entry)) c r ⌝ }
+    requires { ⌜ OnLinks (now s) c ⌝ }
+    ensures { λ r. ⌜ r ≡ handed (now (s .entry)) (to-come (now (s .entry)) c) ⌝ }
 {
     if c.left == 0 {
         return NextLink::Done;

@@ -27,7 +27,7 @@ loop-holds : tie.Need-loop-holds Inv-loop μ-loop
 loop-holds c = passing-start _ _ _ (c .before .before .before .pre .1) (c .links-of .ensures)
 
 next-link-requires : tie.Need-next-link-requires Inv-loop μ-loop
-next-link-requires c κs = c .loop .inv .ahead
+next-link-requires c κs = c .loop .inv .cursor
 
 enum-told : tie.Need-enum-told Inv-loop μ-loop
 enum-told c = search needs
@@ -47,7 +47,7 @@ add-link-requires c κs =
     (omega (arith, c .before .before .before .before .before .loop .inv .kept .len), rows-hold (c .before .before .before .before .before .before .before .before .before .pre .1), i .0, i .1)
 
 loop-less : tie.Need-loop-less Inv-loop μ-loop
-loop-less c = fewer _ _ (c .before .before .before .before .before .before .before .before .loop .inv .ahead) _ (c .before .before .before .before .before .before .before .next-link .ensures) _ _ _ _ (c .before .before .before .before .before .from .given .1)
+loop-less c = fewer _ _ (c .before .before .before .before .before .before .before .before .loop .inv .cursor) _ (c .before .before .before .before .before .before .before .next-link .ensures) _ _ _ _ (c .before .before .before .before .before .from .given .1)
 
 loop-again : tie.Need-loop-again Inv-loop μ-loop
 loop-again c = passing-more (c .before .before .before .before .before .before .before .before .loop .inv) _ (c .before .before .before .before .before .before .before .next-link .ensures) _ _ _ _ (c .before .before .before .before .before .from .given .1) (c .before .before .add-link .ensures)

@@ -32,7 +32,12 @@ two-requires c κs = search needs
 
 returns-4 : tie.Need-returns-4
 unfolding field-size tag-length rows
-returns-4 c = λ e. record { due = omega (arith, c .before .before .before .before .if1 .left); room = omega (arith, c .before .before .before .if2 .left, c .before .before .before .before .before .before .before .pre); tag = c .before .if3 .left; len = sym (c .two .ensures) ∙ eqb-true _ _ e }
+returns-4 c = λ e. record {
+  due = omega (arith, c .before .before .before .before .if1 .left);
+  room = omega (arith, c .before .before .before .if2 .left, c .before .before .before .before .before .before .before .pre);
+  tag = c .before .if3 .left;
+  len = sym (c .two .ensures) ∙ eqb-true _ _ e;
+}
 
 pub kind-lies-spec : {M : Type 1} → statement M
 kind-lies-spec =

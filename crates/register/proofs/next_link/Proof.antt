@@ -6,7 +6,7 @@ use Rattle.register.proofs.next_link.Statement.{statement}
 use Rattle.register.proofs.next_link.Tie as tie
 
 returns : tie.Need-returns
-returns c = next-done _ _ (c .if1 .taken)
+returns c = next-done _ _ (c .before .before .before .pre) (c .if1 .taken)
 
 add-body : tie.Need-add-body
 add-body c = omega (arith, next-room _ _ (c .before .before .before .pre) (c .if1 .left))
@@ -39,7 +39,9 @@ sub-t13 : tie.Need-sub-t13
 sub-t13 c = search needs
 
 returns-2 : tie.Need-returns-2
-returns-2 c = next-more _ _ _ _ _ _ (c .before .before .before .before .if1 .left) (c .before .before .before .two .ensures) refl (c .before .two2 .ensures) refl refl
+returns-2 c =
+    next-more _ _ (c .before .before .before .before .before .before .before .pre) (c .before .before .before .before .if1 .left) _ _ _ _
+    (c .before .before .before .two .ensures) refl (c .before .two2 .ensures) refl refl
 
 pub next-link-spec : {M : Type 1} → statement M
 next-link-spec =

@@ -62,7 +62,8 @@ loop-less c = omega (arith, kind-room (c .before .before .before .before .before
 loop-again : tie.Need-loop-again Inv-loop μ-loop
 loop-again c =
     let l = c .before .before .before .before .before .before .kind-lies .ensures (c .before .before .before .before .before .if1 .taken) in
-    (past-kind (c .before .before .before .before .before .before .before .loop .inv .0) _ l (sym (c .before .before .before .judge-kind .ensures) ∙ ap turn-said (c .before .next .given .1)), kind-room l)
+    let j = sym (c .before .before .before .judge-kind .ensures) ∙ ap turn-said (c .before .next .given .1) in
+    (past-kind (c .before .before .before .before .before .before .before .loop .inv .0) _ l j, kind-room l)
 
 returns-2 : tie.Need-returns-2 Inv-loop μ-loop
 returns-2 c = search needs

@@ -1,11 +1,11 @@
 use borrow.Author.Needs.{needs}
-use Rattle.register.specs.Ahead.{SomeAhead}
-use Rattle.register.proofs.Walk.{fewer, still-ahead}
+use Rattle.register.specs.Ahead.{OnLinks}
+use Rattle.register.proofs.Walk.{on-start, fewer, still-on}
 use Rattle.vectors.proofs.digest.mix_links.Statement.{statement}
 use Rattle.vectors.proofs.digest.mix_links.Tie as tie
 
 abbrev Inv-loop : tie.InvT-loop
-Inv-loop d s e₀ c₀ e c = SomeAhead s c
+Inv-loop d s e₀ c₀ e c = OnLinks s c
 
 abbrev μ-loop : tie.MeasureT-loop
 μ-loop d s e₀ c₀ e c = c .left
@@ -14,7 +14,7 @@ links-of-requires : tie.Need-links-of-requires Inv-loop μ-loop
 links-of-requires c κs = search needs
 
 loop-holds : tie.Need-loop-holds Inv-loop μ-loop
-loop-holds c = search needs
+loop-holds c = on-start _ _ (c .links-of .ensures) (c .before .before .pre)
 
 next-link-requires : tie.Need-next-link-requires Inv-loop μ-loop
 next-link-requires c κs = search needs
@@ -44,7 +44,7 @@ loop-less : tie.Need-loop-less Inv-loop μ-loop
 loop-less c = fewer _ _ (c .before .before .before .before .before .before .before .before .loop .inv) _ (c .before .before .before .before .before .before .before .next-link .ensures) _ _ _ _ (c .before .before .before .before .before .from .given .1)
 
 loop-again : tie.Need-loop-again Inv-loop μ-loop
-loop-again c = still-ahead _ _ (c .before .before .before .before .before .before .before .before .loop .inv) _ (c .before .before .before .before .before .before .before .next-link .ensures) _ _ _ _ (c .before .before .before .before .before .from .given .1)
+loop-again c = still-on _ _ (c .before .before .before .before .before .before .before .before .loop .inv) _ (c .before .before .before .before .before .before .before .next-link .ensures) _ _ _ _ (c .before .before .before .before .before .from .given .1)
 
 pub mix-links-spec : {M : Type 1} → statement M
 mix-links-spec =

@@ -39,7 +39,7 @@ some-due q e = by-tests (eqb (q .kindless) 0) (eqb (q .left) 0) refl refl e
     by-tests false y a b e = let h : q .kindless ≡ 0 → ⊥ = eqb-false (q .kindless) 0 a in omega arith
 
 pub ready : (st : Position) (s : List ℕ) (at t n : ℕ) → field-at (due-of st) s at ≡ body t n → Ready st (length (take n (drop (at + 3) s)))
-ready Start s at t n e = body-length (found due-head s at t n e) ∙ head-length s at t n e
+ready Start s at t n e = let f = found due-head s at t n e in body-length f ∙ one-due due-head t n refl (f .fit) .1
 ready (Within q) s at t n e =
     let f = found (due-entry q) s at t n e in
-    (body-length f ∙ entry-length q s at t n e, some-due q (f .more))
+    (body-length f ∙ one-due (due-entry q) t n refl (f .fit) .1, some-due q (f .more))

@@ -8,6 +8,7 @@ use lib.Dec.{eqb}
 use lib.ListN.{length}
 use Rattle.theory.specs.Register.{Register, records}
 use Rattle.fields.specs.declared.Due.{Due}
+use Rattle.fields.specs.Table.{tag-length}
 use Rattle.fields.specs.Answer.{Answer, got, onward}
 use Rattle.fields.specs.Said.{refusal-said}
 use Rattle.register.specs.declared.Progress.{Progress}
@@ -17,7 +18,7 @@ use Rattle.register.specs.declared.Turn.{Turn}
 use Rattle.register.specs.declared.Turn.the-variants as turn
 use Rattle.register.specs.declared.Outcome.{Outcome}
 use Rattle.register.specs.declared.Outcome.the-variants as outcome
-use Rattle.register.specs.Form.{due-head, due-entry, head-of, kind-of, link-of}
+use Rattle.register.specs.Form.{due-head, due-tag, due-entry, head-of, kind-of, link-of}
 
 -- ---- the outcome
 -- the numbers of records and links
@@ -50,8 +51,8 @@ judged (position.Within q) at b = entry-of q at b
 
 -- what the code needs of a body's length before it looks
 abbrev pub Ready : Position → ℕ → Type 0
-Ready position.Start n = n ≡ 4
-Ready (position.Within q) n = (n ≡ cond (eqb (q .kindless) 0) 5 1) × (0 < q .kindless + q .left)
+Ready position.Start n = n ≡ tag-length 0x31
+Ready (position.Within q) n = (n ≡ tag-length (due-tag q)) × (0 < q .kindless + q .left)
 
 abbrev pub turn-said : Turn → Answer Progress
 turn-said (turn.Go q) = got q

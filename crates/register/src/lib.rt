@@ -10,6 +10,7 @@ ghost use mathlib.Core.Path.{_≡_};
 ghost use mathlib.Core.Bool.{true};
 ghost use Prim.Native.Nat.{_<_, _≤_};
 ghost use lib.ListN.{length};
+ghost use Rattle.fields.specs.Table.{tag-length};
 ghost use Rattle.fields.specs.Reading.{read};
 ghost use Rattle.theory.specs.Register.{records, kind};
 ghost use Rattle.register.specs.Form.{head-of, kind-of, link-of, key, register-form, register-in};
@@ -63,7 +64,7 @@ pub enum Outcome {
 }
 
 fn judge_head(at: usize, b: &[u8]) -> Turn
-    requires { ⌜ length (now b) ≡ 4 ⌝ }
+    requires { ⌜ length (now b) ≡ tag-length 0x31 ⌝ }
     ensures { λ r. ⌜ turn-said r ≡ head-of at (now (b .entry)) ⌝ }
 {
     let records = fields::two(b, 0);
@@ -84,7 +85,7 @@ fn judge_head(at: usize, b: &[u8]) -> Turn
 }
 
 fn judge_kind(q: Progress, at: usize, b: &[u8]) -> Turn
-    requires { ⌜ (length (now b) ≡ 1) × (0 < q .kindless) ⌝ }
+    requires { ⌜ (length (now b) ≡ tag-length 0x32) × (0 < q .kindless) ⌝ }
     ensures { λ r. ⌜ turn-said r ≡ kind-of q at (now (b .entry)) ⌝ }
 {
     if 64 <= b[0] {
@@ -113,14 +114,14 @@ fn wide(b: u8) -> u64
 
 // From, link and to as one number, by which links ascend.
 fn key_of(b: &[u8]) -> u64
-    requires { ⌜ length (now b) ≡ 5 ⌝ }
+    requires { ⌜ length (now b) ≡ tag-length 0x33 ⌝ }
     ensures { λ r. ⌜ (r ≡ key (now (b .entry))) × (r < 1099511627776) ⌝ }
 {
     (long(fields::two(b, 0)) * 256 + wide(b[2])) * 65536 + long(fields::two(b, 3))
 }
 
 fn judge_link(q: Progress, at: usize, b: &[u8]) -> Turn
-    requires { ⌜ (length (now b) ≡ 5) × (0 < q .left) ⌝ }
+    requires { ⌜ (length (now b) ≡ tag-length 0x33) × (0 < q .left) ⌝ }
     ensures { λ r. ⌜ turn-said r ≡ link-of q at (now (b .entry)) ⌝ }
 {
     let records = q.records;

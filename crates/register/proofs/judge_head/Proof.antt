@@ -1,3 +1,4 @@
+use Rattle.fields.specs.Table.{rows, tag-length}
 use borrow.Author.Tests.{lt-leb, le-leb}
 use borrow.Author.Needs.{needs}
 use Rattle.register.specs.Form.{head-of}
@@ -5,9 +6,11 @@ use Rattle.register.proofs.judge_head.Statement.{statement}
 use Rattle.register.proofs.judge_head.Tie as tie
 
 two-requires : tie.Need-two-requires
+unfolding tag-length rows
 two-requires c κs = search needs
 
 two-requires-2 : tie.Need-two-requires-2
+unfolding tag-length rows
 two-requires-2 c κs = search needs
 
 returns : tie.Need-returns

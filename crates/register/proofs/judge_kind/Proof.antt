@@ -1,3 +1,4 @@
+use Rattle.fields.specs.Table.{rows, tag-length}
 use borrow.Author.Tests.{lt-ltb, le-ltb}
 use borrow.Author.Needs.{needs}
 use Rattle.register.specs.Form.{kind-of}
@@ -5,6 +6,7 @@ use Rattle.register.proofs.judge_kind.Statement.{statement}
 use Rattle.register.proofs.judge_kind.Tie as tie
 
 shared-slice-read-if1 : tie.Need-shared-slice-read-if1
+unfolding tag-length rows
 shared-slice-read-if1 c = search needs
 
 returns : tie.Need-returns

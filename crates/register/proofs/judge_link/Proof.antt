@@ -1,3 +1,4 @@
+use Rattle.fields.specs.Table.{rows, tag-length}
 use borrow.Author.Tests.{lt-ltb, lt-leb, le-ltb, le-leb}
 use borrow.Author.Needs.{needs}
 use Rattle.register.specs.Form.{link-of}
@@ -5,6 +6,7 @@ use Rattle.register.proofs.judge_link.Statement.{statement}
 use Rattle.register.proofs.judge_link.Tie as tie
 
 two-requires : tie.Need-two-requires
+unfolding tag-length rows
 two-requires c κs = search needs
 
 returns : tie.Need-returns
@@ -12,6 +14,7 @@ unfolding link-of
 returns c = simp (le-ltb _ _ (c .if1 .taken), ← c .before .two .ensures)
 
 shared-slice-read-if2 : tie.Need-shared-slice-read-if2
+unfolding tag-length rows
 shared-slice-read-if2 c = search needs
 
 returns-2 : tie.Need-returns-2
@@ -19,6 +22,7 @@ unfolding link-of
 returns-2 c = simp (le-ltb _ _ (c .if2 .taken), lt-ltb _ _ (c .before .before .if1 .left), ← c .before .before .before .two .ensures)
 
 two-requires-2 : tie.Need-two-requires-2
+unfolding tag-length rows
 two-requires-2 c κs = search needs
 
 returns-3 : tie.Need-returns-3

@@ -1,9 +1,11 @@
+use Rattle.fields.specs.Table.{rows, tag-length}
 use Rattle.register.specs.Form.{key}
 use borrow.Author.Needs.{needs}
 use Rattle.register.proofs.key_of.Statement.{statement}
 use Rattle.register.proofs.key_of.Tie as tie
 
 two-requires : tie.Need-two-requires
+unfolding tag-length rows
 two-requires c κs = search needs
 
 long-requires : tie.Need-long-requires
@@ -13,6 +15,7 @@ mul-result : tie.Need-mul-result
 mul-result c = search needs
 
 shared-slice-read-wide : tie.Need-shared-slice-read-wide
+unfolding tag-length rows
 shared-slice-read-wide c = search needs
 
 wide-requires : tie.Need-wide-requires
@@ -25,6 +28,7 @@ mul-result-2 : tie.Need-mul-result-2
 mul-result-2 c = search needs
 
 two-requires-2 : tie.Need-two-requires-2
+unfolding tag-length rows
 two-requires-2 c κs = search needs
 
 long-requires-2 : tie.Need-long-requires-2

@@ -1,5 +1,6 @@
 -- `register::past_kinds` meets its contract.
 -- Assumes nothing.
+use Rattle.fields.specs.Table.{rows, tag-length}
 use Rattle.register.specs.Said.{turn-said}
 use mathlib.Core.Path.{_∙_, sym, ap}
 use lib.ListN.{length-take, length-drop}
@@ -40,6 +41,7 @@ part-judge-kind-end : tie.Need-part-judge-kind-end Inv-loop μ-loop
 part-judge-kind-end c = omega (arith, kind-room (c .before .kind-lies .ensures (c .if1 .taken)))
 
 judge-kind-requires : tie.Need-judge-kind-requires Inv-loop μ-loop
+unfolding tag-length rows
 judge-kind-requires c κs =
     let l = c .before .before .kind-lies .ensures (c .before .if1 .taken) in
     (simp (length-take, length-drop) (omega (arith, kind-room l)), l .due)

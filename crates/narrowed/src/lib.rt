@@ -73,8 +73,8 @@ fn due(st: Standing) -> Due
     match st {
         Standing::Head => Due {
             file: File::Narrowed,
-            lo: 0x41,
-            hi: 0x41,
+            lo: fields::NARROWED_TAG,
+            hi: fields::NARROWED_TAG,
             ends: false,
             over: false,
         },
@@ -82,8 +82,8 @@ fn due(st: Standing) -> Due
             let over = l == 0;
             Due {
                 file: File::Narrowed,
-                lo: 0x42,
-                hi: 0x42,
+                lo: fields::MEMBER_TAG,
+                hi: fields::MEMBER_TAG,
                 ends: over,
                 over,
             }
@@ -256,7 +256,7 @@ fn look(s: &[u8], st: Standing, at: usize) -> Turn
         Seen::Ends => Turn::Ends,
         Seen::Wrong(r) => Turn::Stop(r),
         Seen::Body(tag, len) => {
-            let next = at + 3 + len as usize;
+            let next = at + fields::HEAD + len as usize;
             judge(st, at, next, tag, reader::body_at(s, at))
         }
     }
@@ -267,7 +267,7 @@ fn next_at(s: &[u8], at: usize) -> usize
     requires { ⌜ at + 3 + word (now s) (at + 1) ≤ length (now s) ⌝ }
     ensures { λ r. ⌜ r ≡ at + 3 + word (now (s .entry)) (at + 1) ⌝ }
 {
-    at + 3 + fields::two(s, at + 1) as usize
+    at + fields::HEAD + fields::two(s, at + 1) as usize
 }
 
 // After the file's head or a member's.

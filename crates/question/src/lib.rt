@@ -42,8 +42,8 @@ fn due(st: Standing) -> Due
     match st {
         Standing::Head => Due {
             file: File::Question,
-            lo: 0x21,
-            hi: 0x21,
+            lo: fields::QUESTION_TAG,
+            hi: fields::QUESTION_TAG,
             ends: false,
             over: false,
         },
@@ -120,7 +120,7 @@ pub fn read(s: &[u8]) -> Question
                 return refused(r);
             }
             Seen::Body(tag, len) => {
-                let next = at + 3 + len as usize;
+                let next = at + fields::HEAD + len as usize;
                 match judge(st, at, next, tag, reader::body_at(s, at)) {
                     Turn::Stop(r) => {
                         return refused(r);

@@ -57,15 +57,15 @@ fn due(st: Standing) -> Due
     match st {
         Standing::Head => Due {
             file: File::Sheet,
-            lo: 0x11,
-            hi: 0x11,
+            lo: fields::SHEET_TAG,
+            hi: fields::SHEET_TAG,
             ends: false,
             over: false,
         },
         Standing::Within(q) => Due {
             file: File::Sheet,
-            lo: 0x12,
-            hi: 0x12,
+            lo: fields::TRIPLE_TAG,
+            hi: fields::TRIPLE_TAG,
             ends: true,
             over: q.count == 512,
         },
@@ -198,7 +198,7 @@ pub fn read(s: &[u8]) -> Reading
                 return refused(r);
             }
             Seen::Body(_, len) => {
-                let next = at + 3 + len as usize;
+                let next = at + fields::HEAD + len as usize;
                 match judge(st, at, reader::body_at(s, at)) {
                     Turn::Stop(r) => {
                         return refused(r);

@@ -56,10 +56,10 @@ pub fn symbol_in(at: usize, tag: u8, b: &[u8]) -> Read
     requires { ⌜ length (now b) ≡ symbol-length tag ⌝ }
     ensures { λ r. ⌜ symbol-said r ≡ symbol-in at tag (now (b .entry)) ⌝ }
 {
-    if tag == 0x43 {
+    if tag == fields::STEP_TAG {
         return step_in(at, b);
     }
-    if tag == 0x44 {
+    if tag == fields::OPERATOR_TAG {
         return operator_in(at, b);
     }
     Read::Is(Symbol {
@@ -119,8 +119,8 @@ pub fn symbols_due(file: File, q: Stack) -> Due
     let over = q.left == 0;
     Due {
         file,
-        lo: 0x43,
-        hi: 0x45,
+        lo: fields::STEP_TAG,
+        hi: fields::THROUGH_TAG,
         ends: over,
         over,
     }

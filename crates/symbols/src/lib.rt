@@ -1,9 +1,10 @@
 // The symbols of a path: what a symbol's field holds, and the counting of operands.
 use fields::Due;
 use fields::File;
+use fields::Link;
 use fields::Refusal;
 ghost use mathlib.Core.Path.{_≡_};
-ghost use Prim.Native.Nat.{_<_};
+ghost use Prim.Native.Nat.{_<_, _%_};
 ghost use lib.ListN.{length};
 ghost use Rattle.symbols.specs.Symbols.{symbol-length, step-of, operator-of, symbol-in, push, arity, due-symbols};
 ghost use Rattle.symbols.specs.Said.{symbol-said, push-said};
@@ -66,6 +67,13 @@ pub fn symbol_in(at: usize, tag: u8, b: &[u8]) -> Read
         number: 255,
         set: fields::eight_at(b, 0),
     })
+}
+
+// The link of a step, forward or reverse, by its number.
+pub fn step_link(number: u8) -> Link
+    ensures { λ r. ⌜ (r .0 ≡ number % 64) × (r .0 < 64) ⌝ }
+{
+    Link(number % 64)
 }
 
 // How many paths a symbol takes.

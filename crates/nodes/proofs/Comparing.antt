@@ -109,7 +109,7 @@ module _ {qs ws : List ℕ} {used a b : ℕ} (ha : Has qs ws used a) (hb : Has q
       pub rights-has : Has qs ws used (x .right) × Has qs ws used (y .right)
       rights-has = (right-has ha x ex l n, right-has hb y ey l′ n′)
 
-      pub kinds-differ : x .made ≡ 128 → ¬ (node-at ws (x .left) .to ≡ node-at ws (y .left) .to) → Same false
+      pub kinds-differ : x .made ≡ 128 → ¬ (node-at ws (x .left) .to .0 ≡ node-at ws (y .left) .to .0) → Same false
       kinds-differ j k = decides-no (λ e. k (singleton-inj _ _ (join-inj (sym (join-path ha x ex l n j) ∙ e ∙ join-path hb y ey l′ n′ (sym m ∙ j)) .0)))
 
       -- the operator of both
@@ -129,7 +129,7 @@ module _ {qs ws : List ℕ} {used a b : ℕ} (ha : Has qs ws used a) (hb : Has q
       pub rights-differ : ¬ (node-at ws (x .right) .made ≡ node-at ws (y .right) .made) → Same false
       rights-differ k = decides-no (λ e. k (sym (last-made (rights-has .0) _ refl) ∙ ap last-code (operands e .1) ∙ last-made (rights-has .1) _ refl))
 
-      pub same-rights : {r : Bool} → (x .made ≡ 128 → node-at ws (x .left) .to ≡ node-at ws (y .left) .to) → Left → Decides Right r → Same r
+      pub same-rights : {r : Bool} → (x .made ≡ 128 → node-at ws (x .left) .to .0 ≡ node-at ws (y .left) .to .0) → Left → Decides Right r → Same r
       same-rights k el d = decides-as alike (λ e. operands e .1) d
         where
           alike : Right → triple-of qs ws a .path ≡ triple-of qs ws b .path
@@ -156,20 +156,20 @@ module _ (qs ws : List ℕ) (a b : ℕ) {x y : Node} (ex : x ≡ node-at ws a) (
   abbrev t : Triple
   t = triple-of qs ws b
 
-  froms : (x .from ≡ y .from) ↔ (s .from ≡ t .from)
+  froms : (x .from .0 ≡ y .from .0) ↔ (s .from ≡ t .from)
   froms = rw (triple-from qs ws a, triple-from qs ws b, ← ex, ← ey) ((λ e. e), (λ e. e))
 
-  tos : (x .to ≡ y .to) ↔ (s .to ≡ t .to)
+  tos : (x .to .0 ≡ y .to .0) ↔ (s .to ≡ t .to)
   tos = rw (triple-to qs ws a, triple-to qs ws b, ← ex, ← ey) ((λ e. e), (λ e. e))
 
-  pub from-differ : ¬ (x .from ≡ y .from) → false ≡ triple? s t
+  pub from-differ : ¬ (x .from .0 ≡ y .from .0) → false ≡ triple? s t
   unfolding triple?
   from-differ n = rw (ne-eqb (s .from) (t .from) (λ e. n (froms .1 e)))
 
-  pub to-differ : x .from ≡ y .from → ¬ (x .to ≡ y .to) → false ≡ triple? s t
+  pub to-differ : x .from .0 ≡ y .from .0 → ¬ (x .to .0 ≡ y .to .0) → false ≡ triple? s t
   unfolding triple?
   to-differ e n = rw (eq-eqb (s .from) (t .from) (froms .0 e), ne-eqb (s .to) (t .to) (λ f. n (tos .1 f)))
 
-  pub paths-decide : {r : Bool} → x .from ≡ y .from → x .to ≡ y .to → Decides (s .path ≡ t .path) r → r ≡ triple? s t
+  pub paths-decide : {r : Bool} → x .from .0 ≡ y .from .0 → x .to .0 ≡ y .to .0 → Decides (s .path ≡ t .path) r → r ≡ triple? s t
   unfolding triple?
   paths-decide e f d = rw (eq-eqb (s .from) (t .from) (froms .0 e), eq-eqb (s .to) (t .to) (tos .0 f)) (path-test (s .path) (t .path) d)

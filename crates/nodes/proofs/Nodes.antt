@@ -56,7 +56,7 @@ module _ {qs ws : List ℕ} {used i : ℕ} (h : Has qs ws used i) (n : Node) (e 
     pub right-has : Has qs ws used (n .right)
     right-has = record { in-use = omega (arith, right-less, h .in-use); in-table = h .in-table; sound = h .sound }
 
-    pub join-path : n .made ≡ 128 → triple-of qs ws i .path ≡ join (through (singleton (node-at ws (n .left) .to))) (triple-of qs ws (n .left) .path) (triple-of qs ws (n .right) .path)
+    pub join-path : n .made ≡ 128 → triple-of qs ws i .path ≡ join (through (singleton (node-at ws (n .left) .to .0))) (triple-of qs ws (n .left) .path) (triple-of qs ws (n .right) .path)
     join-path j =
         rw (e, ← triple-to qs ws (node-at ws i .left)) (path-join qs ws i (below .left-below) (below .right-below) any (join-number (node-at ws i .made) 0 (rw e at l) (rw e at j)))
 

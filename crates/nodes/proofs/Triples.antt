@@ -45,11 +45,11 @@ triple-two qs ws i l r =
     (triple-same i (suc (node-at ws i .right)) qs ws ws (node-at ws i .right) r (omega arith) (λ k h. refl)))
 
 module _ (qs ws : List ℕ) (i : ℕ) where
-  pub triple-from : triple-of qs ws i .from ≡ node-at ws i .from
+  pub triple-from : triple-of qs ws i .from ≡ node-at ws i .from .0
   unfolding triple-of triple-at
   triple-from = refl
 
-  pub triple-to : triple-of qs ws i .to ≡ node-at ws i .to
+  pub triple-to : triple-of qs ws i .to ≡ node-at ws i .to .0
   unfolding triple-of triple-at
   triple-to = refl
 

@@ -32,7 +32,7 @@ built qs n x y (s-op o) = op o (x .path) (y .path)
 built qs n x y s-closure = closure (original qs (n .left) (n .right))
 
 abbrev pub of-node : List ℕ → Node → Triple → Triple → Triple
-of-node qs n x y = triple (n .from) (built qs n x y (symbol-numbered (n .made) 0)) (n .to)
+of-node qs n x y = triple (n .from .0) (built qs n x y (symbol-numbered (n .made) 0)) (n .to .0)
 
 -- the triple of node i, with fuel; an operand that is not below its node counts as none
 unfoldable pub triple-at : ℕ → List ℕ → List ℕ → ℕ → Triple

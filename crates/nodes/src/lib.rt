@@ -1,4 +1,5 @@
 // A table of nodes in lent words: a word holds a node, and a node stands for a triple.
+use fields::Kind;
 ghost use mathlib.Core.Path.{_≡_};
 ghost use mathlib.Core.List.{[], _∷_};
 ghost use Prim.Native.Nat.{ℕ, _+_, _-_, _<_, _≤_};
@@ -18,8 +19,8 @@ pub struct Node {
     pub left: usize,
     pub right: usize,
     pub size: usize,
-    pub from: usize,
-    pub to: usize,
+    pub from: Kind,
+    pub to: Kind,
 }
 
 pub fn load(words: &[u64], i: usize) -> Node
@@ -32,8 +33,8 @@ pub fn load(words: &[u64], i: usize) -> Node
         left: x / 64 / 64 / 64 / 4096 % 4096,
         right: x / 64 / 64 / 64 % 4096,
         size: x / 64 / 64 % 64,
-        from: x / 64 % 64,
-        to: x % 64,
+        from: Kind((x / 64 % 64) as u8),
+        to: Kind((x % 64) as u8),
     }
 }
 
@@ -41,7 +42,9 @@ pub fn store(words: &mut [u64], i: usize, n: Node)
     requires { ⌜ (i < length (now words)) × InRange n ⌝ }
     ensures { λ _. ⌜ now (words .exit) ≡ set (now (words .entry)) i (word-of n) ⌝ }
 {
-    let x = ((((n.made * 4096 + n.left) * 4096 + n.right) * 64 + n.size) * 64 + n.from) * 64 + n.to;
+    let x = ((((n.made * 4096 + n.left) * 4096 + n.right) * 64 + n.size) * 64 + n.from.0 as usize)
+        * 64
+        + n.to.0 as usize;
     words[i] = x as u64;
 }
 
@@ -96,7 +99,7 @@ pub fn expand(
     let mid = expand(words, used, question, left, codes, vias, at);
     let end = expand(words, used, question, right, codes, vias, mid);
     if made == 128 {
-        let k = load(words, left).to;
+        let k = load(words, left).to.0;
         return mark(codes, vias, end, 128, 1 << k);
     }
     mark(codes, vias, end, made, 0)
@@ -145,7 +148,7 @@ pub fn same_path(words: &[u64], used: usize, question: &[u8], a: usize, b: usize
         return false;
     }
     if made == 128 {
-        if load(words, x.left).to != load(words, y.left).to {
+        if load(words, x.left).to.0 != load(words, y.left).to.0 {
             return false;
         }
     }
@@ -162,10 +165,10 @@ pub fn same(words: &[u64], used: usize, question: &[u8], a: usize, b: usize) -> 
 {
     let x = load(words, a);
     let y = load(words, b);
-    if x.from != y.from {
+    if x.from.0 != y.from.0 {
         return false;
     }
-    if x.to != y.to {
+    if x.to.0 != y.to.0 {
         return false;
     }
     same_path(words, used, question, a, b)

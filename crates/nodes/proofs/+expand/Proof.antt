@@ -69,6 +69,9 @@ expand-expand-requires-2 t c κs = (subst (λ (j : ℕ). c .before .before .befo
 expand-load-requires-2 : (t : ℕ) → expand-lts.Need-load-requires-2 (callees t) (expand-at t) expand.Post
 expand-load-requires-2 t c κs = let h = left-ready (c .before .before .before .before .before .before .before .before .before .before .before .before .before .before .before .before .before .before .before .before .before .before .pre .1) _ (c .before .before .before .before .before .before .before .before .before .before .before .before .before .before .before .before .before .load .ensures .is) (c .before .before .before .before .before .before .before .before .before .before .before .before .before .before .before .before .if1 .left) (c .before .before .before .before .before .before .before .before .before .before .before .before .before .before .before .if2 .left) in omega (arith, h .has .in-use, h .has .in-table)
 
+expand-cast-mark : (t : ℕ) → expand-lts.Need-cast-mark (callees t) (expand-at t) expand.Post
+expand-cast-mark t c = omega arith
+
 expand-shl-mark : (t : ℕ) → expand-lts.Need-shl-mark (callees t) (expand-at t) expand.Post
 expand-shl-mark t c = omega arith
 
@@ -82,7 +85,7 @@ expand-same-length-6 : (t : ℕ) → expand-lts.Need-same-length-6 (callees t) (
 expand-same-length-6 t c = c .before .before .before .before .mark3 .ensures .sets-length ∙ c .before .before .before .before .before .before .before .before .before .before .before .before .before .expand2 .ensures .sets-length ∙ c .before .before .before .before .before .before .before .before .before .before .before .before .before .before .before .before .before .before .before .before .expand .ensures .sets-length
 
 expand-returns-3 : (t : ℕ) → expand-lts.Need-returns-3 (callees t) (expand-at t) expand.Post
-expand-returns-3 t c = join-done (c .before .before .before .before .before .before .before .before .before .before .before .before .before .before .before .before .before .before .before .before .before .before .before .before .before .before .before .before .before .before .pre .1) _ (c .before .before .before .before .before .before .before .before .before .before .before .before .before .before .before .before .before .before .before .before .before .before .before .before .before .load .ensures .is) (c .before .before .before .before .before .before .before .before .before .before .before .before .before .before .before .before .before .before .before .before .before .before .before .before .if1 .left) (c .before .before .before .before .before .before .before .before .before .before .before .before .before .before .before .before .before .before .before .before .before .before .before .if2 .left) (c .before .before .before .before .before .before .before .before .before .before .before .before .before .before .before .before .before .before .before .before .expand .ensures) (c .before .before .before .before .before .before .before .before .before .before .before .before .before .expand2 .ensures) (c .before .before .before .before .before .before .before .before .if3 .taken) (shl-singleton _ (c .before .before .before .before .before .before .before .load2 .ensures .to-small) ∙ ap (λ (n : Node). singleton (n .to)) (c .before .before .before .before .before .before .before .load2 .ensures .is)) (c .before .before .before .before .mark3 .ensures)
+expand-returns-3 t c = join-done (c .before .before .before .before .before .before .before .before .before .before .before .before .before .before .before .before .before .before .before .before .before .before .before .before .before .before .before .before .before .before .pre .1) _ (c .before .before .before .before .before .before .before .before .before .before .before .before .before .before .before .before .before .before .before .before .before .before .before .before .before .load .ensures .is) (c .before .before .before .before .before .before .before .before .before .before .before .before .before .before .before .before .before .before .before .before .before .before .before .before .if1 .left) (c .before .before .before .before .before .before .before .before .before .before .before .before .before .before .before .before .before .before .before .before .before .before .before .if2 .left) (c .before .before .before .before .before .before .before .before .before .before .before .before .before .before .before .before .before .before .before .before .expand .ensures) (c .before .before .before .before .before .before .before .before .before .before .before .before .before .expand2 .ensures) (c .before .before .before .before .before .before .before .before .if3 .taken) (shl-singleton _ (c .before .before .before .before .before .before .before .load2 .ensures .to-small) ∙ ap (λ (n : Node). singleton (n .to .0)) (c .before .before .before .before .before .before .before .load2 .ensures .is)) (c .before .before .before .before .mark3 .ensures)
 
 expand-mark-requires-4 : (t : ℕ) → expand-lts.Need-mark-requires-4 (callees t) (expand-at t) expand.Post
 expand-mark-requires-4 t c κs = last-room (c .before .before .before .before .before .before .before .before .before .before .before .before .before .before .before .before .before .before .before .before .before .before .before .before .pre .1) _ (c .before .before .before .before .before .before .before .before .before .before .before .before .before .before .before .before .before .before .before .load .ensures .is) (c .before .before .before .before .before .before .before .before .before .before .before .before .before .before .before .before .before .before .if1 .left) (c .before .before .before .before .before .before .before .before .before .before .before .before .before .before .before .before .before .if2 .left) (c .before .before .before .before .before .before .before .before .before .before .before .before .before .before .expand .ensures) (c .before .before .before .before .before .before .before .expand2 .ensures)
@@ -113,6 +116,7 @@ pub +expand-spec : {M : Type 1} → statement M
     (expand-expand-requires t)
     (expand-expand-requires-2 t)
     (expand-load-requires-2 t)
+    (expand-cast-mark t)
     (expand-shl-mark t)
     (expand-mark-requires-3 t)
     (expand-same-length-5 t)

@@ -68,7 +68,7 @@ same-path-load-requires-6 : (t : ℕ) → same-path-lts.Need-load-requires-6 (ca
 same-path-load-requires-6 t c κs = let h = lefts-has (c .before .before .before .before .before .before .before .before .before .before .before .before .before .before .before .before .pre .1 .0) (c .before .before .before .before .before .before .before .before .before .before .before .before .before .before .before .before .pre .1 .1) (c .before .before .before .before .before .before .before .before .before .before .before .before .load .ensures .is) (c .before .before .before .before .before .before .before .before .before .before .before .load2 .ensures .is) (c .before .before .before .before .before .before .before .before .before .if2 .left) (c .before .before .before .before .before .before .before .before .if3 .left) (c .before .before .before .before .before .before .before .if4 .left) .1 in omega arith
 
 same-path-returns-6 : (t : ℕ) → same-path-lts.Need-returns-6 (callees t) (same-path-at t) same-path.Post
-same-path-returns-6 t c = kinds-differ (c .before .before .before .before .before .before .before .before .before .before .before .before .before .before .before .before .before .before .before .before .pre .1 .0) (c .before .before .before .before .before .before .before .before .before .before .before .before .before .before .before .before .before .before .before .before .pre .1 .1) (c .before .before .before .before .before .before .before .before .before .before .before .before .before .before .before .before .load .ensures .is) (c .before .before .before .before .before .before .before .before .before .before .before .before .before .before .before .load2 .ensures .is) (c .before .before .before .before .before .before .before .before .before .before .before .before .before .if2 .left) (c .before .before .before .before .before .before .before .before .before .before .before .before .if3 .left) (c .before .before .before .before .before .before .before .before .before .before .before .if4 .left) (c .before .before .before .before .before .if6 .taken) (λ e. c .if7 .taken (ap (λ (n : Node). n .to) (c .before .before .before .before .load5 .ensures .is) ∙ e ∙ sym (ap (λ (n : Node). n .to) (c .before .before .before .load6 .ensures .is))))
+same-path-returns-6 t c = kinds-differ (c .before .before .before .before .before .before .before .before .before .before .before .before .before .before .before .before .before .before .before .before .pre .1 .0) (c .before .before .before .before .before .before .before .before .before .before .before .before .before .before .before .before .before .before .before .before .pre .1 .1) (c .before .before .before .before .before .before .before .before .before .before .before .before .before .before .before .before .load .ensures .is) (c .before .before .before .before .before .before .before .before .before .before .before .before .before .before .before .load2 .ensures .is) (c .before .before .before .before .before .before .before .before .before .before .before .before .before .if2 .left) (c .before .before .before .before .before .before .before .before .before .before .before .before .if3 .left) (c .before .before .before .before .before .before .before .before .before .before .before .if4 .left) (c .before .before .before .before .before .if6 .taken) (λ e. c .if7 .taken (ap (λ (n : Node). n .to .0) (c .before .before .before .before .load5 .ensures .is) ∙ e ∙ sym (ap (λ (n : Node). n .to .0) (c .before .before .before .load6 .ensures .is))))
 
 same-path-same-path-requires : (t : ℕ) → same-path-lts.Need-same-path-requires (callees t) (same-path-at t) same-path.Post
 same-path-same-path-requires t c κs = (subst (λ (j : ℕ). c .before .before .before .before .before .before .before .before .before .before .before .load .result .left < j) (c .before .before .before .before .before .before .before .before .before .before .before .before .before .before .before .pre .0) (left-less (c .before .before .before .before .before .before .before .before .before .before .before .before .before .before .before .pre .1 .0) _ (c .before .before .before .before .before .before .before .before .before .before .before .load .ensures .is) (c .before .before .before .before .before .before .before .if3 .left) (c .before .before .before .before .before .before .if4 .left)), lefts-has (c .before .before .before .before .before .before .before .before .before .before .before .before .before .before .before .pre .1 .0) (c .before .before .before .before .before .before .before .before .before .before .before .before .before .before .before .pre .1 .1) (c .before .before .before .before .before .before .before .before .before .before .before .load .ensures .is) (c .before .before .before .before .before .before .before .before .before .before .load2 .ensures .is) (c .before .before .before .before .before .before .before .before .if2 .left) (c .before .before .before .before .before .before .before .if3 .left) (c .before .before .before .before .before .before .if4 .left))
@@ -82,7 +82,7 @@ same-path-same-path-requires-2 t c κs = (subst (λ (j : ℕ). c .before .before
 same-path-returns-8 : (t : ℕ) → same-path-lts.Need-returns-8 (callees t) (same-path-at t) same-path.Post
 same-path-returns-8 t c =
     same-rights (c .before .before .before .before .before .before .before .before .before .before .before .before .before .before .before .before .before .before .pre .1 .0) (c .before .before .before .before .before .before .before .before .before .before .before .before .before .before .before .before .before .before .pre .1 .1) (c .before .before .before .before .before .before .before .before .before .before .before .before .before .before .load .ensures .is) (c .before .before .before .before .before .before .before .before .before .before .before .before .before .load2 .ensures .is) (c .before .before .before .before .before .before .before .before .before .before .before .if2 .left) (c .before .before .before .before .before .before .before .before .before .before .if3 .left) (c .before .before .before .before .before .before .before .before .before .if4 .left)
-    (⊎-elim (λ w j. sym (ap (λ (n : Node). n .to) (w .1 .ensures .is)) ∙ w .5 .left ∙ ap (λ (n : Node). n .to) (w .2 .ensures .is)) (λ w j. absurd (w .left j)) (c .before .before .before .if6 .came))
+    (⊎-elim (λ w j. sym (ap (λ (n : Node). n .to .0) (w .1 .ensures .is)) ∙ w .5 .left ∙ ap (λ (n : Node). n .to .0) (w .2 .ensures .is)) (λ w j. absurd (w .left j)) (c .before .before .before .if6 .came))
     (c .before .before .same-path .ensures .holds (not-false _ (c .before .if8 .left))) (c .same-path2 .ensures)
 
 pub +same-path-spec : {M : Type 1} → statement M

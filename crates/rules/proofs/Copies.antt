@@ -59,8 +59,8 @@ module _ {qs ws : List ℕ} {s count i : ℕ} {n : Node} (h : Room qs ws s count
   -- equal ends and equal paths
   whole : triple-of qs ws′ u .path ≡ triple-of qs ws i .path → triple-of qs ws′ u ≡ triple-of qs ws i
   whole p =
-      let a : triple-of qs ws′ u .from ≡ triple-of qs ws i .from = triple-from qs ws′ u ∙ ap (λ (m : Node). m .from) (new ∙ l .is) ∙ sym (triple-from qs ws i) in
-      let b : triple-of qs ws′ u .to ≡ triple-of qs ws i .to = triple-to qs ws′ u ∙ ap (λ (m : Node). m .to) (new ∙ l .is) ∙ sym (triple-to qs ws i) in
+      let a : triple-of qs ws′ u .from ≡ triple-of qs ws i .from = triple-from qs ws′ u ∙ ap (λ (m : Node). m .from .0) (new ∙ l .is) ∙ sym (triple-from qs ws i) in
+      let b : triple-of qs ws′ u .to ≡ triple-of qs ws i .to = triple-to qs ws′ u ∙ ap (λ (m : Node). m .to .0) (new ∙ l .is) ∙ sym (triple-to qs ws i) in
       λ j. record { from = a j; path = p j; to = b j }
 
   two-same : 128 ≤ n .made → ¬ (n .made ≡ 133) → triple-of qs ws′ u ≡ triple-of qs ws i

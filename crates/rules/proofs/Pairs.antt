@@ -28,11 +28,11 @@ use Rattle.rules.proofs.Grows.{none-added, one-added}
 
 -- ---- a loaded node has its triple's ends and size
 module _ (qs : List ℕ) {ws : List ℕ} {i : ℕ} {x : Node} (l : Loaded ws i x) where
-  pub from-is : x .from ≡ triple-of qs ws i .from
-  from-is = ap (λ (m : Node). m .from) (l .is) ∙ sym (triple-from qs ws i)
+  pub from-is : x .from .0 ≡ triple-of qs ws i .from
+  from-is = ap (λ (m : Node). m .from .0) (l .is) ∙ sym (triple-from qs ws i)
 
-  to-is : x .to ≡ triple-of qs ws i .to
-  to-is = ap (λ (m : Node). m .to) (l .is) ∙ sym (triple-to qs ws i)
+  to-is : x .to .0 ≡ triple-of qs ws i .to
+  to-is = ap (λ (m : Node). m .to .0) (l .is) ∙ sym (triple-to qs ws i)
 
   size-is : {u : ℕ} → Sound qs ws u → i < u → size (triple-of qs ws i .path) ≡ x .size
   size-is h b = h .good i b .sized ∙ ap (λ (m : Node). m .size) (sym (l .is))

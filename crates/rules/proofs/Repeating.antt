@@ -25,7 +25,7 @@ use Rattle.rules.proofs.Pairs.{from-is}
 pub not-alike : (qs ws : List ℕ) (i j : ℕ) → Alike qs ws i j false
 not-alike qs ws i j = record { same-from = λ e. absurd (true≢false (sym e)); same-path = λ e. absurd (true≢false (sym e)) }
 
-pub alike-paths : {qs ws : List ℕ} {i j : ℕ} {x y : Node} {r : Bool} → Loaded ws i x → Loaded ws j y → x .from ≡ y .from → Decides (triple-of qs ws i .path ≡ triple-of qs ws j .path) r → Alike qs ws i j r
+pub alike-paths : {qs ws : List ℕ} {i j : ℕ} {x y : Node} {r : Bool} → Loaded ws i x → Loaded ws j y → x .from .0 ≡ y .from .0 → Decides (triple-of qs ws i .path ≡ triple-of qs ws j .path) r → Alike qs ws i j r
 alike-paths {qs} lx ly e d = record { same-from = λ _. sym (from-is qs lx) ∙ e ∙ from-is qs ly; same-path = d .holds }
 
 -- ---- the search

@@ -4,11 +4,12 @@ use mathlib.Core.Path.{_≡_, sym, ap, _∙_, subst}
 use mathlib.Core.Bool.{Bool, true, false}
 use mathlib.Core.Logic.{⊎-elim}
 use mathlib.Core.List.{List}
-use Prim.Native.Nat.{ℕ, _+_, _-_, _<_, _≤_}
+use Prim.Native.Nat.{ℕ, _+_, _-_, _%_, _<_, _≤_}
 use native.Mathlib.Omega.{arith}
 use lib.Dec.{T, le→leb}
-use lib.ListN.{length, set}
+use lib.ListN.{length, getD, set}
 use borrow.Author.Tests.{lt-ltb, le-ltb}
+use Rattle.bits.specs.Bit.{bitOf}
 use Rattle.theory.specs.Lists.{adjoin-all}
 use Rattle.theory.specs.PathExpr.{s-step, size}
 use Rattle.theory.specs.Inference.{Triple, triple, triple?, distinct}
@@ -17,6 +18,7 @@ use Rattle.theory.proofs.Tests.{to-true}
 use Rattle.theory.proofs.Lists.{in-every}
 use Rattle.theory.proofs.Triples.{in-between}
 use Rattle.symbols.specs.Symbols.{symbol-numbered}
+use Rattle.sheet.specs.Table.{cell, tabled?}
 use Rattle.rows.proofs.Words.{le-or-lt}
 use Rattle.nodes.specs.declared.Node.{Node}
 use Rattle.nodes.specs.Table.{word-of, InRange, node-at}
@@ -36,9 +38,19 @@ pub code-step : (c : ℕ) → c < 128 → symbol-numbered c 0 ≡ s-step (direct
 unfolding symbol-numbered
 code-step c h = ⊎-elim (λ l. rw (le-ltb c 64 l, lt-ltb c 128 h)) (λ l. rw (lt-ltb c 64 l)) (le-or-lt 64 c)
 
+-- ---- one bit of the table, by the step's link
+module _ (t : List ℕ) (c a b : ℕ) {l i : ℕ} {r : Bool} (k : l ≡ c % 64) where
+  pub forward-marked : c < 64 → i ≡ cell a l → r ≡ bitOf (getD t i 0) b → r ≡ marked? t c a b
+  unfolding marked? tabled?
+  forward-marked h e d = let m : l ≡ c = omega arith in rw (lt-ltb c 64 h, ← m, ← e) d
+
+  pub reverse-marked : 64 ≤ c → c < 128 → i ≡ cell b l → r ≡ bitOf (getD t i 0) a → r ≡ marked? t c a b
+  unfolding marked? tabled?
+  reverse-marked h n e d = let m : l ≡ c - 64 = omega arith in rw (le-ltb c 64 h, ← m, ← e) d
+
 -- ---- one triple
 abbrev pub step-node : ℕ → ℕ → ℕ → Node
-step-node c a b = record { made = c; left = 0; right = 0; size = 1; from = a; to = b }
+step-node c a b = record { made = c; left = 0; right = 0; size = 1; from = record { 0 = a }; to = record { 0 = b } }
 
 module _ {qs ws : List ℕ} {c s count a b : ℕ} (h : AddMark qs ws c s count a b) where
   abbrev n : Node
@@ -69,8 +81,8 @@ module _ {qs ws : List ℕ} {c s count a b : ℕ} (h : AddMark qs ws c s count a
 
   triple-is : triple-of qs ws′ (s + count) ≡ triple a (step-of c) b
   triple-is =
-      let e : triple-of qs ws′ (s + count) .from ≡ a = triple-from qs ws′ (s + count) ∙ ap (λ (m : Node). m .from) new in
-      let f : triple-of qs ws′ (s + count) .to ≡ b = triple-to qs ws′ (s + count) ∙ ap (λ (m : Node). m .to) new in
+      let e : triple-of qs ws′ (s + count) .from ≡ a = triple-from qs ws′ (s + count) ∙ ap (λ (m : Node). m .from .0) new in
+      let f : triple-of qs ws′ (s + count) .to ≡ b = triple-to qs ws′ (s + count) ∙ ap (λ (m : Node). m .to .0) new in
       λ i. record { from = e i; path = path-is i; to = f i }
 
   pub mark-candidate : Candidate qs ws s count (step-node c a b)

@@ -90,7 +90,7 @@ module _ (made : ℕ) (h : Paired made) where
   unfolding giving
   giving-size x y = paired-case (λ m. size (giving m x y .path) ≡ suc (size (x .path) + size (y .path))) refl refl refl refl made h
 
-  pub node-gives : (qs : List ℕ) (i j : ℕ) (x y : Node) (X Y : Triple) → x .from ≡ X .from → x .to ≡ X .to → y .to ≡ Y .to → of-node qs (pair-node made i j x y) X Y ≡ giving made X Y
+  pub node-gives : (qs : List ℕ) (i j : ℕ) (x y : Node) (X Y : Triple) → x .from .0 ≡ X .from → x .to .0 ≡ X .to → y .to .0 ≡ Y .to → of-node qs (pair-node made i j x y) X Y ≡ giving made X Y
   unfolding symbol-numbered giving
   node-gives qs i j x y X Y e f g = paired-case (λ m. of-node qs (pair-node m i j x y) X Y ≡ giving m X Y) (rw (e, g)) (rw (e, f)) (rw (e, f)) (rw (e, g)) made h
 
@@ -100,7 +100,7 @@ unfolding of-two symbol-numbered
 left-rows x y zs e f = rw (e, f)
 
 -- ---- the ends alone
-pub fitting-ends : (made : ℕ) (x y : Node) (X Y : Triple) → x .from ≡ X .from → x .to ≡ X .to → y .from ≡ Y .from → y .to ≡ Y .to → fitting made (ends-of x) (ends-of y) ≡ fitting made X Y
+pub fitting-ends : (made : ℕ) (x y : Node) (X Y : Triple) → x .from .0 ≡ X .from → x .to .0 ≡ X .to → y .from .0 ≡ Y .from → y .to .0 ≡ Y .to → fitting made (ends-of x) (ends-of y) ≡ fitting made X Y
 unfolding fitting
 fitting-ends made x y X Y a b c d = rw (a, b, c, d)
 

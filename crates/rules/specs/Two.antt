@@ -37,12 +37,12 @@ giving made x y = cond (eqb made 130) (conjoined x y) (cond (eqb made 131) (bran
 
 -- a node's two ends, as a triple
 abbrev pub ends-of : Node → Triple
-ends-of n = triple (n .from) (step forward 0) (n .to)
+ends-of n = triple (n .from .0) (step forward 0) (n .to .0)
 
 -- the node of a pair of nodes x and y, which stand at i and j
 abbrev pub pair-node : ℕ → ℕ → ℕ → Node → Node → Node
 pair-node made i j x y =
-    record { made = made; left = i; right = j; size = x .size + y .size + 1; from = x .from; to = giving made (ends-of x) (ends-of y) .to }
+    record { made = made; left = i; right = j; size = x .size + y .size + 1; from = x .from; to = record { 0 = giving made (ends-of x) (ends-of y) .to } }
 
 -- where they fit, the pair's path has at most 48 symbols
 abbrev pub pair-short? : ℕ → Node → Node → Bool

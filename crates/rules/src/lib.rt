@@ -1,4 +1,5 @@
 // The rules of inference that make a part of the table of nodes: of a sheet's table, and of parts of the table.
+use fields::Kind;
 use nodes::Node;
 ghost use mathlib.Core.Path.{_≡_};
 ghost use Prim.Native.Nat.{_+_, _<_, _≤_};
@@ -30,20 +31,20 @@ fn fits(made: usize, x: Node, y: Node) -> bool
     ensures { λ r. ⌜ r ≡ fitting made (ends-of x) (ends-of y) ⌝ }
 {
     if made == 130 {
-        if x.from != y.from {
+        if x.from.0 != y.from.0 {
             return false;
         }
-        return x.to == y.to;
+        return x.to.0 == y.to.0;
     }
     if made == 132 {
-        return x.from == y.from;
+        return x.from.0 == y.from.0;
     }
-    x.to == y.from
+    x.to.0 == y.from.0
 }
 
 // The to kind of a pair's triple.
-fn last(made: usize, x: Node, y: Node) -> usize
-    ensures { λ r. ⌜ r ≡ giving made (ends-of x) (ends-of y) .to ⌝ }
+fn last(made: usize, x: Node, y: Node) -> Kind
+    ensures { λ r. ⌜ r .0 ≡ giving made (ends-of x) (ends-of y) .to ⌝ }
 {
     if made == 130 {
         return x.to;
@@ -59,13 +60,14 @@ fn paired(made: usize, i: usize, j: usize, x: Node, y: Node) -> Node
     requires { ⌜ (x .size < 64) × (y .size < 64) ⌝ }
     ensures { λ r. ⌜ r ≡ pair-node made i j x y ⌝ }
 {
+    let from = x.from;
     let to = last(made, x, y);
     Node {
         made,
         left: i,
         right: j,
         size: x.size + y.size + 1,
-        from: x.from,
+        from,
         to,
     }
 }
@@ -139,7 +141,7 @@ fn alike(words: &[u64], used: usize, question: &[u8], i: usize, j: usize) -> boo
     requires { ⌜ Has (now question) (now words) used i × Has (now question) (now words) used j ⌝ }
     ensures { λ r. ⌜ Alike (now (question .entry)) (now (words .entry)) i j r ⌝ }
 {
-    if nodes::load(words, i).from != nodes::load(words, j).from {
+    if nodes::load(words, i).from.0 != nodes::load(words, j).from.0 {
         return false;
     }
     nodes::same_path(words, used, question, i, j)
@@ -317,14 +319,15 @@ pub fn union_rule(
 // ---- a step
 
 // Has a sheet's table the bit of the step with code c from kind a to kind b?
-fn marked(table: &[u64; 4096], c: usize, a: usize, b: usize) -> bool
-    requires { ⌜ (c < 128) × (a < 64) × (b < 64) ⌝ }
-    ensures { λ r. ⌜ r ≡ marked? (now (table .entry)) c a b ⌝ }
+fn marked(table: &[u64; 4096], c: usize, a: Kind, b: Kind) -> bool
+    requires { ⌜ (c < 128) × (a .0 < 64) × (b .0 < 64) ⌝ }
+    ensures { λ r. ⌜ r ≡ marked? (now (table .entry)) c (a .0) (b .0) ⌝ }
 {
+    let link = symbols::step_link(c as u8);
     if c < 64 {
-        return bits::bit(table[c * 64 + a], b);
+        return bits::bit(table[sheet::word_of(a, link)], b.0 as usize);
     }
-    bits::bit(table[(c - 64) * 64 + b], a)
+    bits::bit(table[sheet::word_of(b, link)], a.0 as usize)
 }
 
 // Adds the step's triple from kind a to kind b, where the table has its bit; the new count.
@@ -335,11 +338,11 @@ fn add_mark(
     c: usize,
     s: usize,
     count: usize,
-    a: usize,
-    b: usize,
+    a: Kind,
+    b: Kind,
 ) -> usize
-    requires { ⌜ AddMark (now question) (now words) c s count a b ⌝ }
-    ensures { λ r. ⌜ Done (now (question .entry)) (now (words .entry)) (now (words .exit)) (s + count) s r (adjoin-all triple? (part-of (now (question .entry)) (now (words .entry)) s count) (mark-of (now (table .entry)) c a b)) ⌝ }
+    requires { ⌜ AddMark (now question) (now words) c s count (a .0) (b .0) ⌝ }
+    ensures { λ r. ⌜ Done (now (question .entry)) (now (words .entry)) (now (words .exit)) (s + count) s r (adjoin-all triple? (part-of (now (question .entry)) (now (words .entry)) s count) (mark-of (now (table .entry)) c (a .0) (b .0))) ⌝ }
 {
     if !marked(table, c, a, b) {
         return count;
@@ -364,15 +367,15 @@ fn add_marks(
     c: usize,
     s: usize,
     start: usize,
-    a: usize,
+    a: Kind,
 ) -> usize
-    requires { ⌜ AddMarks (now question) (now words) kinds c s start × (a < 64) ⌝ }
-    ensures { λ r. ⌜ Done (now (question .entry)) (now (words .entry)) (now (words .exit)) (s + start) s r (adjoin-all triple? (part-of (now (question .entry)) (now (words .entry)) s start) (marks-of (now (table .entry)) c a 0 kinds)) ⌝ }
+    requires { ⌜ AddMarks (now question) (now words) kinds c s start × (a .0 < 64) ⌝ }
+    ensures { λ r. ⌜ Done (now (question .entry)) (now (words .entry)) (now (words .exit)) (s + start) s r (adjoin-all triple? (part-of (now (question .entry)) (now (words .entry)) s start) (marks-of (now (table .entry)) c (a .0) 0 kinds)) ⌝ }
 {
     let mut count = start;
-    let mut b = 0;
+    let mut b: usize = 0;
     while b < kinds {
-        count = add_mark(words, question, table, c, s, count, a, b);
+        count = add_mark(words, question, table, c, s, count, a, Kind(b as u8));
         if 128 < count {
             return count;
         }
@@ -394,9 +397,9 @@ pub fn step_rule(
     ensures { λ r. ⌜ Ruled (now (question .entry)) (now (words .entry)) (now (words .exit)) s (distinct (of-marks (now (table .entry)) kinds c)) r ⌝ }
 {
     let mut count = 0;
-    let mut a = 0;
+    let mut a: usize = 0;
     while a < kinds {
-        count = add_marks(words, question, table, kinds, c, s, count, a);
+        count = add_marks(words, question, table, kinds, c, s, count, Kind(a as u8));
         if 128 < count {
             return Part::Many;
         }

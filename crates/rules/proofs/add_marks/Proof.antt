@@ -16,13 +16,16 @@ use Rattle.rules.proofs.add_mark.Reads as add-mark-reads
 
 abbrev Inv-loop : tie.InvT-loop
 Inv-loop words₀ question table kinds c s start a count₀ b₀ words count b =
-    Ranging question words₀ words (s + start) s count (adjoin-all triple? (part-of question words₀ s start) (marks-of table c a 0 kinds)) (mark-of table c a) b kinds
+    Ranging question words₀ words (s + start) s count (adjoin-all triple? (part-of question words₀ s start) (marks-of table c (a .0) 0 kinds)) (mark-of table c (a .0)) b kinds
 
 abbrev μ-loop : tie.MeasureT-loop
 μ-loop words₀ question table kinds c s start a count₀ b₀ words count b = kinds - b
 
 loop-holds : tie.Need-loop-holds Inv-loop μ-loop
 loop-holds c = marks-start (c .before .before .pre .0) _ _
+
+cast-t14 : tie.Need-cast-t14 Inv-loop μ-loop
+cast-t14 c = search needs
 
 add-mark-requires : tie.Need-add-mark-requires Inv-loop μ-loop
 add-mark-requires c κs = marks-asks (c .before .before .before .before .before .pre .0) (c .before .before .loop .inv) (c .before .loop-test .taken) (c .before .before .before .before .before .pre .1)
@@ -55,6 +58,7 @@ add-marks-spec =
     Inv-loop
     μ-loop
     loop-holds
+    cast-t14
     add-mark-requires
     same-length
     returns

@@ -10,14 +10,14 @@ use Rattle.rules.proofs.last.Lts as lts
 
 returns : tie.Need-returns
 unfolding giving
-returns c = rw (c .if1 .taken)
+returns c = rw (c .before .if1 .taken)
 
 returns-2 : tie.Need-returns-2
 unfolding giving
-returns-2 c = rw (ne-eqb _ _ (c .before .if1 .left), c .if2 .taken)
+returns-2 c = rw (ne-eqb _ _ (c .before .before .if1 .left), c .before .if2 .taken)
 
 returns-3 : tie.Need-returns-3
-returns-3 c = giving-last _ _ _ (c .before .if1 .left) (c .if2 .left)
+returns-3 c = giving-last _ _ _ (c .before .before .if1 .left) (c .before .if2 .left)
 
 pub last-spec : {M : Type 1} → statement M
 last-spec = tie.close (tie.spec returns returns-2 returns-3)

@@ -1,66 +1,72 @@
 -- `rules::marked` meets its contract.
 -- Assumes nothing.
-use borrow.Author.Tests.{lt-ltb, le-ltb}
-use Rattle.rules.specs.Marks.{marked?}
-use Rattle.sheet.specs.Table.{tabled?}
+use Rattle.rules.proofs.Steps.{forward-marked, reverse-marked}
 use borrow.Author.Needs.{needs}
 use Rattle.rules.proofs.marked.Statement.{statement}
 use Rattle.rules.proofs.marked.Tie as tie
 use Rattle.rules.proofs.marked.Reads as reads
 use Rattle.rules.proofs.marked.Lts as lts
 use Rattle.bits.proofs.bit.Reads as bit-reads
+use Rattle.sheet.proofs.word_of.Reads as word-of-reads
+use Rattle.symbols.proofs.step_link.Reads as step-link-reads
+
+cast-step-link : tie.Need-cast-step-link
+cast-step-link c = search needs
+
+step-link-requires : tie.Need-step-link-requires
+step-link-requires c κs = search needs
+
+word-of-requires : tie.Need-word-of-requires
+word-of-requires c κs = search needs
 
 mul-bit : tie.Need-mul-bit
 mul-bit c = search needs
 
-add-bit : tie.Need-add-bit
-add-bit c = search needs
-
-mul-bit-2 : tie.Need-mul-bit-2
-mul-bit-2 c = search needs
-
 element-copy-out-bit : tie.Need-element-copy-out-bit
 element-copy-out-bit c = search needs
+
+cast-bit : tie.Need-cast-bit
+cast-bit c = search needs
 
 bit-requires : tie.Need-bit-requires
 bit-requires c κs = search needs
 
 returns : tie.Need-returns
-unfolding marked? tabled?
-returns c = rw (lt-ltb _ _ (c .before .before .if1 .taken)) (c .bit .ensures)
+returns c = forward-marked _ _ _ _ (c .before .before .before .before .before .step-link .ensures .0) (c .before .before .before .before .if1 .taken) (c .before .before .before .word-of .ensures .0) (c .bit .ensures)
 
-mul-bit-3 : tie.Need-mul-bit-3
-mul-bit-3 c = search needs
+word-of-requires-2 : tie.Need-word-of-requires-2
+word-of-requires-2 c κs = search needs
 
-add-bit-2 : tie.Need-add-bit-2
-add-bit-2 c = search needs
-
-mul-bit-4 : tie.Need-mul-bit-4
-mul-bit-4 c = search needs
+mul-bit-2 : tie.Need-mul-bit-2
+mul-bit-2 c = search needs
 
 element-copy-out-bit-2 : tie.Need-element-copy-out-bit-2
 element-copy-out-bit-2 c = search needs
+
+cast-bit-2 : tie.Need-cast-bit-2
+cast-bit-2 c = search needs
 
 bit-requires-2 : tie.Need-bit-requires-2
 bit-requires-2 c κs = search needs
 
 returns-2 : tie.Need-returns-2
-unfolding marked? tabled?
-returns-2 c = rw (le-ltb _ _ (c .before .before .if1 .left)) (c .bit2 .ensures)
+returns-2 c = reverse-marked _ _ _ _ (c .before .before .before .before .before .step-link .ensures .0) (c .before .before .before .before .if1 .left) (c .before .before .before .before .before .before .pre .0) (c .before .before .before .word-of2 .ensures .0) (c .bit2 .ensures)
 
 pub marked-spec : {M : Type 1} → statement M
 marked-spec =
     tie.close
     (tie.spec
+    cast-step-link
+    step-link-requires
+    word-of-requires
     mul-bit
-    add-bit
-    mul-bit-2
     element-copy-out-bit
+    cast-bit
     bit-requires
     returns
-    mul-bit-3
-    add-bit-2
-    mul-bit-4
+    word-of-requires-2
+    mul-bit-2
     element-copy-out-bit-2
+    cast-bit-2
     bit-requires-2
     returns-2)

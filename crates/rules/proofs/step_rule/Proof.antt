@@ -21,6 +21,9 @@ abbrev μ-loop : tie.MeasureT-loop
 loop-holds : tie.Need-loop-holds Inv-loop μ-loop
 loop-holds c = step-start (c .before .before .pre) _
 
+cast-t12 : tie.Need-cast-t12 Inv-loop μ-loop
+cast-t12 c = search needs
+
 add-marks-requires : tie.Need-add-marks-requires Inv-loop μ-loop
 add-marks-requires c κs = step-asks (c .before .before .before .before .before .pre) _ (c .before .before .loop .inv) (c .before .loop-test .taken)
 
@@ -52,6 +55,7 @@ step-rule-spec =
     Inv-loop
     μ-loop
     loop-holds
+    cast-t12
     add-marks-requires
     same-length
     returns

@@ -68,10 +68,10 @@ module _ (qs ws : List ℕ) (s e : ℕ) where
   edges-end {i} l r = link-end r (part-over qs ws i e l)
 
   pub edges-next : {i : ℕ} {x : Node} {ys zs : List ℕ} → i < e → Loaded ws i x → Linking (from s) (from i) ys
-      → Made 0 64 1 (λ a b. pair-at ys 0 1 a b || (eqb a (x .from) && eqb b (x .to))) ys zs → Linking (from s) (from (i + 1)) zs
+      → Made 0 64 1 (λ a b. pair-at ys 0 1 a b || (eqb a (x .from .0) && eqb b (x .to .0))) ys zs → Linking (from s) (from (i + 1)) zs
   edges-next {i} {x} l lx r m =
       link-turn (from (i + 1)) r (part-next qs ws i e l)
-      (ap (λ (n : Node). n .from) (lx .is) ∙ sym (triple-from qs ws i)) (ap (λ (n : Node). n .to) (lx .is) ∙ sym (triple-to qs ws i)) m
+      (ap (λ (n : Node). n .from .0) (lx .is) ∙ sym (triple-from qs ws i)) (ap (λ (n : Node). n .to .0) (lx .is) ∙ sym (triple-to qs ws i)) m
 
 -- ---- a cyclic kind needs no test of its ends
 module _ (w : Table) (a b z : ℕ) where

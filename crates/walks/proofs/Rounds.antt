@@ -76,19 +76,19 @@ module _ {qs ws : List ℕ} {s e : ℕ} (h : Part qs ws s e) where
   round-end {i = i} l r = round-over r (part-over qs ws i e l)
 
   module _ {i : ℕ} {x : Node} (l : i < e) (lx : Loaded ws i x) where
-    to-is : x .to ≡ triple-of qs ws i .to
-    to-is = ap (λ (n : Node). n .to) (lx .is) ∙ sym (triple-to qs ws i)
+    to-is : x .to .0 ≡ triple-of qs ws i .to
+    to-is = ap (λ (n : Node). n .to .0) (lx .is) ∙ sym (triple-to qs ws i)
 
-    from-is : x .from ≡ triple-of qs ws i .from
-    from-is = ap (λ (n : Node). n .from) (lx .is) ∙ sym (triple-from qs ws i)
+    from-is : x .from .0 ≡ triple-of qs ws i .from
+    from-is = ap (λ (n : Node). n .from .0) (lx .is) ∙ sym (triple-from qs ws i)
 
     pub size-is : x .size ≡ size-of (triple-of qs ws i)
     size-is = ap (λ (n : Node). n .size) (lx .is) ∙ sym (h .sound .good i l .sized)
 
-    pub weight-is : (best : List ℕ) {v : ℕ} → v ≡ extended (getD best (x .from) 0) (x .size) → v ≡ weight best (triple-of qs ws i)
+    pub weight-is : (best : List ℕ) {v : ℕ} → v ≡ extended (getD best (x .from .0) 0) (x .size) → v ≡ weight best (triple-of qs ws i)
     weight-is best q = q ∙ ap₂ (λ (a b : ℕ). extended (getD best a 0) b) from-is size-is
 
-    pub round-next : {w : Triple → ℕ} {v : ℕ} {xs ys zs : List ℕ} → v ≡ w (triple-of qs ws i) → Going w (from s) (from i) xs ys → Raised (x .to) v ys zs → Going w (from s) (from (i + 1)) xs zs
+    pub round-next : {w : Triple → ℕ} {v : ℕ} {xs ys zs : List ℕ} → v ≡ w (triple-of qs ws i) → Going w (from s) (from i) xs ys → Raised (x .to .0) v ys zs → Going w (from s) (from (i + 1)) xs zs
     round-next q r d = round-turn (from (i + 1)) r (part-next qs ws i e l) to-is q d
 
 -- ---- whether each number is small

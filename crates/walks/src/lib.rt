@@ -1,4 +1,5 @@
 // What the rule of a closure asks of the graph of a part's kinds, and whether its walks are short.
+use fields::Kind;
 ghost use mathlib.Core.Path.{_≡_};
 ghost use Prim.Native.Nat.{_-_, _<_, _≤_};
 ghost use lib.ListN.{length};
@@ -19,7 +20,7 @@ fn edges(words: &[u64], question: &[u8], s: usize, e: usize, work: &mut [u64])
     let mut i = s;
     while i < e {
         let x = nodes::load(words, i);
-        relation::set_pair(work, 0, 64, 1, x.from, x.to);
+        relation::set_pair(work, 0, 64, 1, x.from.0 as usize, x.to.0 as usize);
         i += 1;
     }
 }
@@ -61,31 +62,34 @@ pub fn graph(words: &[u64], question: &[u8], s: usize, e: usize, work: &mut [u64
 }
 
 // Is neither kind cyclic?
-pub fn acyclic(work: &[u64], a: usize, b: usize) -> bool
-    requires { ⌜ (length (now work) ≡ 128) × (a < 64) × (b < 64) ⌝ }
-    ensures { λ r. ⌜ TellsAcyclic (now (work .entry)) a b r ⌝ }
+pub fn acyclic(work: &[u64], a: Kind, b: Kind) -> bool
+    requires { ⌜ (length (now work) ≡ 128) × (a .0 < 64) × (b .0 < 64) ⌝ }
+    ensures { λ r. ⌜ TellsAcyclic (now (work .entry)) (a .0) (b .0) r ⌝ }
 {
-    if rows::has(work, 64 + a, a) {
+    let i = a.0 as usize;
+    if rows::has(work, 64 + i, i) {
         return false;
     }
-    !rows::has(work, 64 + b, b)
+    let j = b.0 as usize;
+    !rows::has(work, 64 + j, j)
 }
 
 // Does a walk from a to b meet a cyclic kind?
-pub fn meets(work: &[u64], a: usize, b: usize) -> bool
-    requires { ⌜ (length (now work) ≡ 128) × (a < 64) × (b < 64) ⌝ }
-    ensures { λ r. ⌜ TellsMeets (now (work .entry)) a b r ⌝ }
+pub fn meets(work: &[u64], a: Kind, b: Kind) -> bool
+    requires { ⌜ (length (now work) ≡ 128) × (a .0 < 64) × (b .0 < 64) ⌝ }
+    ensures { λ r. ⌜ TellsMeets (now (work .entry)) (a .0) (b .0) r ⌝ }
 {
-    rows::has(work, a, b)
+    rows::has(work, a.0 as usize, b.0 as usize)
 }
 
 // Raises what stands at k to v, where it is less.
-fn raise(best: &mut [u64], k: usize, v: u64)
-    requires { ⌜ k < length (now best) ⌝ }
-    ensures { λ _. ⌜ Raised k v (now (best .entry)) (now (best .exit)) ⌝ }
+fn raise(best: &mut [u64], k: Kind, v: u64)
+    requires { ⌜ k .0 < length (now best) ⌝ }
+    ensures { λ _. ⌜ Raised (k .0) v (now (best .entry)) (now (best .exit)) ⌝ }
 {
-    if best[k] < v {
-        best[k] = v;
+    let i = k.0 as usize;
+    if best[i] < v {
+        best[i] = v;
     }
 }
 
@@ -121,7 +125,7 @@ fn round(words: &[u64], question: &[u8], s: usize, e: usize, best: &[u64], next:
     let mut i = s;
     while i < e {
         let x = nodes::load(words, i);
-        let k = x.from;
+        let k = x.from.0 as usize;
         raise(next, x.to, extend(best[k], x.size));
         i += 1;
     }

@@ -28,19 +28,25 @@ loop-holds c = (omega arith, omega arith, link-start _ (c .before .before .befor
 load-requires : tie.Need-load-requires Inv-loop μ-loop
 load-requires c κs = search needs
 
+cast-set-pair : tie.Need-cast-set-pair Inv-loop μ-loop
+cast-set-pair c = search needs
+
+cast-set-pair-2 : tie.Need-cast-set-pair-2 Inv-loop μ-loop
+cast-set-pair-2 c = search needs
+
 set-pair-requires : tie.Need-set-pair-requires Inv-loop μ-loop
 set-pair-requires c κs = search needs
 
 add-i : tie.Need-add-i Inv-loop μ-loop
-add-i c = search needs
+add-i c = omega (arith, c .before .before .before .before .before .before .before .loop-test .taken, c .before .before .before .before .before .before .before .before .before .before .before .before .before .before .before .before .fits .e)
 
 loop-less : tie.Need-loop-less Inv-loop μ-loop
 loop-less c = search needs
 
 loop-again : tie.Need-loop-again Inv-loop μ-loop
 loop-again c =
-    let a = c .before .before .before .before .before .before .before .before .before .before .before .before .before .before .args in
-    (omega arith, omega arith, edges-next (a .question .now) (a .words .now) (a .s) (a .e) (c .before .before .before .before .before .loop-test .taken) (c .before .before .before .before .load .ensures) (c .before .before .before .before .before .before .loop .inv .2) (c .before .before .set-pair .ensures))
+    let a = c .before .before .before .before .before .before .before .before .before .before .before .before .before .before .before .before .args in
+    (omega arith, omega arith, edges-next (a .question .now) (a .words .now) (a .s) (a .e) (c .before .before .before .before .before .before .before .loop-test .taken) (c .before .before .before .before .before .before .load .ensures) (c .before .before .before .before .before .before .before .before .loop .inv .2) (c .before .before .set-pair .ensures))
 
 same-length : tie.Need-same-length Inv-loop μ-loop
 same-length c = search needs
@@ -57,6 +63,8 @@ edges-spec =
     clear-requires
     loop-holds
     load-requires
+    cast-set-pair
+    cast-set-pair-2
     set-pair-requires
     add-i
     loop-less

@@ -7,6 +7,9 @@ use Rattle.walks.proofs.raise.Tie as tie
 use Rattle.walks.proofs.raise.Reads as reads
 use Rattle.walks.proofs.raise.Lts as lts
 
+cast-i : tie.Need-cast-i
+cast-i c = search needs
+
 mul-if1 : tie.Need-mul-if1
 mul-if1 c = search needs
 
@@ -23,7 +26,7 @@ same-length : tie.Need-same-length
 same-length c = search needs
 
 returns : tie.Need-returns
-returns c = raised-set (c .before .before .pre) (c .if1 .taken)
+returns c = raised-set (c .before .before .before .pre) (c .if1 .taken)
 
 returns-2 : tie.Need-returns-2
 returns-2 c = raised-not (c .if1 .left)
@@ -31,4 +34,4 @@ returns-2 c = raised-not (c .if1 .left)
 pub raise-spec : {M : Type 1} → statement M
 raise-spec =
     tie.close
-    (tie.spec mul-if1 slice-read-if1 mul-best slice-write-best same-length returns returns-2)
+    (tie.spec cast-i mul-if1 slice-read-if1 mul-best slice-write-best same-length returns returns-2)

@@ -26,6 +26,9 @@ loop-holds c = (omega arith, omega arith, round-start _ _ _)
 load-requires : tie.Need-load-requires Inv-loop μ-loop
 load-requires c κs = search needs
 
+cast-k : tie.Need-cast-k Inv-loop μ-loop
+cast-k c = search needs
+
 mul-extend : tie.Need-mul-extend Inv-loop μ-loop
 mul-extend c = search needs
 
@@ -33,7 +36,7 @@ shared-slice-read-extend : tie.Need-shared-slice-read-extend Inv-loop μ-loop
 shared-slice-read-extend c = search needs
 
 extend-requires : tie.Need-extend-requires Inv-loop μ-loop
-extend-requires c κs = (c .before .before .before .before .before .before .before .before .before .pre .3 _, c .before .before .load .ensures .size-small)
+extend-requires c κs = (c .before .before .before .before .before .before .before .before .before .before .pre .3 _, c .before .before .before .load .ensures .size-small)
 
 raise-requires : tie.Need-raise-requires Inv-loop μ-loop
 raise-requires c κs = search needs
@@ -46,10 +49,10 @@ loop-less c = search needs
 
 loop-again : tie.Need-loop-again Inv-loop μ-loop
 loop-again c =
-    let h = c .before .before .before .before .before .before .before .before .before .before .before .before .before .pre .0 in
-    let l = c .before .before .before .before .before .before .before .loop-test .taken in
-    let x = c .before .before .before .before .before .before .load .ensures in
-    (omega arith, omega arith, round-next h l x (weight-is h l x (c .before .before .before .before .before .before .before .before .before .before .before .before .before .args .best .now) (c .before .before .before .extend .ensures)) (c .before .before .before .before .before .before .before .before .loop .inv .2) (c .before .before .raise .ensures))
+    let h = c .before .before .before .before .before .before .before .before .before .before .before .before .before .before .pre .0 in
+    let l = c .before .before .before .before .before .before .before .before .loop-test .taken in
+    let x = c .before .before .before .before .before .before .before .load .ensures in
+    (omega arith, omega arith, round-next h l x (weight-is h l x (c .before .before .before .before .before .before .before .before .before .before .before .before .before .before .args .best .now) (c .before .before .before .extend .ensures)) (c .before .before .before .before .before .before .before .before .before .loop .inv .2) (c .before .before .raise .ensures))
 
 same-length : tie.Need-same-length Inv-loop μ-loop
 same-length c = search needs
@@ -65,6 +68,7 @@ round-spec =
     μ-loop
     loop-holds
     load-requires
+    cast-k
     mul-extend
     shared-slice-read-extend
     extend-requires

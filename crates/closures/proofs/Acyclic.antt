@@ -57,13 +57,13 @@ module _ {qs ws₀ xs : List ℕ} {s p d : ℕ} (h : CopyAcyclic qs ws₀ xs s p
         kept = triple-kept (g .grows .kept) qs j (omega (arith, h .lies .below))
 
         -- the test is of the node's ends
-        ends : triple (n .from) (triple-of qs ws j .path) (n .to) ≡ triple-of qs ws₀ j
+        ends : triple (n .from .0) (triple-of qs ws j .path) (n .to .0) ≡ triple-of qs ws₀ j
         ends =
-            let a : n .from ≡ triple-of qs ws j .from = ap (λ (m : Node). m .from) (x .is) ∙ sym (triple-from qs ws j) in
-            let b : n .to ≡ triple-of qs ws j .to = ap (λ (m : Node). m .to) (x .is) ∙ sym (triple-to qs ws j) in
+            let a : n .from .0 ≡ triple-of qs ws j .from = ap (λ (m : Node). m .from .0) (x .is) ∙ sym (triple-from qs ws j) in
+            let b : n .to .0 ≡ triple-of qs ws j .to = ap (λ (m : Node). m .to .0) (x .is) ∙ sym (triple-to qs ws j) in
             (λ i. record { from = a i; path = triple-of qs ws j .path; to = b i }) ∙ kept
 
-        module _ {r : Bool} (tells : TellsAcyclic xs (n .from) (n .to) r) where
+        module _ {r : Bool} (tells : TellsAcyclic xs (n .from .0) (n .to .0) r) where
           told : r ≡ test (triple-of qs ws₀ j)
           told = tells (part qs ws₀ p d) (h .linked) (triple-of qs ws j .path) ∙ ap test ends
 

@@ -33,7 +33,7 @@ copied-size {qs} {o} {n} c =
 
 -- ---- from one kind to one kind
 abbrev pub kept-node : ℕ → ℕ → ℕ → ℕ → Node
-kept-node o n a b = record { made = 133; left = o; right = n; size = n + 1; from = a; to = b }
+kept-node o n a b = record { made = 133; left = o; right = n; size = n + 1; from = record { 0 = a }; to = record { 0 = b } }
 
 module _ {qs ws xs : List ℕ} {s count o n a b : ℕ} (h : AddKept qs ws xs s count o n × (a < 64) × (b < 64)) where
   abbrev node : Node
@@ -67,8 +67,8 @@ module _ {qs ws xs : List ℕ} {s count o n a b : ℕ} (h : AddKept qs ws xs s c
 
   triple-is : triple-of qs ws′ (s + count) ≡ triple a path b
   triple-is =
-      let e : triple-of qs ws′ (s + count) .from ≡ a = triple-from qs ws′ (s + count) ∙ ap (λ (m : Node). m .from) new in
-      let f : triple-of qs ws′ (s + count) .to ≡ b = triple-to qs ws′ (s + count) ∙ ap (λ (m : Node). m .to) new in
+      let e : triple-of qs ws′ (s + count) .from ≡ a = triple-from qs ws′ (s + count) ∙ ap (λ (m : Node). m .from .0) new in
+      let f : triple-of qs ws′ (s + count) .to ≡ b = triple-to qs ws′ (s + count) ∙ ap (λ (m : Node). m .to .0) new in
       λ i. record { from = e i; path = path-is i; to = f i }
 
   pub kept-candidate : Candidate qs ws s count (kept-node o n a b)

@@ -1,4 +1,5 @@
 // The rule of inference of a closure over the table of nodes: walks that meet no cyclic kind, and closures that are kept.
+use fields::Kind;
 use nodes::Node;
 use rules::Part;
 ghost use Prim.Native.Nat.{_+_, _<_, _≤_};
@@ -66,11 +67,11 @@ fn add_kept(
     count: usize,
     o: usize,
     n: usize,
-    a: usize,
-    b: usize,
+    a: Kind,
+    b: Kind,
 ) -> usize
-    requires { ⌜ AddKept (now question) (now words) (now work) s count o n × (a < 64) × (b < 64) ⌝ }
-    ensures { λ r. ⌜ Done (now (question .entry)) (now (words .entry)) (now (words .exit)) (s + count) s r (adjoin-all triple? (part-of (now (question .entry)) (now (words .entry)) s count) (kept-at (now (work .entry)) (original (now (question .entry)) o n) a b)) ⌝ }
+    requires { ⌜ AddKept (now question) (now words) (now work) s count o n × (a .0 < 64) × (b .0 < 64) ⌝ }
+    ensures { λ r. ⌜ Done (now (question .entry)) (now (words .entry)) (now (words .exit)) (s + count) s r (adjoin-all triple? (part-of (now (question .entry)) (now (words .entry)) s count) (kept-at (now (work .entry)) (original (now (question .entry)) o n) (a .0) (b .0))) ⌝ }
 {
     if !walks::meets(work, a, b) {
         return count;
@@ -95,15 +96,15 @@ fn add_kept_from(
     start: usize,
     o: usize,
     n: usize,
-    a: usize,
+    a: Kind,
 ) -> usize
-    requires { ⌜ AddKept (now question) (now words) (now work) s start o n × (a < 64) ⌝ }
-    ensures { λ r. ⌜ Done (now (question .entry)) (now (words .entry)) (now (words .exit)) (s + start) s r (adjoin-all triple? (part-of (now (question .entry)) (now (words .entry)) s start) (kept-from (now (work .entry)) (original (now (question .entry)) o n) a 0 64)) ⌝ }
+    requires { ⌜ AddKept (now question) (now words) (now work) s start o n × (a .0 < 64) ⌝ }
+    ensures { λ r. ⌜ Done (now (question .entry)) (now (words .entry)) (now (words .exit)) (s + start) s r (adjoin-all triple? (part-of (now (question .entry)) (now (words .entry)) s start) (kept-from (now (work .entry)) (original (now (question .entry)) o n) (a .0) 0 64)) ⌝ }
 {
     let mut count = start;
     let mut b: usize = 0;
     while b < 64 {
-        count = add_kept(words, question, work, s, count, o, n, a, b);
+        count = add_kept(words, question, work, s, count, o, n, a, Kind(b as u8));
         if 128 < count {
             return count;
         }
@@ -128,7 +129,7 @@ fn add_all_kept(
     let mut count = start;
     let mut a: usize = 0;
     while a < 64 {
-        count = add_kept_from(words, question, work, s, count, o, n, a);
+        count = add_kept_from(words, question, work, s, count, o, n, Kind(a as u8));
         if 128 < count {
             return count;
         }

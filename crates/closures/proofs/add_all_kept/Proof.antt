@@ -25,6 +25,9 @@ abbrev μ-loop : tie.MeasureT-loop
 loop-holds : tie.Need-loop-holds Inv-loop μ-loop
 loop-holds c = kept-all-start (c .before .before .before .pre) 64
 
+cast-t13 : tie.Need-cast-t13 Inv-loop μ-loop
+cast-t13 c = search needs
+
 add-kept-from-requires : tie.Need-add-kept-from-requires Inv-loop μ-loop
 add-kept-from-requires c κs = (kept-asks (c .before .before .before .before .before .before .pre) (c .before .before .loop .inv), c .before .loop-test .taken)
 
@@ -56,6 +59,7 @@ add-all-kept-spec =
     Inv-loop
     μ-loop
     loop-holds
+    cast-t13
     add-kept-from-requires
     same-length
     returns

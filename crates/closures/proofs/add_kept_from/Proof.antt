@@ -17,13 +17,16 @@ use Rattle.closures.proofs.Keeping.{kept-from-start, kept-asks}
 
 abbrev Inv-loop : tie.InvT-loop
 Inv-loop words₀ question work s start o n a count₀ b₀ words count b =
-    Ranging question words₀ words (s + start) s count (adjoin-all triple? (part-of question words₀ s start) (kept-from work (original question o n) a 0 64)) (kept-at work (original question o n) a) b 64
+    Ranging question words₀ words (s + start) s count (adjoin-all triple? (part-of question words₀ s start) (kept-from work (original question o n) (a .0) 0 64)) (kept-at work (original question o n) (a .0)) b 64
 
 abbrev μ-loop : tie.MeasureT-loop
 μ-loop words₀ question work s start o n a count₀ b₀ words count b = 64 - b
 
 loop-holds : tie.Need-loop-holds Inv-loop μ-loop
 loop-holds c = kept-from-start (c .before .before .before .pre .0) 64 _
+
+cast-t14 : tie.Need-cast-t14 Inv-loop μ-loop
+cast-t14 c = search needs
 
 add-kept-requires : tie.Need-add-kept-requires Inv-loop μ-loop
 add-kept-requires c κs = (kept-asks (c .before .before .before .before .before .before .pre .0) (c .before .before .loop .inv), c .before .before .before .before .before .before .pre .1, c .before .loop-test .taken)
@@ -56,6 +59,7 @@ add-kept-from-spec =
     Inv-loop
     μ-loop
     loop-holds
+    cast-t14
     add-kept-requires
     same-length
     returns

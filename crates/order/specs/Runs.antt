@@ -21,8 +21,8 @@ use Rattle.order.specs.Arranging.{member-at, Usable}
 
 -- ---- the kinds of node i as sets
 pub record Singles (ws : List ℕ) (i : ℕ) (e : Ends) : Type 0 where
-  pub from-is : e .from ≡ singleton (node-at ws i .from)
-  pub to-is : e .to ≡ singleton (node-at ws i .to)
+  pub from-is : e .from ≡ singleton (node-at ws i .from .0)
+  pub to-is : e .to ≡ singleton (node-at ws i .to .0)
 
 -- ---- sets ORed into others: up to j, ys is the union of xs and fs; from j on it is xs
 pub record Ored (fs xs ys : List ℕ) (j : ℕ) : Type 0 where

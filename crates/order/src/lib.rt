@@ -99,8 +99,8 @@ fn kinds(words: &[u64], i: usize) -> Ends
 {
     let n = nodes::load(words, i);
     Ends {
-        from: 1 << n.from,
-        to: 1 << n.to,
+        from: 1 << n.from.0,
+        to: 1 << n.to.0,
     }
 }
 

@@ -14,17 +14,23 @@ use Rattle.nodes.proofs.load.Reads as load-reads
 load-requires : tie.Need-load-requires
 load-requires c κs = search needs
 
+cast-t4 : tie.Need-cast-t4
+cast-t4 c = search needs
+
 shl-t5 : tie.Need-shl-t5
 shl-t5 c = search needs
+
+cast-t6 : tie.Need-cast-t6
+cast-t6 c = search needs
 
 shl-t7 : tie.Need-shl-t7
 shl-t7 c = search needs
 
 returns : tie.Need-returns
 returns c = record {
-  from-is = shl-singleton _ (c .load .ensures .from-small) ∙ ap (λ (n : Node). singleton (n .from)) (c .load .ensures .is);
-  to-is = shl-singleton _ (c .load .ensures .to-small) ∙ ap (λ (n : Node). singleton (n .to)) (c .load .ensures .is);
+  from-is = shl-singleton _ (c .before .before .load .ensures .from-small) ∙ ap (λ (n : Node). singleton (n .from .0)) (c .before .before .load .ensures .is);
+  to-is = shl-singleton _ (c .before .before .load .ensures .to-small) ∙ ap (λ (n : Node). singleton (n .to .0)) (c .before .before .load .ensures .is);
 }
 
 pub kinds-spec : {M : Type 1} → statement M
-kinds-spec = tie.close (tie.spec load-requires shl-t5 shl-t7 returns)
+kinds-spec = tie.close (tie.spec load-requires cast-t4 shl-t5 cast-t6 shl-t7 returns)

@@ -18,8 +18,8 @@ use Rattle.bytes.specs.Wrote.{Wrote}
 use Rattle.bytes.proofs.Along.{wrote-more}
 
 -- ---- a symbol, by its number
-pub step-bytes : (c m : ℕ) → c < 128 → symbol-bytes (symbol-given c m) ≡ field-bytes 0x43 (c / 64 ∷ c % 64 ∷ [])
-step-bytes c m h = simp (lt-ltb c 128 h)
+pub step-bytes : (c m : ℕ) {l : ℕ} → c < 128 → l ≡ c % 64 → symbol-bytes (symbol-given c m) ≡ field-bytes 0x43 (c / 64 ∷ l ∷ [])
+step-bytes c m h e = rw e (simp (lt-ltb c 128 h))
 
 pub through-bytes : (c m : ℕ) → 128 ≤ c → c ≡ 255 → symbol-bytes (symbol-given c m) ≡ field-bytes 0x45 (eight-bytes m)
 through-bytes c m g h = simp (le-ltb c 128 g, eq-eqb c 255 h)
@@ -38,7 +38,7 @@ size-is c m = go (ltb c 128) (eqb c 255) refl refl
     go false false e f = rw (e, f)
 
 pub step-room : (c m at : ℕ) {room : ℕ} → c < 128 → at + length (symbol-bytes (symbol-given c m)) ≤ room → at + 5 ≤ room
-step-room c m at h r = omega (arith, ap length (step-bytes c m h), r)
+step-room c m at h r = omega (arith, ap length (step-bytes c m h refl), r)
 
 pub through-room : (c m at : ℕ) {room : ℕ} → 128 ≤ c → c ≡ 255 → at + length (symbol-bytes (symbol-given c m)) ≤ room → at + 11 ≤ room
 through-room c m at g h r = omega (arith, ap length (through-bytes c m g h), r)

@@ -1,4 +1,5 @@
 // Puts the fields of a narrowed question into the caller's area.
+use fields::Link;
 use narrowed::Members;
 ghost use mathlib.Core.Path.{_≡_};
 ghost use mathlib.Core.List.{[], _∷_, _++_};
@@ -96,13 +97,13 @@ fn put_open(out: &mut [u8], at: usize, n: u8, from: u64, to: u64) -> usize
 }
 
 // 43: direction and link.
-fn put_step(out: &mut [u8], at: usize, d: u8, l: u8) -> usize
+fn put_step(out: &mut [u8], at: usize, direction: u8, link: Link) -> usize
     requires { ⌜ at + 5 ≤ length (now out) ⌝ }
-    ensures { λ r. ⌜ Wrote (now (out .entry)) (now (out .exit)) at r (field-bytes 0x43 (d ∷ l ∷ [])) ⌝ }
+    ensures { λ r. ⌜ Wrote (now (out .entry)) (now (out .exit)) at r (field-bytes 0x43 (direction ∷ link .0 ∷ [])) ⌝ }
 {
     let a = put_head(out, at, 0x43, 2);
-    let b = put_byte(out, a, d);
-    put_byte(out, b, l)
+    let b = put_byte(out, a, direction);
+    put_byte(out, b, link.0)
 }
 
 // 44: an operator.
@@ -129,7 +130,7 @@ fn put_symbol(out: &mut [u8], at: usize, number: u8, set: u64) -> usize
     ensures { λ r. ⌜ Wrote (now (out .entry)) (now (out .exit)) at r (symbol-bytes (symbol-given number set)) ⌝ }
 {
     if number < 128 {
-        return put_step(out, at, number / 64, number % 64);
+        return put_step(out, at, number / 64, symbols::step_link(number));
     }
     if number == 255 {
         return put_through(out, at, set);

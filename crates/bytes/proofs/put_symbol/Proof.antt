@@ -5,14 +5,17 @@ use borrow.Author.Needs.{needs}
 use Rattle.bytes.proofs.put_symbol.Statement.{statement}
 use Rattle.bytes.proofs.put_symbol.Tie as tie
 
+step-link-requires : tie.Need-step-link-requires
+step-link-requires c κs = search needs
+
 put-step-requires : tie.Need-put-step-requires
-put-step-requires c κs = step-room _ (c .before .before .before .args .set) _ (c .before .if1 .taken) (c .before .before .before .pre)
+put-step-requires c κs = step-room _ (c .before .before .before .before .args .set) _ (c .before .before .if1 .taken) (c .before .before .before .before .pre)
 
 same-length : tie.Need-same-length
 same-length c = search needs
 
 returns : tie.Need-returns
-returns c = rw (step-bytes _ _ (c .before .before .before .before .if1 .taken)) (c .before .before .put-step .ensures)
+returns c = rw (step-bytes _ _ (c .before .before .before .before .before .if1 .taken) (c .before .before .before .step-link .ensures .0)) (c .before .before .put-step .ensures)
 
 put-through-requires : tie.Need-put-through-requires
 put-through-requires c κs = through-room _ (c .before .before .before .before .args .set) _ (c .before .before .if1 .left) (c .before .if2 .taken) (c .before .before .before .before .pre)
@@ -36,6 +39,7 @@ pub put-symbol-spec : {M : Type 1} → statement M
 put-symbol-spec =
     tie.close
     (tie.spec
+    step-link-requires
     put-step-requires
     same-length
     returns

@@ -4,7 +4,7 @@ use mathlib.Core.Path.{_≡_, refl, sym, ap, _∙_}
 use mathlib.Core.Bool.{Bool, true, false, cond}
 use mathlib.Core.List.{List, _∷_}
 use mathlib.Core.Logic.{⊎-elim}
-use Prim.Native.Nat.{ℕ, zero, suc, _+_, _-_, _<_, _≤_}
+use Prim.Native.Nat.{ℕ, zero, suc, _+_, _-_, _%_, _<_, _≤_}
 use native.Mathlib.Numerals.{add-one}
 use native.Mathlib.Omega.{arith}
 use lib.Dec.{eqb, leb, ltb}
@@ -22,13 +22,12 @@ use Rattle.narrow.specs.Said.{Unnamed, FirstUnnamed}
 same-test : (E l : ℕ) → _≡_ {A = ℕ} (cond (ltb l E) 0 11) (cond (leb E l) 11 0)
 same-test E l = ⊎-elim (λ (h : E ≤ l). rw (le-ltb l E h, le-leb E l h)) (λ (h : l < E). rw (lt-ltb l E h, lt-leb E l h)) (le-or-lt E l)
 
-pub unnamed-forward : (E c : ℕ) → c < 64 → Unnamed E c (leb E c)
+pub unnamed-step : (E c l : ℕ) → c < 128 → l ≡ c % 64 → Unnamed E c (leb E l)
 unfolding symbol-numbered
-unnamed-forward E c h = record { is = rw (lt-ltb c 64 h) (same-test E c) }
-
-pub unnamed-reverse : (E c : ℕ) → 64 ≤ c → c < 128 → Unnamed E c (leb E (c - 64))
-unfolding symbol-numbered
-unnamed-reverse E c h l = record { is = rw (le-ltb c 64 h, lt-ltb c 128 l) (same-test E (c - 64)) }
+unnamed-step E c l h e =
+    ⊎-elim (λ (g : 64 ≤ c). let m : c - 64 ≡ l = omega arith in record { is = rw (le-ltb c 64 g, lt-ltb c 128 h, m) (same-test E l) })
+    (λ (g : c < 64). let m : l ≡ c = omega arith in record { is = rw (lt-ltb c 64 g, m) (same-test E c) })
+    (le-or-lt 64 c)
 
 pub unnamed-never : (E c : ℕ) → 128 ≤ c → Unnamed E c false
 unfolding symbol-numbered

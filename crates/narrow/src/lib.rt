@@ -15,11 +15,9 @@ ghost use Rattle.narrow.specs.Said.{Narrows, Files, Unnamed, FirstUnname
 fn unnamed(code: u8, links: u8) -> bool
     ensures { λ r. ⌜ Unnamed links code r ⌝ }
 {
-    if code < 64 {
-        return links <= code;
-    }
     if code < 128 {
-        return links <= code - 64;
+        let link = symbols::step_link(code);
+        return links <= link.0;
     }
     false
 }

@@ -13,17 +13,24 @@ ghost use Rattle.narrowed.specs.Given.{given};
 ghost use Rattle.bytes.specs.Size.{symbol-size};
 ghost use Rattle.bytes.specs.Wrote.{Wrote, Few};
 
+// The bytes of the fields of a step, of an operator, of a join through a set.
+const STEP_BYTES: usize = fields::HEAD + fields::STEP_LENGTH as usize;
+
+const OPERATOR_BYTES: usize = fields::HEAD + fields::OPERATOR_LENGTH as usize;
+
+const THROUGH_BYTES: usize = fields::HEAD + fields::THROUGH_LENGTH as usize;
+
 // The bytes of a symbol's field.
 pub fn symbol_size(number: u8) -> usize
     ensures { λ r. ⌜ (r ≡ symbol-size number) × (r ≤ 11) ⌝ }
 {
     if number < 128 {
-        return 5;
+        return STEP_BYTES;
     }
     if number == 255 {
-        return 11;
+        return THROUGH_BYTES;
     }
-    4
+    OPERATOR_BYTES
 }
 
 pub fn put_byte(out: &mut [u8], at: usize, b: u8) -> usize
@@ -81,7 +88,7 @@ pub fn put_count(out: &mut [u8], at: usize, n: u16) -> usize
     requires { ⌜ at + 5 ≤ length (now out) ⌝ }
     ensures { λ r. ⌜ Wrote (now (out .entry)) (now (out .exit)) at r (field-bytes 0x41 (two-bytes n)) ⌝ }
 {
-    let a = put_head(out, at, 0x41, 2);
+    let a = put_head(out, at, fields::NARROWED_TAG, fields::NARROWED_LENGTH);
     put_two(out, a, n)
 }
 
@@ -90,7 +97,7 @@ fn put_open(out: &mut [u8], at: usize, n: u8, from: u64, to: u64) -> usize
     requires { ⌜ at + 20 ≤ length (now out) ⌝ }
     ensures { λ r. ⌜ Wrote (now (out .entry)) (now (out .exit)) at r (field-bytes 0x42 (n ∷ (eight-bytes from ++ eight-bytes to))) ⌝ }
 {
-    let a = put_head(out, at, 0x42, 17);
+    let a = put_head(out, at, fields::MEMBER_TAG, fields::MEMBER_LENGTH);
     let b = put_byte(out, a, n);
     let c = put_eight(out, b, from);
     put_eight(out, c, to)
@@ -101,7 +108,7 @@ fn put_step(out: &mut [u8], at: usize, direction: u8, link: Link) -> usize
     requires { ⌜ at + 5 ≤ length (now out) ⌝ }
     ensures { λ r. ⌜ Wrote (now (out .entry)) (now (out .exit)) at r (field-bytes 0x43 (direction ∷ link .0 ∷ [])) ⌝ }
 {
-    let a = put_head(out, at, 0x43, 2);
+    let a = put_head(out, at, fields::STEP_TAG, fields::STEP_LENGTH);
     let b = put_byte(out, a, direction);
     put_byte(out, b, link.0)
 }
@@ -111,7 +118,7 @@ fn put_operator(out: &mut [u8], at: usize, o: u8) -> usize
     requires { ⌜ at + 4 ≤ length (now out) ⌝ }
     ensures { λ r. ⌜ Wrote (now (out .entry)) (now (out .exit)) at r (field-bytes 0x44 (o ∷ [])) ⌝ }
 {
-    let a = put_head(out, at, 0x44, 1);
+    let a = put_head(out, at, fields::OPERATOR_TAG, fields::OPERATOR_LENGTH);
     put_byte(out, a, o)
 }
 
@@ -120,7 +127,7 @@ fn put_through(out: &mut [u8], at: usize, set: u64) -> usize
     requires { ⌜ at + 11 ≤ length (now out) ⌝ }
     ensures { λ r. ⌜ Wrote (now (out .entry)) (now (out .exit)) at r (field-bytes 0x45 (eight-bytes set)) ⌝ }
 {
-    let a = put_head(out, at, 0x45, 8);
+    let a = put_head(out, at, fields::THROUGH_TAG, fields::THROUGH_LENGTH);
     put_eight(out, a, set)
 }
 

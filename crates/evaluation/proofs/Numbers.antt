@@ -2,14 +2,22 @@
 -- Assumes nothing.
 use mathlib.Core.Path.{_≡_, refl, sym, ap, subst, _∙_}
 use mathlib.Core.Bool.{Bool, true, false, cond, false≢true}
-use Prim.Native.Nat.{ℕ, zero, suc, _-_, _≤_, _<_}
+use Prim.Native.Nat.{ℕ, zero, suc, _-_, _%_, _≤_, _<_}
 use native.Mathlib.Omega.{arith}
 use lib.Dec.{ltb, eqb, leb}
 use borrow.Author.Tests.{leb-true, leb-false, eqb-true, eqb-false}
 use Rattle.theory.specs.PathExpr.{forward, reverse, through, Symbol, s-step, s-join, s-op, s-closure}
 use Rattle.symbols.specs.Symbols.{symbol-numbered, operator-numbered}
-use Rattle.symbols.proofs.Numbers.{operator-number, through-number}
+use Rattle.symbols.proofs.Numbers.{forward-number, reverse-number, operator-number, through-number}
 use Rattle.evaluation.specs.Ground.{closes?}
+
+-- ---- steps, by their link
+module _ (c m : ℕ) {l : ℕ} (e : l ≡ c % 64) where
+  pub forward-link : c < 64 → symbol-numbered c m ≡ s-step forward l
+  forward-link h = let z : c ≡ l = omega arith in forward-number c m h ∙ ap (s-step forward) z
+
+  pub reverse-link : 64 ≤ c → c < 128 → symbol-numbered c m ≡ s-step reverse l
+  reverse-link g h = let z : c - 64 ≡ l = omega arith in reverse-number c m g h ∙ ap (s-step reverse) z
 
 -- ---- operators
 module _ (c m : ℕ) (l : 128 ≤ c) where

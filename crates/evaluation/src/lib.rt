@@ -193,11 +193,11 @@ fn apply(
 {
     let z = n * w;
     if number < 64 {
-        step(work, b, n, w, register, Link(number), true);
+        step(work, b, n, w, register, symbols::step_link(number), true);
         return b + z;
     }
     if number < 128 {
-        step(work, b, n, w, register, Link(number - 64), false);
+        step(work, b, n, w, register, symbols::step_link(number), false);
         return b + z;
     }
     let a = b - z;

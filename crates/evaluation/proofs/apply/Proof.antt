@@ -2,10 +2,8 @@
 -- Assumes nothing.
 use Rattle.evaluation.proofs.Applying.{fits-operator}
 use mathlib.Core.Path.{sym, _∙_}
-use Prim.Native.Nat.{_-_}
 use Rattle.evaluation.proofs.Applying.{fits-step, fits-one, fits-two, applied-step, applied-closure, applied-binary}
-use Rattle.symbols.proofs.Numbers.{forward-number, reverse-number}
-use Rattle.evaluation.proofs.Numbers.{closure-number, binary-number}
+use Rattle.evaluation.proofs.Numbers.{forward-link, reverse-link, closure-number, binary-number}
 use Rattle.evaluation.proofs.Grounds.{small, rows-hold, narrow}
 use Rattle.symbols.specs.Symbols.{symbol-numbered}
 use Rattle.theory.specs.PathExpr.{forward, reverse}
@@ -23,29 +21,35 @@ use Rattle.relation.proofs.closure.Reads as closure-reads
 mul-z : tie.Need-mul-z
 mul-z c = omega (arith, small (c .before .before .pre .0))
 
+step-link-requires : tie.Need-step-link-requires
+step-link-requires c κs = search needs
+
 step-requires : tie.Need-step-requires
-step-requires c κs = let a = c .before .before .before .before .args in let r = c .before .before .before .before .pre in (fits-step (r .0) forward (a .number) (forward-number (a .number) (a .set) (c .before .if1 .taken)) (r .1), r .0)
+step-requires c κs = let a = c .before .before .before .before .before .args in let r = c .before .before .before .before .before .pre in (fits-step (r .0) forward _ (forward-link (a .number) (a .set) (c .step-link .ensures .0) (c .before .before .if1 .taken)) (r .1), r .0)
 
 add-result : tie.Need-add-result
-add-result c = let a = c .before .before .before .before .before .before .before .args in let r = c .before .before .before .before .before .before .before .pre in omega (arith, fits-step (r .0) forward (a .number) (forward-number (a .number) (a .set) (c .before .before .before .before .if1 .taken)) (r .1))
+add-result c = let a = c .before .before .before .before .before .before .before .before .args in let r = c .before .before .before .before .before .before .before .before .pre in omega (arith, fits-step (r .0) forward _ (forward-link (a .number) (a .set) (c .before .before .before .step-link .ensures .0) (c .before .before .before .before .before .if1 .taken)) (r .1))
 
 same-length : tie.Need-same-length
 same-length c = search needs
 
 returns : tie.Need-returns
-returns c = let a = c .before .before .before .before .before .before .before .args in let r = c .before .before .before .before .before .before .before .pre in applied-step (r .0) (a .b) (symbol-numbered (a .number) (a .set)) forward (a .number) (forward-number (a .number) (a .set) (c .before .before .before .before .if1 .taken)) (c .before .before .step .ensures)
+returns c = let a = c .before .before .before .before .before .before .before .before .args in let r = c .before .before .before .before .before .before .before .before .pre in applied-step (r .0) (a .b) (symbol-numbered (a .number) (a .set)) forward _ (forward-link (a .number) (a .set) (c .before .before .before .step-link .ensures .0) (c .before .before .before .before .before .if1 .taken)) (c .before .before .step .ensures)
+
+step-link-requires-2 : tie.Need-step-link-requires-2
+step-link-requires-2 c κs = search needs
 
 step-requires-2 : tie.Need-step-requires-2
-step-requires-2 c κs = let a = c .before .before .before .before .before .args in let r = c .before .before .before .before .before .pre in (fits-step (r .0) reverse (a .number - 64) (reverse-number (a .number) (a .set) (c .before .before .if1 .left) (c .before .if2 .taken)) (r .1), r .0)
+step-requires-2 c κs = let a = c .before .before .before .before .before .before .args in let r = c .before .before .before .before .before .before .pre in (fits-step (r .0) reverse _ (reverse-link (a .number) (a .set) (c .step-link2 .ensures .0) (c .before .before .before .if1 .left) (c .before .before .if2 .taken)) (r .1), r .0)
 
 add-result-2 : tie.Need-add-result-2
-add-result-2 c = let a = c .before .before .before .before .before .before .before .before .args in let r = c .before .before .before .before .before .before .before .before .pre in omega (arith, fits-step (r .0) reverse (a .number - 64) (reverse-number (a .number) (a .set) (c .before .before .before .before .before .if1 .left) (c .before .before .before .before .if2 .taken)) (r .1))
+add-result-2 c = let a = c .before .before .before .before .before .before .before .before .before .args in let r = c .before .before .before .before .before .before .before .before .before .pre in omega (arith, fits-step (r .0) reverse _ (reverse-link (a .number) (a .set) (c .before .before .before .step-link2 .ensures .0) (c .before .before .before .before .before .before .if1 .left) (c .before .before .before .before .before .if2 .taken)) (r .1))
 
 same-length-2 : tie.Need-same-length-2
 same-length-2 c = search needs
 
 returns-2 : tie.Need-returns-2
-returns-2 c = let a = c .before .before .before .before .before .before .before .before .args in let r = c .before .before .before .before .before .before .before .before .pre in applied-step (r .0) (a .b) (symbol-numbered (a .number) (a .set)) reverse (a .number - 64) (reverse-number (a .number) (a .set) (c .before .before .before .before .before .if1 .left) (c .before .before .before .before .if2 .taken)) (c .before .before .step2 .ensures)
+returns-2 c = let a = c .before .before .before .before .before .before .before .before .before .args in let r = c .before .before .before .before .before .before .before .before .before .pre in applied-step (r .0) (a .b) (symbol-numbered (a .number) (a .set)) reverse _ (reverse-link (a .number) (a .set) (c .before .before .before .step-link2 .ensures .0) (c .before .before .before .before .before .before .if1 .left) (c .before .before .before .before .before .if2 .taken)) (c .before .before .step2 .ensures)
 
 sub-a : tie.Need-sub-a
 sub-a c = let a = c .before .before .before .before .args in let r = c .before .before .before .before .pre in fits-operator (r .0) (a .number) (a .set) (c .if2 .left) (r .1)
@@ -100,10 +104,12 @@ apply-spec =
     tie.close
     (tie.spec
     mul-z
+    step-link-requires
     step-requires
     add-result
     same-length
     returns
+    step-link-requires-2
     step-requires-2
     add-result-2
     same-length-2

@@ -11,7 +11,7 @@ use Rattle.fields.specs.declared.Written as declared·Written
 use Rattle.fields.specs.declared.Written.the-variants as written
 use Rattle.fields.specs.declared.Seen as declared·Seen
 use Rattle.fields.specs.declared.Seen.the-variants as seen
-use Rattle.fields.specs.Answer.{Answer, got, refused}
+use Rattle.fields.specs.Answer.{Answer, refused}
 use Rattle.fields.specs.Call.{Outcome, accepts, refuses, Size, size}
 use Rattle.fields.specs.Reading.{Field, ends, wrong, body}
 

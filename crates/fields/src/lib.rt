@@ -115,64 +115,58 @@ pub const HEAD: usize = 3;
 // A tag, its one length, and whether a sheet, a question, a register, a narrowed question may have it.
 pub struct Row(pub u8, pub u16, pub bool, pub bool, pub bool, pub bool);
 
-// Of each field its tag, and the length of its body.
-pub const SHEET_TAG: u8 = 0x11;
-
-pub const SHEET_LENGTH: u16 = 2;
-
-pub const TRIPLE_TAG: u8 = 0x12;
-
-pub const TRIPLE_LENGTH: u16 = 3;
-
-pub const QUESTION_TAG: u8 = 0x21;
-
-pub const QUESTION_LENGTH: u16 = 1;
-
-pub const REGISTER_TAG: u8 = 0x31;
-
-pub const REGISTER_LENGTH: u16 = 4;
-
-pub const KIND_TAG: u8 = 0x32;
-
-pub const KIND_LENGTH: u16 = 1;
-
-pub const LINK_TAG: u8 = 0x33;
-
-pub const LINK_LENGTH: u16 = 5;
-
-pub const NARROWED_TAG: u8 = 0x41;
-
-pub const NARROWED_LENGTH: u16 = 2;
-
-pub const MEMBER_TAG: u8 = 0x42;
-
-pub const MEMBER_LENGTH: u16 = 17;
-
-pub const STEP_TAG: u8 = 0x43;
-
-pub const STEP_LENGTH: u16 = 2;
-
-pub const OPERATOR_TAG: u8 = 0x44;
-
-pub const OPERATOR_LENGTH: u16 = 1;
-
-pub const THROUGH_TAG: u8 = 0x45;
-
-pub const THROUGH_LENGTH: u16 = 8;
-
 const ROWS: [Row; 11] = [
-    Row(SHEET_TAG, SHEET_LENGTH, true, false, false, false),
-    Row(TRIPLE_TAG, TRIPLE_LENGTH, true, false, false, false),
-    Row(QUESTION_TAG, QUESTION_LENGTH, false, true, false, false),
-    Row(REGISTER_TAG, REGISTER_LENGTH, false, false, true, false),
-    Row(KIND_TAG, KIND_LENGTH, false, false, true, false),
-    Row(LINK_TAG, LINK_LENGTH, false, false, true, false),
-    Row(NARROWED_TAG, NARROWED_LENGTH, false, false, false, true),
-    Row(MEMBER_TAG, MEMBER_LENGTH, false, false, false, true),
-    Row(STEP_TAG, STEP_LENGTH, false, true, false, true),
-    Row(OPERATOR_TAG, OPERATOR_LENGTH, false, true, false, true),
-    Row(THROUGH_TAG, THROUGH_LENGTH, false, false, false, true),
+    Row(0x11, 2, true, false, false, false),
+    Row(0x12, 3, true, false, false, false),
+    Row(0x21, 1, false, true, false, false),
+    Row(0x31, 4, false, false, true, false),
+    Row(0x32, 1, false, false, true, false),
+    Row(0x33, 5, false, false, true, false),
+    Row(0x41, 2, false, false, false, true),
+    Row(0x42, 17, false, false, false, true),
+    Row(0x43, 2, false, true, false, true),
+    Row(0x44, 1, false, true, false, true),
+    Row(0x45, 8, false, false, false, true),
 ];
+
+// The tags of the table by name, and the lengths that code elsewhere counts with.
+pub const SHEET_TAG: u8 = ROWS[0].0;
+
+pub const TRIPLE_TAG: u8 = ROWS[1].0;
+
+pub const QUESTION_TAG: u8 = ROWS[2].0;
+
+pub const REGISTER_TAG: u8 = ROWS[3].0;
+
+pub const KIND_TAG: u8 = ROWS[4].0;
+
+pub const LINK_TAG: u8 = ROWS[5].0;
+
+pub const NARROWED_TAG: u8 = ROWS[6].0;
+
+pub const MEMBER_TAG: u8 = ROWS[7].0;
+
+pub const STEP_TAG: u8 = ROWS[8].0;
+
+pub const OPERATOR_TAG: u8 = ROWS[9].0;
+
+pub const THROUGH_TAG: u8 = ROWS[10].0;
+
+pub const REGISTER_LENGTH: u16 = ROWS[3].1;
+
+pub const KIND_LENGTH: u16 = ROWS[4].1;
+
+pub const LINK_LENGTH: u16 = ROWS[5].1;
+
+pub const NARROWED_LENGTH: u16 = ROWS[6].1;
+
+pub const MEMBER_LENGTH: u16 = ROWS[7].1;
+
+pub const STEP_LENGTH: u16 = ROWS[8].1;
+
+pub const OPERATOR_LENGTH: u16 = ROWS[9].1;
+
+pub const THROUGH_LENGTH: u16 = ROWS[10].1;
 
 fn allows(row: Row, file: File) -> bool
     ensures { λ r. ⌜ r ≡ allowed row file ⌝ }

@@ -17,7 +17,7 @@ use Rattle.narrowed.specs.Writing.{eight-bytes, field-bytes, symbol-tag,
 use Rattle.symbols.specs.Symbols.{Fine}
 use Rattle.fields.specs.declared.File.the-variants as file
 use Rattle.symbols.specs.declared.Stack.{Stack}
-use Rattle.fields.specs.Table.{among, rows}
+use Rattle.fields.specs.Table.{among, rows, tag-length}
 use Rattle.narrowed.proofs.Bytes.{Bytes, listed, eight-of, eight-set, eight-back}
 
 -- ---- a symbol that was read: its field's bytes, and its ranges
@@ -50,10 +50,10 @@ operator-split at b x l e =
     subst (λ (u : Numbered). Split 0x44 b u) z (ap (field-bytes 0x44) (listed 1 b l) ∙ sym y, inl (omega arith, refl))
 
 pub symbol-split : (at t : ℕ) (b : List ℕ) (x : Numbered) → Bytes b → 0x43 ≤ t → t ≤ 0x45 → length b ≡ symbol-length t → symbol-in at t b ≡ got x → Split t b x
-unfolding symbol-in
+unfolding symbol-in tag-length rows
 symbol-split at t b x h low high l e = by-tag (eqb t 0x43) (eqb t 0x44) refl refl l e
   where
-    by-tag : (p q : Bool) → eqb t 0x43 ≡ p → eqb t 0x44 ≡ q → length b ≡ cond p 2 (cond q 1 8)
+    by-tag : (p q : Bool) → eqb t 0x43 ≡ p → eqb t 0x44 ≡ q → length b ≡ cond p (tag-length 0x43) (cond q (tag-length 0x44) (tag-length 0x45))
         → cond p (step-of at b) (cond q (operator-of at b) (got (numbered 255 (eight b 0)))) ≡ got x → Split t b x
     by-tag true q ep eq l e = subst (λ (u : ℕ). Split u b x) (sym (eqb-true t 0x43 ep)) (step-split at b x l e)
     by-tag false true ep eq l e = subst (λ (u : ℕ). Split u b x) (sym (eqb-true t 0x44 eq)) (operator-split at b x l e)

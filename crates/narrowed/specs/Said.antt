@@ -10,6 +10,7 @@ use Rattle.theory.specs.Lists.{concat-map}
 use Rattle.fields.specs.declared.File.the-variants as file
 use Rattle.fields.specs.declared.Due.{Due}
 use Rattle.symbols.specs.declared.Stack.{Stack}
+use Rattle.fields.specs.Table.{tag-length}
 use Rattle.fields.specs.Answer.{Answer, got, refused, onward}
 use Rattle.fields.specs.Reading.{Field, field-at, word, eight}
 use Rattle.fields.specs.Reading as field
@@ -106,8 +107,8 @@ judged (Within l p q) at next t b = symbol-move l p q at next t b
 
 -- what the code needs of a body before it looks
 abbrev pub Ready : Standing → ℕ → ℕ → Type 0
-Ready Head t n = n ≡ 2
-Ready (Between l) t n = (n ≡ 17) × (0 < l)
+Ready Head t n = n ≡ tag-length 0x41
+Ready (Between l) t n = (n ≡ tag-length 0x42) × (0 < l)
 Ready (Within l p q) t n = (n ≡ symbol-length t) × ((0 < q .left) × (q .depth < 255))
 
 abbrev pub turn-said : Turn → Answer Move

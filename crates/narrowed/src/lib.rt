@@ -11,6 +11,7 @@ ghost use mathlib.Core.List.{[]};
 ghost use Prim.Native.Nat.{_+_, _≤_, _<_};
 ghost use lib.ListN.{length, replicate, set};
 ghost use Rattle.theory.specs.PathExpr.{before?};
+ghost use Rattle.fields.specs.Table.{tag-length};
 ghost use Rattle.fields.specs.Reading.{read as read-file, word};
 ghost use Rattle.symbols.specs.Symbols.{order-code, symbol-length};
 ghost use Rattle.narrowed.specs.Form.{narrowed-form};
@@ -94,7 +95,7 @@ fn due(st: Standing) -> Due
 
 // 41: the number of members; refusal 3.
 fn count(at: usize, b: &[u8]) -> Turn
-    requires { ⌜ length (now b) ≡ 2 ⌝ }
+    requires { ⌜ length (now b) ≡ tag-length 0x41 ⌝ }
     ensures { λ r. ⌜ turn-said r ≡ count-of at (now (b .entry)) ⌝ }
 {
     let n = fields::two(b, 0);
@@ -107,7 +108,7 @@ fn count(at: usize, b: &[u8]) -> Turn
 
 // 42: the number of symbols and the two sets; refusal 3.
 fn open_member(l: u8, at: usize, b: &[u8]) -> Turn
-    requires { ⌜ (length (now b) ≡ 17) × (0 < l) ⌝ }
+    requires { ⌜ (length (now b) ≡ tag-length 0x42) × (0 < l) ⌝ }
     ensures { λ r. ⌜ turn-said r ≡ open-move l at (now (b .entry)) ⌝ }
 {
     let n = b[0];

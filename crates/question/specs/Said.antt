@@ -7,6 +7,7 @@ use lib.ListN.{length, replicate}
 use Rattle.fields.specs.declared.Due.{Due}
 use Rattle.fields.specs.declared.File.the-variants as file
 use Rattle.symbols.specs.declared.Stack.{Stack}
+use Rattle.fields.specs.Table.{tag-length}
 use Rattle.fields.specs.Answer.{Answer, got, refused, onward}
 use Rattle.fields.specs.Padded.{padded}
 use Rattle.fields.specs.Said.{refusal-said}
@@ -53,7 +54,7 @@ judged (Within q) at next t b = onward (λ x. onward (λ q′. got (more (x .num
 
 -- what the code needs of a body before it looks
 abbrev pub Ready : Standing → ℕ → ℕ → Type 0
-Ready Head t n = n ≡ 1
+Ready Head t n = n ≡ tag-length 0x21
 Ready (Within q) t n = (n ≡ symbol-length t) × ((0 < q .left) × (q .depth < 255))
 
 abbrev pub turn-said : Turn → Answer Move

@@ -8,6 +8,7 @@ use symbols::Read;
 use symbols::Stack;
 ghost use mathlib.Core.Path.{_≡_};
 ghost use lib.ListN.{length, replicate};
+ghost use Rattle.fields.specs.Table.{tag-length};
 ghost use Rattle.fields.specs.Reading.{read as read-file};
 ghost use Rattle.question.specs.Form.{question-form};
 ghost use Rattle.question.specs.Said.{Reads, due-of, judged, Ready, turn-said};
@@ -53,7 +54,7 @@ fn due(st: Standing) -> Due
 
 // 21: the number of symbols; refusal 3.
 fn head(at: usize, b: &[u8]) -> Turn
-    requires { ⌜ length (now b) ≡ 1 ⌝ }
+    requires { ⌜ length (now b) ≡ tag-length 0x21 ⌝ }
     ensures { λ r. ⌜ turn-said r ≡ judged Standing.Head at 0 0 (now (b .entry)) ⌝ }
 {
     let n = b[0];

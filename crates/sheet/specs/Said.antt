@@ -6,6 +6,7 @@ use Prim.Native.Nat.{ℕ, _<_}
 use Rattle.theory.specs.Register.{Edge, edge}
 use Rattle.theory.specs.Sheet.{Sheet}
 use Rattle.fields.specs.declared.Due.{Due}
+use Rattle.fields.specs.Table.{tag-length}
 use Rattle.fields.specs.Answer.{Answer, got, onward}
 use Rattle.fields.specs.Said.{refusal-said}
 use Rattle.sheet.specs.declared.Outcome.{Outcome}
@@ -55,8 +56,8 @@ judged (Within q) at b = onward (λ q′. got (more (edge-of b) q′)) (next q a
 
 -- what the code needs of a body before it looks
 abbrev pub Ready : Standing → ℕ → Type 0
-Ready Head n = n ≡ 2
-Ready (Within q) n = (n ≡ 3) × (q .count < 512)
+Ready Head n = n ≡ tag-length 0x11
+Ready (Within q) n = (n ≡ tag-length 0x12) × (q .count < 512)
 
 abbrev pub edge-said : Triple → Edge
 edge-said x = edge (x .from .0) (x .link .0) (x .to .0)

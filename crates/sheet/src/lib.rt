@@ -8,6 +8,7 @@ use fields::Seen;
 ghost use mathlib.Core.Path.{_≡_};
 ghost use Prim.Native.Nat.{_<_};
 ghost use lib.ListN.{length, replicate};
+ghost use Rattle.fields.specs.Table.{tag-length};
 ghost use Rattle.fields.specs.Reading.{read as read-file};
 ghost use Rattle.sheet.specs.Form.{sheet-form, key};
 ghost use Rattle.sheet.specs.Table.{cell};
@@ -74,7 +75,7 @@ fn due(st: Standing) -> Due
 
 // 11: the numbers of kinds and of links; refusal 3.
 fn head(at: usize, b: &[u8]) -> Turn
-    requires { ⌜ length (now b) ≡ 2 ⌝ }
+    requires { ⌜ length (now b) ≡ tag-length 0x11 ⌝ }
     ensures { λ r. ⌜ turn-said r ≡ judged Standing.Head at (now (b .entry)) ⌝ }
 {
     let k = b[0];
@@ -107,7 +108,7 @@ fn wide(b: u8) -> u32
 
 // Three bytes as one number.
 fn key_of(b: &[u8]) -> u32
-    requires { ⌜ length (now b) ≡ 3 ⌝ }
+    requires { ⌜ 2 < length (now b) ⌝ }
     ensures { λ r. ⌜ (r ≡ key (now (b .entry))) × (r < 16777216) ⌝ }
 {
     wide(b[0]) * 65536 + wide(b[1]) * 256 + wide(b[2])

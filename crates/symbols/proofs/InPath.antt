@@ -26,13 +26,13 @@ symbol-range f q t n e =
 
 -- and its length
 pub symbol-len : (f : File) (q : Stack) (t n : ℕ) → fitting (due-symbols f q) t n ≡ true → n ≡ symbol-length t
-unfolding fitting tag-length rows
+unfolding fitting
 symbol-len f q t n e = by-tag (eqb t 0x43) (eqb t 0x44) refl refl
   where
     own : n ≡ tag-length t
     own = own-length f t n (and-right (leb 0x43 t && leb t 0x45) _ e)
 
-    by-tag : (a b : Bool) → eqb t 0x43 ≡ a → eqb t 0x44 ≡ b → n ≡ cond a 2 (cond b 1 8)
+    by-tag : (a b : Bool) → eqb t 0x43 ≡ a → eqb t 0x44 ≡ b → n ≡ cond a (tag-length 0x43) (cond b (tag-length 0x44) (tag-length 0x45))
     by-tag true b p r = own ∙ ap tag-length (eqb-true t 0x43 p)
     by-tag false true p r = own ∙ ap tag-length (eqb-true t 0x44 r)
     by-tag false false p r =

@@ -13,6 +13,7 @@ use Rattle.theory.specs.KindSet.{is-set}
 use Rattle.fields.specs.declared.File.{File}
 use Rattle.fields.specs.declared.Due.{Due}
 use Rattle.symbols.specs.declared.Stack.{Stack}
+use Rattle.fields.specs.Table.{tag-length}
 use Rattle.fields.specs.Answer.{Answer, got, refused}
 use Rattle.fields.specs.Reading.{eight}
 
@@ -39,9 +40,9 @@ order-code c = cond (eqb c 255) 128 c
 unfoldable pub arity : ℕ → ℕ
 arity c = cond (ltb c 128) 0 (cond (eqb c 133) 1 2)
 
--- the length of a symbol's body
+-- the length of a symbol's body: that of a step, of an operator, of a join through a set
 abbrev pub symbol-length : ℕ → ℕ
-symbol-length t = cond (eqb t 0x43) 2 (cond (eqb t 0x44) 1 8)
+symbol-length t = cond (eqb t 0x43) (tag-length 0x43) (cond (eqb t 0x44) (tag-length 0x44) (tag-length 0x45))
 
 -- number and set
 pub record Numbered : Type 0 where

@@ -6,6 +6,7 @@ use fields::Refusal;
 ghost use mathlib.Core.Path.{_≡_};
 ghost use Prim.Native.Nat.{_<_, _%_};
 ghost use lib.ListN.{length};
+ghost use Rattle.fields.specs.Table.{tag-length};
 ghost use Rattle.symbols.specs.Symbols.{symbol-length, step-of, operator-of, symbol-in, push, arity, due-symbols};
 ghost use Rattle.symbols.specs.Said.{symbol-said, push-said};
 
@@ -21,7 +22,7 @@ pub enum Read {
 }
 
 fn step_in(at: usize, b: &[u8]) -> Read
-    requires { ⌜ length (now b) ≡ 2 ⌝ }
+    requires { ⌜ length (now b) ≡ tag-length 0x43 ⌝ }
     ensures { λ r. ⌜ symbol-said r ≡ step-of at (now (b .entry)) ⌝ }
 {
     if b[0] < 2 {
@@ -37,7 +38,7 @@ fn step_in(at: usize, b: &[u8]) -> Read
 }
 
 fn operator_in(at: usize, b: &[u8]) -> Read
-    requires { ⌜ length (now b) ≡ 1 ⌝ }
+    requires { ⌜ length (now b) ≡ tag-length 0x44 ⌝ }
     ensures { λ r. ⌜ symbol-said r ≡ operator-of at (now (b .entry)) ⌝ }
 {
     if 128 <= b[0] {

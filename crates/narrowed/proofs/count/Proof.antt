@@ -1,5 +1,6 @@
 -- `narrowed::count` meets its contract.
 -- Assumes nothing.
+use Rattle.fields.specs.Table.{rows, tag-length}
 use borrow.Author.Tests.{lt-leb, le-leb}
 use Rattle.narrowed.specs.Said.{count-of}
 use borrow.Author.Needs.{needs}
@@ -7,6 +8,7 @@ use Rattle.narrowed.proofs.count.Statement.{statement}
 use Rattle.narrowed.proofs.count.Tie as tie
 
 two-requires : tie.Need-two-requires
+unfolding tag-length rows
 two-requires c κs = search needs
 
 returns : tie.Need-returns

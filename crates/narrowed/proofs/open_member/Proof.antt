@@ -1,5 +1,6 @@
 -- `narrowed::open_member` meets its contract.
 -- Assumes nothing.
+use Rattle.fields.specs.Table.{rows, tag-length}
 use borrow.Author.Tests.{lt-leb, le-leb}
 use Rattle.narrowed.specs.Said.{open-move}
 use borrow.Author.Needs.{needs}
@@ -7,6 +8,7 @@ use Rattle.narrowed.proofs.open_member.Statement.{statement}
 use Rattle.narrowed.proofs.open_member.Tie as tie
 
 shared-slice-read-n : tie.Need-shared-slice-read-n
+unfolding tag-length rows
 shared-slice-read-n c = search needs
 
 returns : tie.Need-returns
@@ -21,9 +23,11 @@ sub-t8 : tie.Need-sub-t8
 sub-t8 c = search needs
 
 eight-at-requires : tie.Need-eight-at-requires
+unfolding tag-length rows
 eight-at-requires c κs = search needs
 
 eight-at-requires-2 : tie.Need-eight-at-requires-2
+unfolding tag-length rows
 eight-at-requires-2 c κs = search needs
 
 returns-3 : tie.Need-returns-3

@@ -1,5 +1,6 @@
 -- `question::head` meets its contract.
 -- Assumes nothing.
+use Rattle.fields.specs.Table.{rows, tag-length}
 use borrow.Author.Tests.{lt-leb, le-leb}
 use Rattle.question.specs.Form.{head-of}
 use borrow.Author.Needs.{needs}
@@ -7,6 +8,7 @@ use Rattle.question.proofs.head.Statement.{statement}
 use Rattle.question.proofs.head.Tie as tie
 
 shared-slice-read-n : tie.Need-shared-slice-read-n
+unfolding tag-length rows
 shared-slice-read-n c = search needs
 
 returns : tie.Need-returns

@@ -1,5 +1,6 @@
 -- `sheet::grow` meets its contract.
 -- Assumes nothing.
+use Rattle.fields.specs.Table.{rows, tag-length}
 use borrow.Author.Tests.{lt-ltb, lt-leb, le-ltb, le-leb}
 use borrow.Author.Needs.{needs}
 use Rattle.sheet.specs.Form.{next}
@@ -7,6 +8,7 @@ use Rattle.sheet.proofs.grow.Statement.{statement}
 use Rattle.sheet.proofs.grow.Tie as tie
 
 shared-slice-read-if1 : tie.Need-shared-slice-read-if1
+unfolding tag-length rows
 shared-slice-read-if1 c = search needs
 
 returns : tie.Need-returns
@@ -14,6 +16,7 @@ unfolding next
 returns c = simp (le-ltb _ _ (c .if1 .taken))
 
 shared-slice-read-if2 : tie.Need-shared-slice-read-if2
+unfolding tag-length rows
 shared-slice-read-if2 c = search needs
 
 returns-2 : tie.Need-returns-2
@@ -21,6 +24,7 @@ unfolding next
 returns-2 c = simp (le-ltb _ _ (c .if2 .taken), lt-ltb _ _ (c .before .before .before .if1 .left))
 
 shared-slice-read-if3 : tie.Need-shared-slice-read-if3
+unfolding tag-length rows
 shared-slice-read-if3 c = search needs
 
 returns-3 : tie.Need-returns-3
@@ -28,6 +32,7 @@ unfolding next
 returns-3 c = simp (le-ltb _ _ (c .if3 .taken), lt-ltb _ _ (c .before .before .before .if2 .left), lt-ltb _ _ (c .before .before .before .before .before .before .if1 .left))
 
 key-of-requires : tie.Need-key-of-requires
+unfolding tag-length rows
 key-of-requires c κs = search needs
 
 returns-4 : tie.Need-returns-4
@@ -35,12 +40,15 @@ unfolding next
 returns-4 c = simp (lt-leb _ _ (c .if4 .taken), ← c .before .before .key-of .ensures .0, lt-ltb _ _ (c .before .before .before .if3 .left), lt-ltb _ _ (c .before .before .before .before .before .before .if2 .left), lt-ltb _ _ (c .before .before .before .before .before .before .before .before .before .if1 .left))
 
 shared-slice-read-t8 : tie.Need-shared-slice-read-t8
+unfolding tag-length rows
 shared-slice-read-t8 c = search needs
 
 shared-slice-read-t19 : tie.Need-shared-slice-read-t19
+unfolding tag-length rows
 shared-slice-read-t19 c = search needs
 
 shared-slice-read-t22 : tie.Need-shared-slice-read-t22
+unfolding tag-length rows
 shared-slice-read-t22 c = search needs
 
 add-t24 : tie.Need-add-t24

@@ -1,5 +1,6 @@
 -- `sheet::head` meets its contract.
 -- Assumes nothing.
+use Rattle.fields.specs.Table.{rows, tag-length}
 use borrow.Author.Tests.{lt-leb, le-leb}
 use borrow.Author.Needs.{needs}
 use Rattle.sheet.specs.Form.{head-of}
@@ -7,9 +8,11 @@ use Rattle.sheet.proofs.head.Statement.{statement}
 use Rattle.sheet.proofs.head.Tie as tie
 
 shared-slice-read-k : tie.Need-shared-slice-read-k
+unfolding tag-length rows
 shared-slice-read-k c = search needs
 
 shared-slice-read-e : tie.Need-shared-slice-read-e
+unfolding tag-length rows
 shared-slice-read-e c = search needs
 
 returns : tie.Need-returns

@@ -1,5 +1,6 @@
 -- `symbols::operator_in` meets its contract.
 -- Assumes nothing.
+use Rattle.fields.specs.Table.{rows, tag-length}
 use borrow.Author.Needs.{needs}
 use borrow.Author.Tests.{le-leb, lt-leb}
 use Rattle.symbols.specs.Symbols.{operator-of}
@@ -7,12 +8,15 @@ use Rattle.symbols.proofs.operator_in.Statement.{statement}
 use Rattle.symbols.proofs.operator_in.Tie as tie
 
 shared-slice-read-if1 : tie.Need-shared-slice-read-if1
+unfolding tag-length rows
 shared-slice-read-if1 c = search needs
 
 shared-slice-read-if2 : tie.Need-shared-slice-read-if2
+unfolding tag-length rows
 shared-slice-read-if2 c = search needs
 
 shared-slice-read-t10 : tie.Need-shared-slice-read-t10
+unfolding tag-length rows
 shared-slice-read-t10 c = search needs
 
 returns : tie.Need-returns

@@ -1,5 +1,6 @@
 -- `symbols::step_in` meets its contract.
 -- Assumes nothing.
+use Rattle.fields.specs.Table.{rows, tag-length}
 use Rattle.symbols.specs.Symbols.{step-of}
 use borrow.Author.Tests.{lt-ltb, le-ltb}
 use borrow.Author.Needs.{needs}
@@ -7,18 +8,22 @@ use Rattle.symbols.proofs.step_in.Statement.{statement}
 use Rattle.symbols.proofs.step_in.Tie as tie
 
 shared-slice-read-if1 : tie.Need-shared-slice-read-if1
+unfolding tag-length rows
 shared-slice-read-if1 c = search needs
 
 shared-slice-read-if2 : tie.Need-shared-slice-read-if2
+unfolding tag-length rows
 shared-slice-read-if2 c = search needs
 
 shared-slice-read-t10 : tie.Need-shared-slice-read-t10
+unfolding tag-length rows
 shared-slice-read-t10 c = search needs
 
 mul-t11 : tie.Need-mul-t11
 mul-t11 c = search needs
 
 shared-slice-read-t13 : tie.Need-shared-slice-read-t13
+unfolding tag-length rows
 shared-slice-read-t13 c = search needs
 
 add-t14 : tie.Need-add-t14

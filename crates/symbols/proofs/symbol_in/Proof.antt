@@ -1,5 +1,6 @@
 -- `symbols::symbol_in` meets its contract.
 -- Assumes nothing.
+use Rattle.fields.specs.Table.{rows, tag-length}
 use native.Mathlib.Omega.{arith}
 use borrow.Author.Tests.{eq-eqb, ne-eqb}
 use mathlib.Core.Path.{_∙_, ap}
@@ -23,6 +24,7 @@ unfolding symbol-in
 returns-2 c = simp (ne-eqb _ _ (c .before .before .if1 .left), eq-eqb _ _ (c .before .if2 .taken)) (c .operator-in .ensures)
 
 eight-at-requires : tie.Need-eight-at-requires
+unfolding tag-length rows
 eight-at-requires c κs = let e = simp (ne-eqb _ _ (c .before .if1 .left), ne-eqb _ _ (c .if2 .left)) at (c .before .before .before .pre) in omega arith
 
 returns-3 : tie.Need-returns-3

@@ -6,6 +6,7 @@ use mathlib.Core.List.{List}
 use lib.ListN.{length, getD, length-append}
 use lib.Seq.{sets}
 use native.Mathlib.Omega.{arith}
+use Rattle.fields.specs.Table.{rows, tag-length, field-size}
 use Rattle.narrowed.specs.declared.Members.{Members}
 use Rattle.narrowed.specs.Writing.{two-bytes, field-bytes, member-bytes, members-bytes, encode}
 use Rattle.narrowed.specs.Given.{members-given, given}
@@ -23,7 +24,8 @@ members-all q = members-bytes (members-given q (q .count) 0 0)
 encode-length : (q : Members) → length (encode (given q)) ≡ 5 + length (members-all q)
 encode-length q = ap length (encode-parts q) ∙ length-append (opening q) (members-all q)
 
-pub count-room : (q : Members) {room : ℕ} → length (encode (given q)) ≤ room → 5 ≤ room
+pub count-room : (q : Members) {room : ℕ} → length (encode (given q)) ≤ room → 0 + field-size 0x41 ≤ room
+unfolding field-size tag-length rows
 count-room q h = omega (arith, h, encode-length q)
 
 -- of the members, written from a place s of an area o on, those before the i-th are; its symbols begin with the k-th

@@ -8,6 +8,7 @@ use lib.Dec.{ltb, eqb}
 use lib.ListN.{length, getD}
 use native.Mathlib.Omega.{arith}
 use borrow.Author.Tests.{lt-ltb, le-ltb, eq-eqb, ne-eqb}
+use Rattle.fields.specs.Table.{rows, tag-length, field-size}
 use Rattle.narrowed.specs.declared.Members.{Members}
 use Rattle.narrowed.specs.Form.{Flat, flat}
 use Rattle.narrowed.specs.Writing.{two-bytes, eight-bytes, field-bytes, symbol-bytes, symbols-bytes, member-bytes, members-bytes, encode}
@@ -29,7 +30,7 @@ operator-bytes c m g h = simp (le-ltb c 128 g, ne-eqb c 255 h)
 
 -- the size of a symbol's field
 pub size-is : (c m : ℕ) → symbol-size c ≡ length (symbol-bytes (symbol-given c m))
-unfolding symbol-size
+unfolding symbol-size field-size tag-length rows
 size-is c m = go (ltb c 128) (eqb c 255) refl refl
   where
     go : (a b : Bool) → ltb c 128 ≡ a → eqb c 255 ≡ b → cond (ltb c 128) 5 (cond (eqb c 255) 11 4) ≡ length (symbol-bytes (symbol-given c m))
@@ -37,13 +38,16 @@ size-is c m = go (ltb c 128) (eqb c 255) refl refl
     go false true e f = rw (e, f)
     go false false e f = rw (e, f)
 
-pub step-room : (c m at : ℕ) {room : ℕ} → c < 128 → at + length (symbol-bytes (symbol-given c m)) ≤ room → at + 5 ≤ room
+pub step-room : (c m at : ℕ) {room : ℕ} → c < 128 → at + length (symbol-bytes (symbol-given c m)) ≤ room → at + field-size 0x43 ≤ room
+unfolding field-size tag-length rows
 step-room c m at h r = omega (arith, ap length (step-bytes c m h refl), r)
 
-pub through-room : (c m at : ℕ) {room : ℕ} → 128 ≤ c → c ≡ 255 → at + length (symbol-bytes (symbol-given c m)) ≤ room → at + 11 ≤ room
+pub through-room : (c m at : ℕ) {room : ℕ} → 128 ≤ c → c ≡ 255 → at + length (symbol-bytes (symbol-given c m)) ≤ room → at + field-size 0x45 ≤ room
+unfolding field-size tag-length rows
 through-room c m at g h r = omega (arith, ap length (through-bytes c m g h), r)
 
-pub operator-room : (c m at : ℕ) {room : ℕ} → 128 ≤ c → (c ≡ 255 → ⊥) → at + length (symbol-bytes (symbol-given c m)) ≤ room → at + 4 ≤ room
+pub operator-room : (c m at : ℕ) {room : ℕ} → 128 ≤ c → (c ≡ 255 → ⊥) → at + length (symbol-bytes (symbol-given c m)) ≤ room → at + field-size 0x44 ≤ room
+unfolding field-size tag-length rows
 operator-room c m at g h r = omega (arith, ap length (operator-bytes c m g h), r)
 
 -- ---- symbols, one more

@@ -4,6 +4,7 @@
 use mathlib.Core.Bool.{cond}
 use Prim.Native.Nat.{ℕ}
 use lib.Dec.{ltb, eqb}
+use Rattle.fields.specs.Table.{field-size}
 
 unfoldable pub symbol-size : ℕ → ℕ
-symbol-size c = cond (ltb c 128) 5 (cond (eqb c 255) 11 4)
+symbol-size c = cond (ltb c 128) (field-size 0x43) (cond (eqb c 255) (field-size 0x45) (field-size 0x44))

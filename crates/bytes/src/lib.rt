@@ -6,12 +6,18 @@ ghost use mathlib.Core.List.{[], _∷_, _++_};
 ghost use Prim.Native.Nat.{_+_, _≤_, _<_};
 ghost use lib.ListN.{length};
 ghost use lib.Seq.{sets};
+ghost use Rattle.fields.specs.Table.{field-size};
 ghost use Rattle.narrowed.specs.Form.{flat};
 ghost use Rattle.narrowed.specs.Writing.{two-bytes, eight-bytes, field-bytes, symbol-bytes, symbols-bytes, member-bytes, encode};
 ghost use Rattle.symbols.specs.Symbols.{symbol-given, symbols-given};
 ghost use Rattle.narrowed.specs.Given.{given};
 ghost use Rattle.bytes.specs.Size.{symbol-size};
 ghost use Rattle.bytes.specs.Wrote.{Wrote, Few};
+
+// The bytes of a narrowed question's head, and of a member's.
+pub const NARROWED_BYTES: usize = fields::HEAD + fields::NARROWED_LENGTH as usize;
+
+pub const MEMBER_BYTES: usize = fields::HEAD + fields::MEMBER_LENGTH as usize;
 
 // The bytes of the fields of a step, of an operator, of a join through a set.
 const STEP_BYTES: usize = fields::HEAD + fields::STEP_LENGTH as usize;
@@ -85,7 +91,7 @@ fn put_head(out: &mut [u8], at: usize, tag: u8, len: u16) -> usize
 
 // 41: the number of members.
 pub fn put_count(out: &mut [u8], at: usize, n: u16) -> usize
-    requires { ⌜ at + 5 ≤ length (now out) ⌝ }
+    requires { ⌜ at + field-size 0x41 ≤ length (now out) ⌝ }
     ensures { λ r. ⌜ Wrote (now (out .entry)) (now (out .exit)) at r (field-bytes 0x41 (two-bytes n)) ⌝ }
 {
     let a = put_head(out, at, fields::NARROWED_TAG, fields::NARROWED_LENGTH);
@@ -94,7 +100,7 @@ pub fn put_count(out: &mut [u8], at: usize, n: u16) -> usize
 
 // 42: the number of symbols and the two sets.
 fn put_open(out: &mut [u8], at: usize, n: u8, from: u64, to: u64) -> usize
-    requires { ⌜ at + 20 ≤ length (now out) ⌝ }
+    requires { ⌜ at + field-size 0x42 ≤ length (now out) ⌝ }
     ensures { λ r. ⌜ Wrote (now (out .entry)) (now (out .exit)) at r (field-bytes 0x42 (n ∷ (eight-bytes from ++ eight-bytes to))) ⌝ }
 {
     let a = put_head(out, at, fields::MEMBER_TAG, fields::MEMBER_LENGTH);
@@ -105,7 +111,7 @@ fn put_open(out: &mut [u8], at: usize, n: u8, from: u64, to: u64) -> usize
 
 // 43: direction and link.
 fn put_step(out: &mut [u8], at: usize, direction: u8, link: Link) -> usize
-    requires { ⌜ at + 5 ≤ length (now out) ⌝ }
+    requires { ⌜ at + field-size 0x43 ≤ length (now out) ⌝ }
     ensures { λ r. ⌜ Wrote (now (out .entry)) (now (out .exit)) at r (field-bytes 0x43 (direction ∷ link .0 ∷ [])) ⌝ }
 {
     let a = put_head(out, at, fields::STEP_TAG, fields::STEP_LENGTH);
@@ -115,7 +121,7 @@ fn put_step(out: &mut [u8], at: usize, direction: u8, link: Link) -> usize
 
 // 44: an operator.
 fn put_operator(out: &mut [u8], at: usize, o: u8) -> usize
-    requires { ⌜ at + 4 ≤ length (now out) ⌝ }
+    requires { ⌜ at + field-size 0x44 ≤ length (now out) ⌝ }
     ensures { λ r. ⌜ Wrote (now (out .entry)) (now (out .exit)) at r (field-bytes 0x44 (o ∷ [])) ⌝ }
 {
     let a = put_head(out, at, fields::OPERATOR_TAG, fields::OPERATOR_LENGTH);
@@ -124,7 +130,7 @@ fn put_operator(out: &mut [u8], at: usize, o: u8) -> usize
 
 // 45: a join through a set.
 fn put_through(out: &mut [u8], at: usize, set: u64) -> usize
-    requires { ⌜ at + 11 ≤ length (now out) ⌝ }
+    requires { ⌜ at + field-size 0x45 ≤ length (now out) ⌝ }
     ensures { λ r. ⌜ Wrote (now (out .entry)) (now (out .exit)) at r (field-bytes 0x45 (eight-bytes set)) ⌝ }
 {
     let a = put_head(out, at, fields::THROUGH_TAG, fields::THROUGH_LENGTH);

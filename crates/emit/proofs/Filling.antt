@@ -13,6 +13,7 @@ use Rattle.narrowed.specs.Form.{Flat, flat}
 use Rattle.narrowed.specs.Writing.{two-bytes, field-bytes, member-bytes, members-bytes, encode}
 use Rattle.narrowed.specs.Members.{flat-of, narrowed-file}
 use Rattle.bytes.specs.Wrote.{Wrote}
+use Rattle.fields.specs.Table.{rows, tag-length, field-size}
 use Rattle.bytes.proofs.Along.{wrote-length, wrote-more, Along, along-start, along-more, along-end, along-room}
 use Rattle.order.specs.Runs.{nodes-at, Running}
 use Rattle.order.proofs.Segments.{segment-end}
@@ -40,7 +41,8 @@ module _ {qs ws xs : List ℕ} {used n members : ℕ} {out₀ : List ℕ} (h : F
   unfolding narrowed-file encode
   file-parts = ap (λ (x : ℕ). field-bytes 0x41 (two-bytes x) ++ bytes-left qs ws xs 0 n) (h .counted ∙ sym (length-map ms flat-of))
 
-  pub count-room : 0 + 5 ≤ length out₀
+  pub count-room : 0 + field-size 0x41 ≤ length out₀
+  unfolding field-size tag-length rows
   count-room = omega (arith, h .room, file-length ms)
 
   pub fill-start : {o cs ss : List ℕ} {s : ℕ} → length cs ≡ 48 → length ss ≡ 48 → Wrote out₀ o 0 s opening → Filling qs ws xs n o s o cs ss s 0

@@ -5,11 +5,6 @@ ghost use lib.ListN.{length};
 ghost use Rattle.order.specs.Runs.{Running};
 ghost use Rattle.emit.specs.Files.{number-of, Numbering, Next, Measuring, Measured, Filing, Filed};
 
-// The bytes of a narrowed question's head, and of a member's.
-const NARROWED_BYTES: usize = fields::HEAD + fields::NARROWED_LENGTH as usize;
-
-const MEMBER_BYTES: usize = fields::HEAD + fields::MEMBER_LENGTH as usize;
-
 // A member: its number of symbols, from set and to set, the place after its run, and the bytes of its fields.
 struct Entry {
     size: usize,
@@ -75,7 +70,7 @@ fn next_member(
         from: g.from,
         to: g.to,
         next: g.next,
-        bytes: MEMBER_BYTES + b,
+        bytes: bytes::MEMBER_BYTES + b,
     }
 }
 
@@ -87,7 +82,7 @@ pub fn measure(words: &[u64], used: usize, question: &[u8], order: &[usize], n: 
     let mut codes = [0u8; 48];
     let mut sets = [0u64; 48];
     let mut members: usize = 0;
-    let mut bytes = NARROWED_BYTES;
+    let mut bytes = bytes::NARROWED_BYTES;
     let mut k: usize = 0;
     while k < n {
         let m = next_member(words, used, question, order, n, k, &mut codes, &mut sets);

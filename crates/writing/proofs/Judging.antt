@@ -11,6 +11,7 @@ use native.Mathlib.Omega.{arith}
 use borrow.Author.Tests.{leb-true, lt-leb, le-leb}
 use Rattle.theory.specs.PathExpr.{before?}
 use Rattle.symbols.specs.declared.Stack.{Stack}
+use Rattle.fields.specs.Table.{rows, tag-length, field-size}
 use Rattle.fields.specs.Answer.{Answer, got, refused, onward}
 use Rattle.symbols.specs.Symbols.{Numbered, arity, order-code, symbols-given}
 use Rattle.fields.proofs.Bools.{cond-then, not-got, onward-got, and-right}
@@ -84,7 +85,7 @@ given-codes ns ms n k h =
 
 -- ---- how far a judgement goes
 size-few : (c : ℕ) → symbol-size c ≤ 11
-unfolding symbol-size
+unfolding symbol-size field-size tag-length rows
 size-few c = go (ltb c 128) (eqb c 255)
   where
     go : (a b : Bool) → cond a 5 (cond b 11 4) ≤ 11
@@ -100,13 +101,13 @@ path-far q at (c ∷ cs) next e =
 
 -- only a member of at most 48 symbols is not refused at its 42
 member-few : (at n : ℕ) (cs : List ℕ) (next : ℕ) → member-verdict at n cs ≡ got next → (n ≤ 48) × (next ≤ at + 20 + 11 * length cs)
-unfolding member-verdict
+unfolding member-verdict field-size tag-length rows
 member-few at n cs next e =
     let a = cond-then (leb 1 n && leb n 48) (not-got 3 at next) e in
     (leb-true n 48 (and-right (leb 1 n) _ (a .0)), path-far (record { left = n; depth = 0 }) (at + 20) cs next (a .1))
 
 member-same : (at n : ℕ) (cs ds : List ℕ) → (n ≤ 48 → cs ≡ ds) → member-verdict at n cs ≡ member-verdict at n ds
-unfolding member-verdict
+unfolding member-verdict field-size tag-length rows
 member-same at n cs ds h = go (leb 1 n) (leb n 48) refl
   where
     go : (a b : Bool) → leb n 48 ≡ b → cond (a && b) (path-verdict (record { left = n; depth = 0 }) (at + 20) cs) (refused 3 at)
@@ -129,7 +130,7 @@ unfolding given verdict
 many-refused q h = simp (members-many q (q .count) 0 0, lt-leb (q .count) 128 h)
 
 pub member-start : (q : Members) → q .count ≤ 128 → AtMember q 0 5 0 0
-unfolding given verdict
+unfolding given verdict field-size tag-length rows
 member-start q h = record {
   rest =
       let z : q .count - 0 ≡ q .count = omega arith in
@@ -224,7 +225,7 @@ members-few q (suc n) i k prev at next e j h =
     by-index (suc j) h here rest = let z : suc i + j ≡ i + suc j = omega arith in subst (λ (m : ℕ). getD (q .sizes) m 0 ≤ 48) z (rest j (omega arith))
 
 pub verdict-few : (q : Members) (next : ℕ) → verdict (given q) ≡ got next → Few q
-unfolding given verdict
+unfolding given verdict field-size tag-length rows
 verdict-few q next e =
     let a = cond-then (leb (length (members-given q (q .count) 0 0)) 128) (not-got 3 0 next) e in
     let c = leb-true (length (members-given q (q .count) 0 0)) 128 (a .0) in

@@ -11,6 +11,7 @@ use borrow.Author.Tests.{leb-true, eqb-true, ltb-true, ltb-false, lt-ltb, le-ltb
 use Rattle.theory.specs.PathExpr.{before?}
 use Rattle.fields.specs.declared.File.the-variants as file
 use Rattle.symbols.specs.declared.Stack.{Stack}
+use Rattle.fields.specs.Table.{rows, tag-length, field-size}
 use Rattle.fields.specs.Answer.{Answer, got, refused, onward}
 use Rattle.fields.specs.Reading.{read}
 use Rattle.symbols.specs.Symbols.{Numbered, numbered, operator-of, symbol-in, arity, push, due-symbols, symbols-given}
@@ -59,7 +60,7 @@ or-false true = refl
 or-false false = refl
 
 size-is : (x : Numbered) → 3 + length (symbol-body x) ≡ symbol-size (x .number)
-unfolding symbol-size
+unfolding symbol-size field-size tag-length rows
 size-is x = go (ltb (x .number) 128) (eqb (x .number) 255)
   where
     go : (a b : Bool) → 3 + length (cond a (x .number / 64 ∷ x .number % 64 ∷ []) (cond b (eight-bytes (x .set)) (x .number ∷ []))) ≡ cond a 5 (cond b 11 4)
@@ -209,7 +210,7 @@ module _ (s : List ℕ) (A : Answer (List Flat)) where
           symbols-judged (m .symbols) (opened at m) (at + 20) r (d .0) (d .1) u refl (leb-true 1 size (and-left _ (leb size 48) h))
 
       member-judged : Normals (m .symbols) → Ends at (m .from) (m .to) (m .symbols) r (member-verdict at size (numbers (m .symbols)))
-      unfolding member-verdict
+      unfolding member-verdict field-size tag-length rows
       member-judged u = by-size (leb 1 size && leb size 48) refl u
 
   -- the members that are left: they are refused, or the file ends after them
@@ -269,5 +270,5 @@ module _ (v : List Flat) (u : AllNormal v) where
       (going-more narrowed-form (encode v) A head 0 (going-start narrowed-form (encode v)) 0x41 2 (lies-41 .seen) (between (length v) [] []) (judged-41 ∙ ap begins h)) (lies-41 .after) u
 
   pub verdict-is : Whole (encode v) (read narrowed-form (encode v)) v (verdict v)
-  unfolding verdict
+  unfolding verdict field-size tag-length rows
   verdict-is = by-count (leb (length v) 128) refl

@@ -8,6 +8,7 @@ use lib.Dec.{leb, ltb, eqb}
 use lib.ListN.{length}
 use Rattle.theory.specs.PathExpr.{before?}
 use Rattle.symbols.specs.declared.Stack.{Stack}
+use Rattle.fields.specs.Table.{field-size}
 use Rattle.fields.specs.Answer.{Answer, got, refused, onward}
 use Rattle.fields.specs.Said.{refusal-said}
 use Rattle.symbols.specs.Symbols.{arity, push}
@@ -29,7 +30,7 @@ path-verdict q at (c ∷ cs) = onward (λ q′. path-verdict q′ (at + symbol-s
 
 -- a member of n symbols, whose 42 is at a place: refusal 3, and its path's
 unfoldable pub member-verdict : ℕ → ℕ → List ℕ → Answer ℕ
-member-verdict at n cs = cond (leb 1 n && leb n 48) (path-verdict (record { left = n; depth = 0 }) (at + 20) cs) (refused 3 at)
+member-verdict at n cs = cond (leb 1 n && leb n 48) (path-verdict (record { left = n; depth = 0 }) (at + field-size 0x42) cs) (refused 3 at)
 
 -- members after one of codes prev: refusal 4
 abbrev pub members-verdict : List ℕ → ℕ → List Flat → Answer ℕ
@@ -39,7 +40,7 @@ members-verdict prev at (m ∷ ms) =
     (member-verdict at (length (m .symbols)) (numbers (m .symbols)))
 
 unfoldable pub verdict : List Flat → Answer ℕ
-verdict ms = cond (leb (length ms) 128) (members-verdict [] 5 ms) (refused 3 0)
+verdict ms = cond (leb (length ms) 128) (members-verdict [] (field-size 0x41) ms) (refused 3 0)
 
 abbrev pub place-said : Place → Answer ℕ
 place-said (place.At n) = got n

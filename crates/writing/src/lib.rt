@@ -78,7 +78,7 @@ fn judge_member(numbers: &[u8], k: usize, n: u8, at: usize) -> Place
     if 48 < n {
         return Place::Refused(Refusal::OutOfRange(at));
     }
-    judge_path(numbers, k, n, at + 20)
+    judge_path(numbers, k, n, at + bytes::MEMBER_BYTES)
 }
 
 // The members, as the file that they would make.
@@ -91,7 +91,7 @@ fn judge(q: Members) -> Place
     let sizes = q.sizes;
     let numbers = q.numbers;
     let mut i = 0;
-    let mut at = 5;
+    let mut at = bytes::NARROWED_BYTES;
     let mut prev = 0;
     let mut first = 0;
     while i < q.count {

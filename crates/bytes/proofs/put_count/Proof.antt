@@ -1,14 +1,17 @@
 -- `bytes::put_count` meets its contract.
 -- Assumes nothing.
+use Rattle.fields.specs.Table.{rows, tag-length, field-size}
 use Rattle.bytes.proofs.Along.{wrote-more}
 use borrow.Author.Needs.{needs}
 use Rattle.bytes.proofs.put_count.Statement.{statement}
 use Rattle.bytes.proofs.put_count.Tie as tie
 
 put-head-requires : tie.Need-put-head-requires
+unfolding field-size tag-length rows
 put-head-requires c κs = search needs
 
 put-two-requires : tie.Need-put-two-requires
+unfolding field-size tag-length rows
 put-two-requires c κs = search needs
 
 same-length : tie.Need-same-length

@@ -1,11 +1,13 @@
 -- `bytes::put_member` meets its contract.
 -- Assumes nothing.
+use Rattle.fields.specs.Table.{rows, tag-length, field-size}
 use Rattle.bytes.proofs.Parts.{member-wrote}
 use borrow.Author.Needs.{needs}
 use Rattle.bytes.proofs.put_member.Statement.{statement}
 use Rattle.bytes.proofs.put_member.Tie as tie
 
 put-open-requires : tie.Need-put-open-requires
+unfolding field-size tag-length rows
 put-open-requires c κs = search needs
 
 put-symbols-requires : tie.Need-put-symbols-requires

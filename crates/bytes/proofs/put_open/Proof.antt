@@ -1,20 +1,25 @@
 -- `bytes::put_open` meets its contract.
 -- Assumes nothing.
+use Rattle.fields.specs.Table.{rows, tag-length, field-size}
 use Rattle.bytes.proofs.Along.{wrote-more}
 use borrow.Author.Needs.{needs}
 use Rattle.bytes.proofs.put_open.Statement.{statement}
 use Rattle.bytes.proofs.put_open.Tie as tie
 
 put-head-requires : tie.Need-put-head-requires
+unfolding field-size tag-length rows
 put-head-requires c κs = search needs
 
 put-byte-requires : tie.Need-put-byte-requires
+unfolding field-size tag-length rows
 put-byte-requires c κs = search needs
 
 put-eight-requires : tie.Need-put-eight-requires
+unfolding field-size tag-length rows
 put-eight-requires c κs = search needs
 
 put-eight-requires-2 : tie.Need-put-eight-requires-2
+unfolding field-size tag-length rows
 put-eight-requires-2 c κs = search needs
 
 same-length : tie.Need-same-length

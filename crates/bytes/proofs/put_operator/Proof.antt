@@ -1,14 +1,17 @@
 -- `bytes::put_operator` meets its contract.
 -- Assumes nothing.
+use Rattle.fields.specs.Table.{rows, tag-length, field-size}
 use Rattle.bytes.proofs.Along.{wrote-more}
 use borrow.Author.Needs.{needs}
 use Rattle.bytes.proofs.put_operator.Statement.{statement}
 use Rattle.bytes.proofs.put_operator.Tie as tie
 
 put-head-requires : tie.Need-put-head-requires
+unfolding field-size tag-length rows
 put-head-requires c κs = search needs
 
 put-byte-requires : tie.Need-put-byte-requires
+unfolding field-size tag-length rows
 put-byte-requires c κs = search needs
 
 same-length : tie.Need-same-length

@@ -1,5 +1,6 @@
 -- `writing::judge_member` meets its contract.
 -- Assumes nothing.
+use Rattle.fields.specs.Table.{rows, tag-length, field-size}
 use borrow.Author.Tests.{lt-leb, le-leb}
 use Rattle.writing.specs.Verdict.{member-verdict}
 use borrow.Author.Needs.{needs}
@@ -21,7 +22,7 @@ judge-path-requires : tie.Need-judge-path-requires
 judge-path-requires c κs = search needs
 
 returns-3 : tie.Need-returns-3
-unfolding member-verdict
+unfolding member-verdict field-size tag-length rows
 returns-3 c = simp (le-leb _ _ (c .before .if2 .left), le-leb _ _ (c .before .before .if1 .left)) (c .judge-path .ensures)
 
 pub judge-member-spec : {M : Type 1} → statement M

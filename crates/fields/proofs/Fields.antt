@@ -1,7 +1,7 @@
 -- What is known where a field was found, and where the file's end was.
 -- Assumes nothing.
 use Prim.Native.Nat.{ℕ, _+_, _<_, _≤_}
-use mathlib.Core.Path.{_≡_, refl, ap, _∙_}
+use mathlib.Core.Path.{_≡_, refl, ap, _∙_, sym}
 use mathlib.Core.Bool.{Bool, true, false, cond, _&&_}
 use mathlib.Core.List.{List}
 use lib.ListN.{length, getD, take, drop, length-take, length-drop}
@@ -10,10 +10,16 @@ use lib.Dec.{leb, ltb}
 use native.Mathlib.Omega.{arith}
 use borrow.Author.Tests.{leb-true, ltb-false}
 use Rattle.fields.specs.declared.Due.{Due}
+use Rattle.fields.specs.declared.Seen.{Seen}
 use Rattle.fields.specs.Table.{among, rows, tag-length}
 use Rattle.fields.specs.Reading.{ends, wrong, body, field-at, fitting, word}
+use Rattle.fields.specs.Said.{field-said}
 use Rattle.fields.proofs.Rows.{own-length}
 use Rattle.fields.proofs.Bools.{cond-else, cond-then, and-left, and-right}
+
+-- what the definition finds at a place where e is due, by what the code saw there with d for it
+pub seen-at : (s : List ℕ) (at : ℕ) {d e : Due} {r x : Seen} → d ≡ e → field-said r ≡ field-at d s at → r ≡ x → field-at e s at ≡ field-said x
+seen-at s at p q u = ap (λ (f : Due). field-at f s at) (sym p) ∙ sym q ∙ ap field-said u
 
 pub record Found (d : Due) (s : List ℕ) (at t n : ℕ) : Type 0 where
   pub more : d .over ≡ false

@@ -3,9 +3,9 @@
 use mathlib.Core.Path.{_≡_, _∙_, ap, sym}
 use denote.Ref.{now}
 use Prim.Native.Nat.{_+_}
-use Rattle.fields.specs.Reading.{ends, wrong, body, field-at}
-use Rattle.fields.specs.Said.{field-said, number-of, place-of}
+use Rattle.fields.specs.Reading.{body, field-at}
 use Rattle.fields.proofs.Raws.{body-found}
+use Rattle.fields.proofs.Fields.{seen-at}
 use Rattle.narrowed.specs.Said.{due-of, judged, turned, turned-by}
 use Rattle.narrowed.proofs.Tracks.{field-ready}
 use borrow.Author.Needs.{needs}
@@ -40,19 +40,32 @@ body-at-requires : tie.Need-body-at-requires
 body-at-requires c κs = search needs
 
 judge-requires : tie.Need-judge-requires
-judge-requires c κs = let e : field-at (due-of (c .before .before .before .before .before .before .before .args .st)) (now (c .before .before .before .before .before .before .before .args .s)) (c .before .before .before .before .before .before .before .args .at) ≡ body (c .before .before .tag .given .0 .0) (c .before .before .tag .given .0 .1 .0) = cc (ap field-said (c .before .before .tag .given .1)) in rw (c .body-at .ensures ∙ body-found _ _ _ _ _ e) (field-ready _ _ _ _ (c .before .before .before .before .before .before .before .args .st) (c .before .before .before .before .before .before .before .pre .0) e)
+judge-requires c κs =
+    let a = c .before .before .before .before .before .before .before in
+    let e : field-at (due-of (a .args .st)) (now (a .args .s)) (a .args .at) ≡ body (c .before .before .tag .given .0 .0) (c .before .before .tag .given .0 .1 .0) = seen-at _ _ (c .before .before .before .before .before .due .ensures) (c .before .before .before .before .field .ensures) (c .before .before .tag .given .1) in
+    rw (c .body-at .ensures ∙ body-found _ _ _ _ _ e) (field-ready _ _ _ _ (a .args .st) (a .pre .0) e)
 
 returns : tie.Need-returns
 unfolding turned
-returns c = let e : field-at (due-of (c .before .before .before .before .before .args .st)) (now (c .before .before .before .before .before .args .s)) (c .before .before .before .before .before .args .at) ≡ ends = cc (ap field-said (c .enum-told .given .1)) in ap (turned-by (c .before .before .before .before .before .args .st) (c .before .before .before .before .before .args .at) (now (c .before .before .before .before .before .args .s))) (sym e)
+returns c =
+    let a = c .before .before .before .before .before .args in
+    ap (turned-by (a .st) (a .at) (now (a .s))) (sym (seen-at _ _ (c .before .before .before .due .ensures) (c .before .before .field .ensures) (c .enum-told .given .1)))
 
 returns-2 : tie.Need-returns-2
 unfolding turned
-returns-2 c = let e : field-at (due-of (c .before .before .before .before .before .before .args .st)) (now (c .before .before .before .before .before .before .args .s)) (c .before .before .before .before .before .before .args .at) ≡ wrong (number-of (c .before .r .given .0 .0)) (place-of (c .before .r .given .0 .0)) = cc (ap field-said (c .before .r .given .1)) in ap (turned-by (c .before .before .before .before .before .before .args .st) (c .before .before .before .before .before .before .args .at) (now (c .before .before .before .before .before .before .args .s))) (sym e)
+returns-2 c =
+    let a = c .before .before .before .before .before .before .args in
+    ap (turned-by (a .st) (a .at) (now (a .s))) (sym (seen-at _ _ (c .before .before .before .before .due .ensures) (c .before .before .before .field .ensures) (c .before .r .given .1)))
 
 returns-3 : tie.Need-returns-3
 unfolding turned
-returns-3 c = let e : field-at (due-of (c .before .before .before .before .before .before .before .before .args .st)) (now (c .before .before .before .before .before .before .before .before .args .s)) (c .before .before .before .before .before .before .before .before .args .at) ≡ body (c .before .before .before .tag .given .0 .0) (c .before .before .before .tag .given .0 .1 .0) = cc (ap field-said (c .before .before .before .tag .given .1)) in c .judge .ensures ∙ ap (λ b. judged (c .before .before .before .before .before .before .before .before .args .st) (c .before .before .before .before .before .before .before .before .args .at) (c .before .before .before .before .before .before .before .before .args .at + 3 + c .before .before .before .tag .given .0 .1 .0) (c .before .before .before .tag .given .0 .0) b) (c .before .body-at .ensures ∙ body-found _ _ _ _ _ e) ∙ ap (turned-by (c .before .before .before .before .before .before .before .before .args .st) (c .before .before .before .before .before .before .before .before .args .at) (now (c .before .before .before .before .before .before .before .before .args .s))) (sym e)
+returns-3 c =
+    let a = c .before .before .before .before .before .before .before .before .args in
+    let t = c .before .before .before .tag .given in
+    let e : field-at (due-of (a .st)) (now (a .s)) (a .at) ≡ body (t .0 .0) (t .0 .1 .0) = seen-at _ _ (c .before .before .before .before .before .before .due .ensures) (c .before .before .before .before .before .field .ensures) (t .1) in
+    c .judge .ensures
+    ∙ ap (λ b. judged (a .st) (a .at) (a .at + 3 + t .0 .1 .0) (t .0 .0) b) (c .before .body-at .ensures ∙ body-found _ _ _ _ _ e)
+    ∙ ap (turned-by (a .st) (a .at) (now (a .s))) (sym e)
 
 pub look-spec : {M : Type 1} → statement M
 look-spec =

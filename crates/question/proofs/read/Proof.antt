@@ -3,9 +3,8 @@
 use mathlib.Core.Path.{_≡_, _∙_, ap, sym}
 use lib.ListN.{length, take, drop}
 use denote.Ref.{now}
-use Rattle.fields.specs.Reading.{ends, wrong, body, field-at}
-use Rattle.fields.specs.Said.{field-said, number-of, place-of}
-use Rattle.fields.proofs.Fields.{found}
+use Rattle.fields.specs.Reading.{body, field-at}
+use Rattle.fields.proofs.Fields.{found, seen-at}
 use Rattle.fields.proofs.Raws.{body-found}
 use Rattle.question.specs.Said.{counted, codes-in, outcome-said, due-of, judged, turn-said}
 use Rattle.question.proofs.Loop.{Reading, reading-start, reading-ends, reading-wrong, reading-ready, reading-stop, reading-go, reading-more}
@@ -26,7 +25,7 @@ at-body : (c : tie.After-known-told2 Inv-loop μ-loop) →
     let l = c .before .before .before .before .before .loop in
     let v = c .before .tag .given .0 in
     field-at (due-of (l .st)) (now (c .before .before .before .before .before .before .before .args .s)) (l .at) ≡ body (v .0) (v .1 .0)
-at-body c = cc (ap field-said (c .before .tag .given .1))
+at-body c = seen-at _ _ (c .before .before .before .before .due .ensures) (c .before .before .before .field .ensures) (c .before .tag .given .1)
 
 room : (c : tie.After-known-told2 Inv-loop μ-loop) → c .before .before .before .before .before .loop .at + 3 + c .before .tag .given .0 .1 .0 ≤ length (now (c .before .before .before .before .before .before .before .args .s))
 room c = found (due-of (c .before .before .before .before .before .loop .st)) (now (c .before .before .before .before .before .before .before .args .s)) _ _ _ (at-body c) .room
@@ -56,7 +55,7 @@ enum-told : tie.Need-enum-told Inv-loop μ-loop
 enum-told c = search needs
 
 returns : tie.Need-returns Inv-loop μ-loop
-returns c = let e : field-at (due-of (c .before .before .before .before .loop .st)) (now (c .before .before .before .before .before .before .args .s)) (c .before .before .before .before .loop .at) ≡ ends = cc (ap field-said (c .enum-told .given .1)) in let r = reading-ends _ _ _ _ _ (c .before .before .before .before .loop .inv) e in record { outcome = r .0; codes = r .1 }
+returns c = let r = reading-ends _ _ _ _ _ (c .before .before .before .before .loop .inv) (seen-at _ _ (c .before .before .before .due .ensures) (c .before .before .field .ensures) (c .enum-told .given .1)) in record { outcome = r .0; codes = r .1 }
 
 enum-known-r : tie.Need-enum-known-r Inv-loop μ-loop
 enum-known-r c = search needs
@@ -65,7 +64,9 @@ refused-requires : tie.Need-refused-requires Inv-loop μ-loop
 refused-requires c κs = search needs
 
 returns-2 : tie.Need-returns-2 Inv-loop μ-loop
-returns-2 c = let a = reading-wrong _ _ _ _ _ (c .before .before .before .before .before .before .loop .inv) _ _ (let e : field-at (due-of (c .before .before .before .before .before .before .loop .st)) (now (c .before .before .before .before .before .before .before .before .args .s)) (c .before .before .before .before .before .before .loop .at) ≡ wrong (number-of (c .before .before .r .given .0 .0)) (place-of (c .before .before .r .given .0 .0)) = cc (ap field-said (c .before .before .r .given .1)) in e) in record { outcome = ap outcome-said (c .refused .ensures .0) ∙ ap counted (sym a); codes = c .refused .ensures .1 ∙ ap codes-in (sym a) }
+returns-2 c =
+    let a = reading-wrong _ _ _ _ _ (c .before .before .before .before .before .before .loop .inv) _ _ (seen-at _ _ (c .before .before .before .before .before .due .ensures) (c .before .before .before .before .field .ensures) (c .before .before .r .given .1)) in
+    record { outcome = ap outcome-said (c .refused .ensures .0) ∙ ap counted (sym a); codes = c .refused .ensures .1 ∙ ap codes-in (sym a) }
 
 enum-known-tag : tie.Need-enum-known-tag Inv-loop μ-loop
 enum-known-tag c = search needs

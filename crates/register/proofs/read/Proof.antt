@@ -1,9 +1,9 @@
 use Rattle.register.proofs.Passing.{reading-passed, passed-on}
 use Rattle.register.proofs.Loop.{Reading, reading-start, reading-ends, reading-wrong, reading-room, reading-ready, reading-refused, reading-more}
 use Rattle.fields.proofs.Raws.{body-found}
+use Rattle.fields.proofs.Fields.{seen-at}
 use Rattle.register.specs.Said.{due-of, judged, turn-said}
-use Rattle.fields.specs.Said.{field-said}
-use Rattle.fields.specs.Reading.{ends, body, field-at}
+use Rattle.fields.specs.Reading.{body, field-at}
 use denote.Ref.{now}
 use lib.ListN.{length, take, drop}
 use mathlib.Core.Path.{_≡_, _∙_, ap, sym}
@@ -24,7 +24,7 @@ at-body : (c : tie.After-known-told2 Inv-loop μ-loop) →
     let l = c .before .before .before .before .before .loop in
     let v = c .before .len .given .0 in
     field-at (due-of (l .st)) (now (c .before .before .before .before .before .before .before .args .s)) (l .at) ≡ body (v .0) (v .1 .0)
-at-body c = cc (ap field-said (c .before .len .given .1))
+at-body c = seen-at _ _ (c .before .before .before .before .due-at .ensures) (c .before .before .before .field .ensures) (c .before .len .given .1)
 
 -- the code's body is the definition's
 at-part : (c : tie.After-body-at Inv-loop μ-loop) →
@@ -52,14 +52,13 @@ sizes-requires : tie.Need-sizes-requires Inv-loop μ-loop
 sizes-requires c κs = search needs
 
 returns : tie.Need-returns Inv-loop μ-loop
-returns c =
-    c .sizes .ensures ∙ reading-ends _ _ _ (c .before .before .before .before .before .loop .inv) (let h : field-at (due-of (c .before .before .before .before .before .loop .st)) (now (c .before .before .before .before .before .before .before .args .s)) (c .before .before .before .before .before .loop .at) ≡ ends = cc (ap field-said (c .before .enum-told .given .1)) in h)
+returns c = c .sizes .ensures ∙ reading-ends _ _ _ (c .before .before .before .before .before .loop .inv) (seen-at _ _ (c .before .before .before .before .due-at .ensures) (c .before .before .before .field .ensures) (c .before .enum-told .given .1))
 
 enum-known-r : tie.Need-enum-known-r Inv-loop μ-loop
 enum-known-r c = search needs
 
 returns-2 : tie.Need-returns-2 Inv-loop μ-loop
-returns-2 c = reading-wrong _ _ _ (c .before .before .before .before .before .loop .inv) _ _ (cc (ap field-said (c .before .r .given .1)))
+returns-2 c = reading-wrong _ _ _ (c .before .before .before .before .before .loop .inv) _ _ (seen-at _ _ (c .before .before .before .before .due-at .ensures) (c .before .before .before .field .ensures) (c .before .r .given .1))
 
 enum-known-len : tie.Need-enum-known-len Inv-loop μ-loop
 enum-known-len c = search needs

@@ -6,10 +6,9 @@ use native.Mathlib.Omega.{arith}
 use lib.ListN.{length, take, drop}
 use denote.Ref.{now}
 use borrow.Author.Needs.{needs}
-use Rattle.fields.specs.Said.{field-said, number-of, place-of}
-use Rattle.fields.specs.Reading.{ends, wrong, body, field-at}
+use Rattle.fields.specs.Reading.{body, field-at}
 use Rattle.fields.proofs.Raws.{body-found}
-use Rattle.fields.proofs.Fields.{found}
+use Rattle.fields.proofs.Fields.{found, seen-at}
 use Rattle.sheet.specs.Said.{due-of, judged, edge-said, turn-said}
 use Rattle.sheet.specs.Table.{permit}
 use Rattle.sheet.specs.declared.Standing.the-variants.{Within}
@@ -28,7 +27,7 @@ at-body : (c : tie.After-known-told2 Inv-loop μ-loop) →
     let l = c .before .before .before .before .before .loop in
     let v = c .before .len .given .0 in
     field-at (due-of (l .st)) (now (c .before .before .before .before .before .before .before .args .s)) (l .at) ≡ body (v .0) (v .1 .0)
-at-body c = cc (ap field-said (c .before .len .given .1))
+at-body c = seen-at _ _ (c .before .before .before .before .due .ensures) (c .before .before .before .field .ensures) (c .before .len .given .1)
 
 room : (c : tie.After-known-told2 Inv-loop μ-loop) → c .before .before .before .before .before .loop .at + 3 + c .before .len .given .0 .1 .0 ≤ length (now (c .before .before .before .before .before .before .before .args .s))
 room c = found (due-of (c .before .before .before .before .before .loop .st)) (now (c .before .before .before .before .before .before .before .args .s)) _ _ _ (at-body c) .room
@@ -63,9 +62,7 @@ accepted-requires : tie.Need-accepted-requires Inv-loop μ-loop
 accepted-requires c κs = search needs
 
 returns : tie.Need-returns Inv-loop μ-loop
-returns c =
-    let e : field-at (due-of (c .before .before .before .before .before .loop .st)) (now (c .before .before .before .before .before .before .before .args .s)) (c .before .before .before .before .before .loop .at) ≡ ends = cc (ap field-said (c .before .enum-told .given .1)) in
-    progress-ends _ _ _ _ (c .before .before .before .before .before .loop .inv) e _ (c .accepted .ensures)
+returns c = progress-ends _ _ _ _ (c .before .before .before .before .before .loop .inv) (seen-at _ _ (c .before .before .before .before .due .ensures) (c .before .before .before .field .ensures) (c .before .enum-told .given .1)) _ (c .accepted .ensures)
 
 enum-known-r : tie.Need-enum-known-r Inv-loop μ-loop
 enum-known-r c = search needs
@@ -74,10 +71,7 @@ refused-requires : tie.Need-refused-requires Inv-loop μ-loop
 refused-requires c κs = search needs
 
 returns-2 : tie.Need-returns-2 Inv-loop μ-loop
-returns-2 c =
-    let r = c .before .before .r .given .0 .0 in
-    let e : field-at (due-of (c .before .before .before .before .before .before .loop .st)) (now (c .before .before .before .before .before .before .before .before .args .s)) (c .before .before .before .before .before .before .loop .at) ≡ wrong (number-of r) (place-of r) = cc (ap field-said (c .before .before .r .given .1)) in
-    reads-refused _ r _ _ (progress-wrong _ _ _ _ (c .before .before .before .before .before .before .loop .inv) _ _ e) (c .refused .ensures)
+returns-2 c = reads-refused _ (c .before .before .r .given .0 .0) _ _ (progress-wrong _ _ _ _ (c .before .before .before .before .before .before .loop .inv) _ _ (seen-at _ _ (c .before .before .before .before .before .due .ensures) (c .before .before .before .before .field .ensures) (c .before .before .r .given .1))) (c .refused .ensures)
 
 enum-known-len : tie.Need-enum-known-len Inv-loop μ-loop
 enum-known-len c = search needs

@@ -55,7 +55,9 @@ enum-told : tie.Need-enum-told Inv-loop μ-loop
 enum-told c = search needs
 
 returns : tie.Need-returns Inv-loop μ-loop
-returns c = let r = reading-ends _ _ _ _ _ (c .before .before .before .before .loop .inv) (seen-at _ _ (c .before .before .before .due .ensures) (c .before .before .field .ensures) (c .enum-told .given .1)) in record { outcome = r .0; codes = r .1 }
+returns c =
+    let r = reading-ends _ _ _ _ _ (c .before .before .before .before .loop .inv)
+    (seen-at _ _ (c .before .before .before .due .ensures) (c .before .before .field .ensures) (c .enum-told .given .1)) in record { outcome = r .0; codes = r .1 }
 
 enum-known-r : tie.Need-enum-known-r Inv-loop μ-loop
 enum-known-r c = search needs
@@ -65,7 +67,8 @@ refused-requires c κs = search needs
 
 returns-2 : tie.Need-returns-2 Inv-loop μ-loop
 returns-2 c =
-    let a = reading-wrong _ _ _ _ _ (c .before .before .before .before .before .before .loop .inv) _ _ (seen-at _ _ (c .before .before .before .before .before .due .ensures) (c .before .before .before .before .field .ensures) (c .before .before .r .given .1)) in
+    let a = reading-wrong _ _ _ _ _ (c .before .before .before .before .before .before .loop .inv) _ _
+    (seen-at _ _ (c .before .before .before .before .before .due .ensures) (c .before .before .before .before .field .ensures) (c .before .before .r .given .1)) in
     record { outcome = ap outcome-said (c .refused .ensures .0) ∙ ap counted (sym a); codes = c .refused .ensures .1 ∙ ap codes-in (sym a) }
 
 enum-known-tag : tie.Need-enum-known-tag Inv-loop μ-loop

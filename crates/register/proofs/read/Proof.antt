@@ -52,13 +52,17 @@ sizes-requires : tie.Need-sizes-requires Inv-loop μ-loop
 sizes-requires c κs = search needs
 
 returns : tie.Need-returns Inv-loop μ-loop
-returns c = c .sizes .ensures ∙ reading-ends _ _ _ (c .before .before .before .before .before .loop .inv) (seen-at _ _ (c .before .before .before .before .due-at .ensures) (c .before .before .before .field .ensures) (c .before .enum-told .given .1))
+returns c =
+    c .sizes .ensures ∙ reading-ends _ _ _ (c .before .before .before .before .before .loop .inv)
+    (seen-at _ _ (c .before .before .before .before .due-at .ensures) (c .before .before .before .field .ensures) (c .before .enum-told .given .1))
 
 enum-known-r : tie.Need-enum-known-r Inv-loop μ-loop
 enum-known-r c = search needs
 
 returns-2 : tie.Need-returns-2 Inv-loop μ-loop
-returns-2 c = reading-wrong _ _ _ (c .before .before .before .before .before .loop .inv) _ _ (seen-at _ _ (c .before .before .before .before .due-at .ensures) (c .before .before .before .field .ensures) (c .before .r .given .1))
+returns-2 c =
+    reading-wrong _ _ _ (c .before .before .before .before .before .loop .inv) _ _
+    (seen-at _ _ (c .before .before .before .before .due-at .ensures) (c .before .before .before .field .ensures) (c .before .r .given .1))
 
 enum-known-len : tie.Need-enum-known-len Inv-loop μ-loop
 enum-known-len c = search needs

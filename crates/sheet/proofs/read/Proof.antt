@@ -62,7 +62,9 @@ accepted-requires : tie.Need-accepted-requires Inv-loop μ-loop
 accepted-requires c κs = search needs
 
 returns : tie.Need-returns Inv-loop μ-loop
-returns c = progress-ends _ _ _ _ (c .before .before .before .before .before .loop .inv) (seen-at _ _ (c .before .before .before .before .due .ensures) (c .before .before .before .field .ensures) (c .before .enum-told .given .1)) _ (c .accepted .ensures)
+returns c =
+    progress-ends _ _ _ _ (c .before .before .before .before .before .loop .inv)
+    (seen-at _ _ (c .before .before .before .before .due .ensures) (c .before .before .before .field .ensures) (c .before .enum-told .given .1)) _ (c .accepted .ensures)
 
 enum-known-r : tie.Need-enum-known-r Inv-loop μ-loop
 enum-known-r c = search needs
@@ -71,7 +73,9 @@ refused-requires : tie.Need-refused-requires Inv-loop μ-loop
 refused-requires c κs = search needs
 
 returns-2 : tie.Need-returns-2 Inv-loop μ-loop
-returns-2 c = reads-refused _ (c .before .before .r .given .0 .0) _ _ (progress-wrong _ _ _ _ (c .before .before .before .before .before .before .loop .inv) _ _ (seen-at _ _ (c .before .before .before .before .before .due .ensures) (c .before .before .before .before .field .ensures) (c .before .before .r .given .1))) (c .refused .ensures)
+returns-2 c =
+    reads-refused _ (c .before .before .r .given .0 .0) _ _ (progress-wrong _ _ _ _ (c .before .before .before .before .before .before .loop .inv) _ _
+    (seen-at _ _ (c .before .before .before .before .before .due .ensures) (c .before .before .before .before .field .ensures) (c .before .before .r .given .1))) (c .refused .ensures)
 
 enum-known-len : tie.Need-enum-known-len Inv-loop μ-loop
 enum-known-len c = search needs

@@ -89,7 +89,7 @@ module _ {s : List ℕ} {n w : ℕ} (ground : Ground s n w) where
     applied y c e a = subst (λ z. Applied (register-in s) n w b z c xs ys) (sym e) a
 
     pub applied-step : (d : Direction) (l : ℕ) → x ≡ s-step d l → Made b n w (step? (register-in s) d l) xs ys → Applied (register-in s) n w b x (b + n * w) xs ys
-    applied-step d l e m = applied (s-step d l) (b + n * w) e (record { kept = λ h k k′. kept-in (m .kept) (omega arith) k′; next = next })
+    applied-step d l e m = applied (s-step d l) (b + n * w) e (record { kept = kept-in (m .kept) (omega arith) (omega arith); next = next })
       where
         back : b + n * w - n * w ≡ b
         back = omega arith
@@ -104,7 +104,7 @@ module _ {s : List ℕ} {n w : ℕ} (ground : Ground s n w) where
             )
 
     pub applied-closure : x ≡ s-closure → n * w ≤ b → Made (b - n * w) n w (look (closure? n (pair-at xs (b - n * w) w))) xs ys → Applied (register-in s) n w b x b xs ys
-    applied-closure e l m = applied s-closure b e (record { kept = λ h k k′. kept-in (m .kept) (omega arith) (omega arith); next = next })
+    applied-closure e l m = applied s-closure b e (record { kept = kept-in (m .kept) (omega arith) (omega arith); next = next })
       where
         next : (st st′ : Stack) → Stacked (register-in s) xs n w b st → push s-closure st ≡ some st′ → Stacked (register-in s) ys n w b st′
         next [] st′ h q = none-some q
@@ -121,7 +121,7 @@ module _ {s : List ℕ} {n w : ℕ} (ground : Ground s n w) where
       → Applied (register-in s) n w b x (b - n * w) xs ys
   applied-binary b (s-step d l) k l₁ l₂ m = absurd k
   applied-binary b s-closure k l₁ l₂ m = absurd k
-  applied-binary {xs} {ys} b (s-join v) k l₁ l₂ m = record { kept = λ h i j. kept-in (m .kept) (omega arith) (omega arith); next = next }
+  applied-binary {xs} {ys} b (s-join v) k l₁ l₂ m = record { kept = kept-in (m .kept) (omega arith) (omega arith); next = next }
     where
       next : (st st′ : Stack) → Stacked (register-in s) xs n w b st → push (s-join v) st ≡ some st′ → Stacked (register-in s) ys n w (b - n * w) st′
       next [] st′ h e = none-some e
@@ -133,7 +133,7 @@ module _ {s : List ℕ} {n w : ℕ} (ground : Ground s n w) where
             stored-join (register-in s) (limits ground .formed) n w (ground .count) (rows-hold ground) p q (h .2 .1) (h .1) v m,
             stacked-kept (register-in s) n w (b - n * w - n * w) st (m .kept) (omega arith) (h .2 .2),
           )
-  applied-binary {xs} {ys} b (s-op o) k l₁ l₂ m = record { kept = λ h i j. kept-in (m .kept) (omega arith) (omega arith); next = next }
+  applied-binary {xs} {ys} b (s-op o) k l₁ l₂ m = record { kept = kept-in (m .kept) (omega arith) (omega arith); next = next }
     where
       next : (st st′ : Stack) → Stacked (register-in s) xs n w b st → push (s-op o) st ≡ some st′ → Stacked (register-in s) ys n w (b - n * w) st′
       next [] st′ h e = none-some e

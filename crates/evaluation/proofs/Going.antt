@@ -14,7 +14,7 @@ use Rattle.theory.specs.Evaluation.{evaluate}
 use Rattle.theory.proofs.Postfix.{none-some, single, Step, read-step}
 use Rattle.symbols.specs.Symbols.{symbol-numbered}
 use Rattle.rows.specs.Kept.{Kept}
-use Rattle.rows.proofs.Words.{kept-refl, kept-trans}
+use Rattle.rows.proofs.Words.{kept-refl, kept-trans, kept-in}
 use Rattle.evaluation.specs.Ground.{symbols-in}
 use Rattle.theory.specs.Register.{Register}
 use Rattle.evaluation.specs.Stack.{Stored, Stacked, Fits, Applied, Evaluated}
@@ -127,8 +127,7 @@ module _ (r : Register) (n w : ℕ) (ns ms : List ℕ) (first count : ℕ) where
 
       pub kept-more : Kept 0 (24 * (n * w)) ys zs
       kept-more =
-          d .kept (24 * (n * w))
-          (omega (arith, stacked-length r n w ys b (a .stack) (a .stacked), mul-le-mul-right (n * w) low))
+          kept-in (d .kept) (omega arith)
           (omega (arith, stacked-length r n w zs c (one .next) (d .next (a .stack) (one .next) (a .stacked) (one .pushes)), mul-le-mul-right (n * w) low-next))
 
   pub going-more : {xs ys zs : List ℕ} {b c i : ℕ} → count ≤ 48 → i < count → (p : PathExpr) → Makes p → Going xs ys b i

@@ -39,9 +39,10 @@ pub record Fits (r : Register) (xs : List ℕ) (n w b : ℕ) (x : Symbol) : Type
   pub room : length before * (n * w) ≤ length xs
   pub more : length after * (n * w) ≤ length xs
 
--- the symbol was applied: from a stack that ends at b to one that ends at c; no word past both changed
+-- the symbol was applied: from a stack that ends at b to one that ends at c; no word changed outside the relation on top, which receives
+-- the symbol's pairs
 pub record Applied (r : Register) (n w b : ℕ) (x : Symbol) (c : ℕ) (xs ys : List ℕ) : Type 0 where
-  pub kept : (h : ℕ) → b ≤ h → c ≤ h → Kept 0 h xs ys
+  pub kept : Kept (c - n * w) c xs ys
   pub next : (st st′ : Stack) → Stacked r xs n w b st → push x st ≡ some st′ → Stacked r ys n w c st′
 
 -- the symbols were evaluated into the relation at 0, and no word past 24 relations changed

@@ -124,7 +124,8 @@ fn step(work: &mut [u64], b: usize, n: usize, w: usize, register: &[u8], l: Link
     add_links(work, b, n, w, register, l, forward);
 }
 
-// The relation at p becomes its plain join with the one at q.
+// The relation at p becomes its plain join with the one at q. Its bits are taken from these two as they came, with no spare relation: no
+// word outside the one at p changes (`kept` of `Made`).
 fn join(work: &mut [u64], p: usize, q: usize, n: usize, w: usize, register: &[u8])
     requires { ⌜ (p + n * w ≤ q) × (q + n * w ≤ length (now work)) × Ground (now register) n w × Clean (now work) p n w ⌝ }
     ensures { λ _. ⌜ Made p n w (binary? (register-in (now (register .entry))) (s-join any) (pair-at (now (work .entry)) p w) (pair-at (now (work .entry)) q w)) (now (work .entry)) (now (work .exit)) ⌝ }

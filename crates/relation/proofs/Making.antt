@@ -24,7 +24,7 @@ pub row-le : {s n : ℕ} (w : ℕ) → s < n → s * w + w ≤ n * w
 row-le {s} {n} w h = rw suc-mul at (mul-le-mul-right w h)
 
 pub made-none : (b w : ℕ) (f : ℕ → ℕ → Bool) (xs : List ℕ) → Made b 0 w f xs xs
-made-none b w f xs = record { kept = kept-refl b (b + 0 * w) xs; pair = λ s t h l. absurd (omega arith) }
+made-none b w f xs = record { kept = kept-refl _ _ xs; pair = λ s t h l. absurd (omega arith) }
 
 -- a turn of a loop that makes a relation row by row
 pub made-more : {b s w : ℕ} {f : ℕ → ℕ → Bool} {xs ys zs : List ℕ} → Made b s w f xs ys → Row (b + s * w) w (f s) ys zs → Made b (s + 1) w f xs zs
@@ -39,7 +39,7 @@ pub made-all : {b n m w : ℕ} {f : ℕ → ℕ → Bool} {xs ys : List ℕ} →
 made-all {b} {w = w} {f} {xs} {ys} p e = subst (λ (k : ℕ). Made b k w f xs ys) e p
 
 pub made-same : (b n w : ℕ) (xs : List ℕ) → Made b n w (pair-at xs b w) xs xs
-made-same b n w xs = record { kept = kept-refl b (b + n * w) xs; pair = λ s t h l. refl }
+made-same b n w xs = record { kept = kept-refl _ _ xs; pair = λ s t h l. refl }
 
 pub made-then : {b n w : ℕ} {f g : ℕ → ℕ → Bool} {xs ys zs : List ℕ} → Made b n w f xs ys → Made b n w g ys zs → Made b n w g xs zs
 made-then p q = record { kept = kept-trans (p .kept) (q .kept) (omega arith) (omega arith) (omega arith) (omega arith); pair = q .pair }

@@ -55,13 +55,14 @@ fn join_row(work: &mut [u64], d: usize, q: usize, n: usize, w: usize, mask: &[u6
     ensures { λ _. ⌜ Row d w (λ t. some? (λ z. row-bit (now (work .entry)) d z && (pair-at (now (work .entry)) q w z t && row-bit (now (mask .entry)) 0 z)) (range n)) (now (work .entry)) (now (work .exit)) ⌝ }
 {
     if rows::any(work, d, w) {
-        let mut row = [0u64; 16];
-        take_row(&mut row, work, d, q, n, w, mask);
-        rows::copy(work, d, &row, 0, w);
+        let mut joined = [0u64; 16];
+        take_row(&mut joined, work, d, q, n, w, mask);
+        rows::copy(work, d, &joined, 0, w);
     }
 }
 
-// The relation at p becomes its join with the one at q, through the records that the mask has.
+// The relation at p becomes its join with the one at q, through the records that the mask has. Its bits are taken from these two as they
+// came, row by row, with no spare relation: no word outside the one at p changes (`kept` of `Made`).
 pub fn join(work: &mut [u64], p: usize, q: usize, n: usize, w: usize, mask: &[u64])
     requires { ⌜ (p + n * w ≤ q) × (q + n * w ≤ length (now work)) × (w ≤ 16) × (n ≤ 64 * w) × (w ≤ length (now mask)) × Clean (now work) p n w ⌝ }
     ensures { λ _. ⌜ Made p n w (join? n (row-bit (now (mask .entry)) 0) (pair-at (now (work .entry)) p w) (pair-at (now (work .entry)) q w)) (now (work .entry)) (now (work .exit)) ⌝ }

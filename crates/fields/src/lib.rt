@@ -77,7 +77,7 @@ pub enum Outcome {
     Refused(Source, Refusal),
 }
 
-// What comes of a call that writes a narrowed question's file: the numbers of its members and of its bytes.
+// What comes of a call that writes a narrowed question's file, or tells its size: the numbers of its members and of its bytes.
 pub enum Written {
     File(usize, usize),
     Refused(Source, Refusal),

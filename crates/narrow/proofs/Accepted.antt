@@ -1,6 +1,6 @@
 -- What an accepted narrowing says: both files were read, nothing was refused, and the file is that of the members.
 -- Assumes nothing.
-use mathlib.Core.Path.{_≡_, refl, sym, ap, _∙_}
+use mathlib.Core.Path.{_≡_, refl, sym, ap}
 use mathlib.Core.Bool.{Bool, true, false}
 use mathlib.Core.List.{List, _++_}
 use Prim.Native.Nat.{ℕ, _+_, _≤_}
@@ -15,13 +15,13 @@ use Rattle.theory.specs.Narrowing.{Outcome, refused, narrowed, narrow-symbols}
 use Rattle.fields.specs.declared.Source.{Source}
 use Rattle.fields.specs.declared.Source.the-variants as source
 use Rattle.fields.specs.Answer.{Answer, got, refused as refused-file}
-use Rattle.fields.specs.Call.{accepts, refuses, Size, size, zeroed}
+use Rattle.fields.specs.Call.{accepts, refuses, Size, size}
 use Rattle.fields.specs.Call as fields·Call
 use Rattle.fields.specs.Reading.{read}
 use Rattle.sheet.specs.Form.{sheet-form}
 use Rattle.question.specs.Form.{question-form, question-symbols}
 use Rattle.narrowed.specs.Members.{narrowed-file}
-use Rattle.narrow.specs.Call.{result, file-of, narrow-need, settled, narrow-call}
+use Rattle.narrow.specs.Call.{file-of, in-area, narrow-need, settled, members-call, narrow-call}
 
 -- the area has the members' file, of the size that was told
 pub record Filed (ms : List Member) (file file′ : List ℕ) (z : Size) : Type 0 where
@@ -70,47 +70,28 @@ filed ms file z e = by-room (ltb (length file) (length (narrowed-file ms))) refl
           area = rw t;
         }
 
-module _ (s q work file : List ℕ) (z : Size) (e : narrow-call s q work file .outcome ≡ accepts z) where
-  abbrev Due : Type 0
-  Due = Accepted s q file (narrow-call s q work file .file) z
+module _ (s q work file : List ℕ) (z : Size) where
+  abbrev Due : fields·Call.Outcome (List Member) → Type 0
+  Due o = in-area o file .outcome ≡ accepts z → Accepted s q file (in-area o file .file) z
 
-  module _ (S : Sheet) (es : read sheet-form s ≡ got S) (cs : List ℕ) (eq : read question-form q ≡ got cs) where
-    is-settled : narrow-call s q work file ≡ settled (narrow-symbols S (question-symbols cs)) work file
-    unfolding narrow-call
-    is-settled = rw (es, eq)
+  by-outcome : (S : Sheet) → read sheet-form s ≡ got S → (cs : List ℕ) → read question-form q ≡ got cs
+      → (o : Outcome) → narrow-symbols S (question-symbols cs) ≡ o → (b : Bool) → ltb (length work) narrow-need ≡ b → Due (settled o work .outcome)
+  unfolding settled
+  by-outcome S es cs eq o en true t e = not-accepted source.Work 15 narrow-need z (rw t at e)
+  by-outcome S es cs eq (refused n i) en false t e = not-accepted source.Work n i z (rw t at e)
+  by-outcome S es cs eq (narrowed ms) en false t e =
+      rw t record { sheet = S; sheet-reads = es; codes = cs; question-reads = eq; members = ms; narrows = en; filed = filed ms file z (rw t at e) }
 
-    module _ (ms : List Member) (en : narrow-symbols S (question-symbols cs) ≡ narrowed ms) (short : ltb (length work) narrow-need ≡ false) where
-      is-filed : narrow-call s q work file ≡ result (file-of ms file) (zeroed narrow-need work)
-      unfolding settled
-      is-filed = is-settled ∙ rw (short, en)
+  by-question : (S : Sheet) → read sheet-form s ≡ got S → (a : Answer (List ℕ)) → read question-form q ≡ a → Due (members-call s q work .outcome)
+  unfolding members-call
+  by-question S es (refused-file n p) eq e = not-accepted source.Question n p z (rw (es, eq) at e)
+  by-question S es (got cs) eq e = rw (es, eq) (by-outcome S es cs eq (narrow-symbols S (question-symbols cs)) refl (ltb (length work) narrow-need) refl (rw (es, eq) at e))
 
-      is-accepted : Due
-      is-accepted =
-          record {
-            sheet = S;
-            sheet-reads = es;
-            codes = cs;
-            question-reads = eq;
-            members = ms;
-            narrows = en;
-            filed = rw is-filed (filed ms file z (rw is-filed at e));
-          }
+  by-sheet : (a : Answer Sheet) → read sheet-form s ≡ a → Due (members-call s q work .outcome)
+  unfolding members-call
+  by-sheet (refused-file n p) es e = not-accepted source.Sheet n p z (rw es at e)
+  by-sheet (got S) es e = by-question S es (read question-form q) refl e
 
-    by-outcome : (o : Outcome) → narrow-symbols S (question-symbols cs) ≡ o → (b : Bool) → ltb (length work) narrow-need ≡ b → Due
-    unfolding settled
-    by-outcome o en true t = not-accepted source.Work 15 narrow-need z (rw (is-settled, t) at e)
-    by-outcome (refused n i) en false t = not-accepted source.Work n i z (rw (is-settled, t, en) at e)
-    by-outcome (narrowed ms) en false t = is-accepted ms en t
-
-  by-question : (S : Sheet) → read sheet-form s ≡ got S → (a : Answer (List ℕ)) → read question-form q ≡ a → Due
+  pub accepted : narrow-call s q work file .outcome ≡ accepts z → Accepted s q file (narrow-call s q work file .file) z
   unfolding narrow-call
-  by-question S es (refused-file n p) eq = not-accepted source.Question n p z (rw (es, eq) at e)
-  by-question S es (got cs) eq = by-outcome S es cs eq (narrow-symbols S (question-symbols cs)) refl (ltb (length work) narrow-need) refl
-
-  by-sheet : (a : Answer Sheet) → read sheet-form s ≡ a → Due
-  unfolding narrow-call
-  by-sheet (refused-file n p) es = not-accepted source.Sheet n p z (rw es at e)
-  by-sheet (got S) es = by-question S es (read question-form q) refl
-
-  pub accepted : Due
-  accepted = by-sheet (read sheet-form s) refl
+  accepted e = by-sheet (read sheet-form s) refl e

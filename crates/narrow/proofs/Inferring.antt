@@ -1,6 +1,6 @@
--- From what inference says to what is due: 12 or 13, or the file of the members.
+-- From what inference says to what is due: 12 or 13, or the members.
 -- Assumes nothing.
-use mathlib.Core.Path.{_≡_, sym, subst}
+use mathlib.Core.Path.{_≡_, sym, ap, subst, _∙_}
 use mathlib.Core.List.{List, [], List·Memᴰ as In}
 use mathlib.Core.Option.{some}
 use Prim.Native.Nat.{ℕ, _≤_}
@@ -11,13 +11,15 @@ use Rattle.theory.specs.PathExpr.{PathExpr, size}
 use Rattle.theory.specs.Postfix.{path-of, ended}
 use Rattle.theory.specs.Sheet.{Sheet}
 use Rattle.theory.specs.Inference.{Triple, triples}
-use Rattle.theory.specs.Merging.{members}
+use Rattle.theory.specs.Merging.{Member, members}
 use Rattle.theory.specs.Narrowing.{narrowed, short?}
 use Rattle.theory.proofs.Lists.{every-in}
 use Rattle.fields.specs.declared.Refusal.{Refusal}
 use Rattle.fields.specs.declared.Source.the-variants as source
 use Rattle.fields.specs.declared.Written.{Written}
 use Rattle.fields.specs.declared.Written.the-variants as written
+use Rattle.fields.specs.Call.{accepts}
+use Rattle.fields.specs.Call as fields·Call
 use Rattle.question.specs.Form.{question-symbols}
 use Rattle.rows.specs.Kept.{Kept}
 use Rattle.rows.proofs.Words.{kept-in}
@@ -27,9 +29,10 @@ use Rattle.order.proofs.Sorting.{question-suits}
 use Rattle.inference.specs.declared.Inferred.{Inferred}
 use Rattle.inference.specs.declared.Inferred.the-variants.{Triples, Refused}
 use Rattle.inference.specs.Questions.{Asking, Sheeted, Infers, Found}
-use Rattle.narrow.specs.Call.{file-of, narrow-need}
-use Rattle.narrow.specs.Call as call
-use Rattle.narrow.specs.Said.{Files, Listed, Ready, Infers-file}
+use Rattle.narrow.specs.declared.Counted.{Counted}
+use Rattle.narrow.specs.Call.{outcome-of, narrow-need}
+use Rattle.narrow.specs.Said.{Listed, Ready, Counts, Known, Puts, parted, Counts-named, Infers-file}
+use Rattle.narrow.proofs.Filing.{uncounted}
 
 module _ {qs ws t : List ℕ} {count K : ℕ} (h : Ready qs t count K) (n : narrow-need ≤ length ws) where
   pub asking : Asking qs ws count K
@@ -47,13 +50,11 @@ module _ {qs ws t : List ℕ} {count K : ℕ} (h : Ready qs t count K) (n : narr
     found : {r′ : Inferred} → r ≡ r′ → (S : Sheet) → Sheeted t K S → (q : PathExpr) → path-of (question-symbols (take count qs)) ≡ some q → Found S parts-asked q qs ws′ r′
     found w S g q e = subst (λ (x : Inferred). Found S parts-asked q qs ws′ x) w (i .found S g q e)
 
-    pub part-refused : (f : Refusal) → r ≡ Refused f → {file : List ℕ} → Infers-file qs ws ws′ t count K file file (written.Refused source.Work f)
-    part-refused f w {file} =
+    pub part-refused : (f : Refusal) → r ≡ Refused f → {c : Counted} → c .outcome ≡ written.Refused source.Work f → Counts-named qs ws ws′ t count K c
+    part-refused f w u =
         record {
           kept = kept;
-          files = λ S g q e.
-              let z = found w S g q e (narrowed (members (triples S q))) in
-              record { outcome = rw z; file = rw z };
+          counts = λ S g q e. uncounted f u (ap outcome-of (found w S g q e (narrowed (members (triples S q)))));
         }
 
     module _ (s e : ℕ) (w : r ≡ Triples s e) where
@@ -77,12 +78,20 @@ module _ {qs ws t : List ℕ} {count K : ℕ} (h : Ready qs t count K) (n : narr
             suits = suits;
           }
 
-      pub part-filed : {o : Written} {file file′ : List ℕ} → Files (file-of (members (part qs ws′ s e)) file) o file′ → Infers-file qs ws ws′ t count K file file′ o
-      part-filed f =
+      pub part-counted : {c : Counted} → Counts qs ws′ (accepts (members (part qs ws′ s e))) c → Counts-named qs ws ws′ t count K c
+      part-counted {c} d =
           record {
             kept = kept;
-            files = λ S g q e.
-                let z = found w S g q e in
-                let a = z .0 (narrowed (members (triples S q))) in
-                record { outcome = rw (a, ← z .1) (f .outcome); file = rw (a, ← z .1) (f .file) };
+            counts = λ S g q x.
+                let z = found w S g q x in
+                let same : outcome-of (parted S (take count qs) q) ≡ accepts (members (part qs ws′ s e)) = ap outcome-of (z .0 (narrowed (members (triples S q)))) ∙ ap (λ (l : List Triple). accepts (members l)) (sym (z .1)) in
+                subst (λ (o : fields·Call.Outcome (List Member)). Counts qs ws′ o c) (sym same) d;
           }
+
+-- what was counted is put into the area
+pub named-filed : {qs ws ws′ t : List ℕ} {count K : ℕ} {c : Counted} {file file′ : List ℕ} {o : Written} → Counts-named qs ws ws′ t count K c → Puts qs ws′ c file file′ o → Infers-file qs ws ws′ t count K file file′ o
+named-filed g p = record { kept = g .kept; files = λ S h q e. p .files _ (g .counts S h q e) }
+
+-- by the sheet that the table is of
+pub named-known : {qs ws ws′ t : List ℕ} {count K : ℕ} {c : Counted} → Ready qs t count K → Counts-named qs ws ws′ t count K c → Known qs ws′ c
+named-known h g = record { due = _; counts = g .counts (h .sheet) (h .sheeted) (h .path) (h .is) }

@@ -1,10 +1,10 @@
 -- 11
 pub mod Links
--- from the nodes of a part to the file
+-- from the nodes of a part to the size of its file, and to the file
 pub mod Filing
 -- 12 and 13
 pub mod Inferring
--- the files, 15, the whole
+-- the files, 15, all but the file
 pub mod Given
 pub mod Whole
 -- for other crates: what an accepted call says

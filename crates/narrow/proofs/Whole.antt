@@ -1,24 +1,23 @@
--- The call as a whole: 11 before what inference says, 15 before that, the files before all.
+-- The calls as a whole: 11 before what inference says, 15 before that, the files before all.
 -- Assumes nothing.
 use mathlib.Core.Path.{_≡_, refl, sym, ap, subst, _∙_}
-use mathlib.Core.List.{List, []}
+use mathlib.Core.List.{List}
 use Prim.Native.Nat.{ℕ, _<_, _≤_}
 use native.Mathlib.Omega.{arith}
 use lib.ListN.{length, take}
 use lib.Seq.{length-take-le}
 use borrow.Author.Tests.{lt-ltb, le-ltb}
 use Rattle.theory.specs.PathExpr.{Symbol}
-use Rattle.theory.specs.Postfix.{ended}
 use Rattle.theory.specs.Sheet.{Sheet}
-use Rattle.theory.specs.Inference.{triples}
-use Rattle.theory.specs.Merging.{members}
-use Rattle.theory.specs.Narrowing.{Outcome, refused, narrowed, refuse, link-fault, part-fault, narrow-read, narrow-symbols}
+use Rattle.theory.specs.Narrowing.{Outcome, refused, refuse, link-fault, narrow-read, narrow-symbols}
 use Rattle.fields.specs.declared.Refusal.{Refusal}
 use Rattle.fields.specs.declared.Refusal.the-variants.{UnnamedLink, WorkShort}
+use Rattle.fields.specs.declared.Source.{Source}
 use Rattle.fields.specs.declared.Source.the-variants as source
 use Rattle.fields.specs.declared.Written.{Written}
 use Rattle.fields.specs.declared.Written.the-variants as written
 use Rattle.fields.specs.Answer.{got, refused as refused-file}
+use Rattle.fields.specs.Call.{refuses, zeroed}
 use Rattle.fields.specs.Reading.{read}
 use Rattle.fields.specs.Said.{number-of, place-of}
 use Rattle.sheet.specs.Form.{sheet-form}
@@ -26,9 +25,11 @@ use Rattle.question.specs.Form.{question-form, question-symbols}
 use Rattle.rows.specs.Kept.{Wrote}
 use Rattle.rows.proofs.Words.{kept-refl}
 use Rattle.rows.proofs.Areas.{zero-words}
-use Rattle.narrow.specs.Call.{narrow-need, settled, narrow-call}
-use Rattle.narrow.specs.Call as call
-use Rattle.narrow.specs.Said.{Narrows, Files, FirstUnnamed, Handed, Ready, Infers-file, Narrows-codes, Settles}
+use Rattle.narrow.specs.declared.Counted.{Counted}
+use Rattle.narrow.specs.declared.Prepared.{Prepared}
+use Rattle.narrow.specs.Call.{Found, found, outcome-of, narrow-need, settled, members-call, narrow-call, size-call}
+use Rattle.narrow.specs.Said.{Narrows, Sizes, FirstUnnamed, Handed, Ready, Counts, Puts, parted, Counts-named, Counts-codes, Prepares}
+use Rattle.narrow.proofs.Filing.{uncounted}
 
 -- ---- 11
 module _ {qs t : List ℕ} {count K : ℕ} (h : Ready qs t count K) where
@@ -40,7 +41,7 @@ module _ {qs t : List ℕ} {count K : ℕ} (h : Ready qs t count K) where
 
   -- what is left once the links are named
   abbrev pub rest : Sheet → Outcome
-  rest S = refuse (part-fault S) 0 (ended ss []) (narrowed (members (triples S (h .path))))
+  rest S = parted S (take count qs) (h .path)
 
   by-links : (S : Sheet) (E : ℕ) → S .link-names ≡ E → narrow-symbols S ss ≡ refuse (link-fault E) 0 ss (rest S)
   unfolding narrow-symbols
@@ -53,25 +54,18 @@ module _ {qs t : List ℕ} {count K : ℕ} (h : Ready qs t count K) where
     pub symbols-named : count ≤ i → (S : Sheet) → S .link-names ≡ E → narrow-symbols S ss ≡ rest S
     symbols-named l S e = by-links S E e ∙ f .nowhere (omega (arith, many, f .within)) (rest S)
 
-    module _ {ws file : List ℕ} where
-      pub codes-unnamed : i < count → Narrows-codes qs ws ws t count K E file file (written.Refused source.Work (UnnamedLink i))
-      codes-unnamed l =
-          record {
-            kept = kept-refl 0 narrow-need ws;
-            files = λ S g.
-                let z = symbols-unnamed l S (g .named) in
-                record { outcome = rw z; file = rw z };
-          }
+    module _ {ws : List ℕ} {c : Counted} where
+      pub codes-unnamed : i < count → c .outcome ≡ written.Refused source.Work (UnnamedLink i) → Counts-codes qs ws ws t count K E c
+      codes-unnamed l u = record { kept = kept-refl 0 narrow-need ws; counts = λ S g. uncounted (UnnamedLink i) u (ap outcome-of (symbols-unnamed l S (g .named))) }
 
-      pub codes-named : count ≤ i → {ws′ file′ : List ℕ} {o : Written} → Infers-file qs ws ws′ t count K file file′ o → Narrows-codes qs ws ws′ t count K E file file′ o
-      codes-named l {file′ = file′} {o} g =
+      pub codes-named : count ≤ i → {ws′ : List ℕ} → Counts-named qs ws ws′ t count K c → Counts-codes qs ws ws′ t count K E c
+      codes-named l {ws′} g =
           record {
             kept = g .kept;
-            files = λ S d.
-                subst (λ (x : Outcome). Files (call.written x file) o file′) (sym (symbols-named l S (d .named))) (g .files S (d .sheeted) (h .path) (h .is));
+            counts = λ S d. subst (λ (x : Outcome). Counts qs ws′ (outcome-of x) c) (sym (symbols-named l S (d .named))) (g .counts S (d .sheeted) (h .path) (h .is));
           }
 
--- ---- 15, and the work words
+-- ---- the work words: the need in code and in the definition
 pub need-is : 8192 ≡ narrow-need
 unfolding narrow-need
 need-is = refl
@@ -80,37 +74,55 @@ pub enough : {n : ℕ} → 8192 ≤ n → narrow-need ≤ n
 unfolding narrow-need
 enough l = l
 
-module _ {qs ws t : List ℕ} {count K E : ℕ} {file : List ℕ} where
-  pub settles-15 : (n : ℕ) → n ≡ narrow-need → length ws < n → Settles qs ws ws t count K E file file (written.Refused source.Work (WorkShort n))
-  unfolding settled
-  settles-15 n k l = record { narrows = λ S d. let e = lt-ltb (length ws) narrow-need (rw k at l) in record { outcome = rw (e, k); work = rw e; file = rw e } }
-
-  pub settles-rest : {ws₁ ws₂ file′ : List ℕ} {o : Written} (n : ℕ) → n ≡ narrow-need → n ≤ length ws → Narrows-codes qs ws ws₁ t count K E file file′ o → Wrote 0 n (λ j. 0) ws₁ ws₂
-      → Settles qs ws ws₂ t count K E file file′ o
-  unfolding settled
-  settles-rest n k l g w =
+-- ---- the files, 15, and all but the file
+module _ (s q work : List ℕ) where
+  -- refused before a work word was touched
+  untouched : {p : Prepared} {x : Source} (r : Refusal) → members-call s q work ≡ found (refuses x (number-of r) (place-of r)) work → (p .counted .outcome ≡ written.Refused x r) × (p .words ≡ 0) → Prepares s q work work p
+  untouched {p} r e (u, w) =
       record {
-        narrows = λ S d.
-            let m : narrow-need ≤ length ws = rw k at l in
-            let e = le-ltb (length ws) narrow-need m in
-            let f = g .files S d in
-            record { outcome = rw e (f .outcome); work = rw e (zero-words narrow-need (g .kept) (rw k at w) m); file = rw e (f .file) };
+        counts = uncounted r u (ap (λ (m : Found). m .outcome) e);
+        room = omega (arith, w);
+        zeroed = λ xs z. zero-words 0 (kept-refl 0 0 work) (rw w at z) (omega arith) ∙ sym (ap (λ (m : Found). m .work) e);
       }
 
--- ---- the files
-module _ (s q work file : List ℕ) where
-  pub sheet-refused : (x : Refusal) → read sheet-form s ≡ refused-file (number-of x) (place-of x) → Narrows (narrow-call s q work file) (written.Refused source.Sheet x) work file
-  unfolding narrow-call
-  sheet-refused x e = record { outcome = rw e; work = rw e; file = rw e }
+  pub sheet-refused : {p : Prepared} (x : Refusal) → read sheet-form s ≡ refused-file (number-of x) (place-of x) → (p .counted .outcome ≡ written.Refused source.Sheet x) × (p .words ≡ 0) → Prepares s q work work p
+  unfolding members-call
+  sheet-refused x e u = untouched x (rw e) u
 
   module _ (S : Sheet) (e : read sheet-form s ≡ got S) where
-    pub question-refused : (x : Refusal) → read question-form q ≡ refused-file (number-of x) (place-of x) → Narrows (narrow-call s q work file) (written.Refused source.Question x) work file
-    unfolding narrow-call
-    question-refused x f = record { outcome = rw (e, f); work = rw (e, f); file = rw (e, f) }
+    pub question-refused : {p : Prepared} (x : Refusal) → read question-form q ≡ refused-file (number-of x) (place-of x) → (p .counted .outcome ≡ written.Refused source.Question x) × (p .words ≡ 0) → Prepares s q work work p
+    unfolding members-call
+    question-refused x f u = untouched x (rw (e, f)) u
 
-    pub files-read : (cs codes t : List ℕ) (count K E : ℕ) → read question-form q ≡ got cs → take count codes ≡ cs → Handed t K E S → {o : Written} {work′ file′ : List ℕ}
-        → Settles codes work work′ t count K E file file′ o → Narrows (narrow-call s q work file) o work′ file′
-    unfolding narrow-call
-    files-read cs codes t count K E f k d g =
-        let n = rw k at (g .narrows S d) in
-        record { outcome = rw (e, f) (n .outcome); work = rw (e, f) (n .work); file = rw (e, f) (n .file) }
+    module _ (cs : List ℕ) (f : read question-form q ≡ got cs) where
+      is-settled : members-call s q work ≡ settled (narrow-symbols S (question-symbols cs)) work
+      unfolding members-call
+      is-settled = rw (e, f)
+
+      pub work-short : {p : Prepared} (n : ℕ) → n ≡ narrow-need → length work < n → (p .counted .outcome ≡ written.Refused source.Work (WorkShort n)) × (p .words ≡ 0) → Prepares s q work work p
+      unfolding settled
+      work-short n k l u = untouched (WorkShort n) (is-settled ∙ rw (lt-ltb (length work) narrow-need (rw k at l), k)) u
+
+      pub files-read : (codes t : List ℕ) (count K E n : ℕ) → n ≡ narrow-need → n ≤ length work → take count codes ≡ cs → Handed t K E S → {c : Counted} {work′ : List ℕ}
+          → Counts-codes codes work work′ t count K E c → Prepares s q work work′ (record { counted = c; codes = codes; words = n })
+      unfolding settled
+      files-read codes t count K E n k l m d {c} {work′} g =
+          let big : narrow-need ≤ length work = rw k at l in
+          let is : members-call s q work ≡ found (outcome-of (narrow-symbols S (question-symbols cs))) (zeroed narrow-need work) = is-settled ∙ rw (le-ltb (length work) narrow-need big) in
+          record {
+            counts = rw is (rw m at (g .counts S d));
+            room = omega (arith, g .kept .len);
+            zeroed = λ xs z. zero-words narrow-need (g .kept) (rw k at z) big ∙ sym (ap (λ (x : Found). x .work) is);
+          }
+
+-- ---- the calls, once the work words are zero
+module _ {s q work work₁ work₂ : List ℕ} {p : Prepared} (h : Prepares s q work work₁ p) (z : Wrote 0 (p .words) (λ j. 0) work₁ work₂) where
+  pub size-told : Sizes (size-call s q work) (p .counted .outcome) work₂
+  unfolding size-call
+  size-told = record { outcome = h .counts .outcome; work = h .zeroed work₂ z }
+
+  pub file-told : {file file′ : List ℕ} {o : Written} → Puts (p .codes) work₁ (p .counted) file file′ o → Narrows (narrow-call s q work file) o work₂ file′
+  unfolding narrow-call
+  file-told g =
+      let f = g .files _ (h .counts) in
+      record { outcome = f .outcome; work = h .zeroed work₂ z; file = f .file }

@@ -11,24 +11,36 @@ use Rattle.theory.specs.PathExpr.{PathExpr, plain?, links?}
 use Rattle.theory.specs.Postfix.{path-of, ended}
 use Rattle.theory.specs.Sheet.{Sheet}
 use Rattle.theory.specs.Inference.{Triple, triples}
-use Rattle.theory.specs.Merging.{members}
+use Rattle.theory.specs.Merging.{Member, members}
+use Rattle.theory.specs.Sorting.{grouped}
 use Rattle.theory.specs.Narrowing.{Outcome, refused, narrowed, refuse, link-fault, part-fault, narrow-symbols}
 use Rattle.fields.specs.declared.Written.{Written}
+use Rattle.fields.specs.Call.{accepts}
+use Rattle.fields.specs.Call as fields·Call
 use Rattle.fields.specs.Said.{written-said}
 use Rattle.symbols.specs.Symbols.{symbol-numbered}
 use Rattle.question.specs.Form.{question-symbols}
-use Rattle.rows.specs.Kept.{Kept}
+use Rattle.rows.specs.Kept.{Kept, Wrote}
 use Rattle.nodes.specs.Paths.{Sound}
 use Rattle.rules.specs.Asks.{part}
 use Rattle.inference.specs.Questions.{Asking, Sheeted}
 use Rattle.order.specs.Arranging.{Suits}
-use Rattle.narrow.specs.Call.{Output, Result, written, settled, narrow-need}
+use Rattle.order.specs.Runs.{nodes-at}
+use Rattle.emit.specs.Files.{Measuring}
+use Rattle.narrow.specs.declared.Counted.{Counted}
+use Rattle.narrow.specs.declared.Prepared.{Prepared}
+use Rattle.narrow.specs.Call.{Output, Result, Sizing, outcome-of, sized, in-area, written, narrow-need, members-call}
 
 -- the outcome and both areas are what is due
 pub record Narrows (due : Result) (o : Written) (xs ys : List ℕ) : Type 0 where
   pub outcome : written-said o ≡ due .outcome
   pub work : xs ≡ due .work
   pub file : ys ≡ due .file
+
+-- the outcome and the work words
+pub record Sizes (due : Sizing) (o : Written) (xs : List ℕ) : Type 0 where
+  pub outcome : written-said o ≡ due .outcome
+  pub work : xs ≡ due .work
 
 -- the outcome and the file's area
 pub record Files (due : Output) (o : Written) (ys : List ℕ) : Type 0 where
@@ -70,17 +82,48 @@ pub record Ready (qs t : List ℕ) (count K : ℕ) : Type 0 where
   pub sheet : Sheet
   pub sheeted : Sheeted t K sheet
 
--- 12 or 13, 14, or the file, by any sheet of the table; of the work words only those up to the need changed
+-- ---- the members counted
+-- the nodes in their order are those of the members
+pub record Sorted (qs ws : List ℕ) (c : Counted) (ms : List Member) : Type 0 where
+  pub nodes : Measuring qs ws (c .order) (c .nodes) (c .triples)
+  pub members-are : grouped (nodes-at qs ws (c .order) 0 (c .triples)) ≡ ms
+  pub few : length ms ≤ 128
+
+-- the outcome tells the size of what is due
+pub record Counts (qs ws : List ℕ) (due : fields·Call.Outcome (List Member)) (c : Counted) : Type 0 where
+  pub outcome : written-said (c .outcome) ≡ sized due
+  pub sorted : (ms : List Member) → due ≡ accepts ms → Sorted qs ws c ms
+
+-- something is due
+pub record Known (qs ws : List ℕ) (c : Counted) : Type 0 where
+  pub due : fields·Call.Outcome (List Member)
+  pub counts : Counts qs ws due c
+
+-- whatever it is, it is now in the area
+pub record Puts (qs ws : List ℕ) (c : Counted) (file file′ : List ℕ) (o : Written) : Type 0 where
+  pub files : (due : fields·Call.Outcome (List Member)) → Counts qs ws due c → Files (in-area due file) o file′
+
+-- 12 or 13, or the members, by any sheet of the table
+abbrev pub parted : Sheet → List ℕ → PathExpr → Outcome
+parted S cs q = refuse (part-fault S) 0 (ended (question-symbols cs) []) (narrowed (members (triples S q)))
+
+-- of the work words only those up to the need changed
+pub record Counts-named (qs ws ws′ t : List ℕ) (count K : ℕ) (c : Counted) : Type 0 where
+  pub kept : Kept 0 narrow-need ws ws′
+  pub counts : (S : Sheet) → Sheeted t K S → (q : PathExpr) → path-of (question-symbols (take count qs)) ≡ some q → Counts qs ws′ (outcome-of (parted S (take count qs) q)) c
+
+-- the same with 14 behind it
 pub record Infers-file (qs ws ws′ t : List ℕ) (count K : ℕ) (file file′ : List ℕ) (o : Written) : Type 0 where
   pub kept : Kept 0 narrow-need ws ws′
-  pub files : (S : Sheet) → Sheeted t K S → (q : PathExpr) → path-of (question-symbols (take count qs)) ≡ some q
-      → Files (written (refuse (part-fault S) 0 (ended (question-symbols (take count qs)) []) (narrowed (members (triples S q)))) file) o file′
+  pub files : (S : Sheet) → Sheeted t K S → (q : PathExpr) → path-of (question-symbols (take count qs)) ≡ some q → Files (written (parted S (take count qs) q) file) o file′
 
--- the same with 11 before it
-pub record Narrows-codes (qs ws ws′ t : List ℕ) (count K E : ℕ) (file file′ : List ℕ) (o : Written) : Type 0 where
+-- with 11 before it
+pub record Counts-codes (qs ws ws′ t : List ℕ) (count K E : ℕ) (c : Counted) : Type 0 where
   pub kept : Kept 0 narrow-need ws ws′
-  pub files : (S : Sheet) → Handed t K E S → Files (written (narrow-symbols S (question-symbols (take count qs))) file) o file′
+  pub counts : (S : Sheet) → Handed t K E S → Counts qs ws′ (outcome-of (narrow-symbols S (question-symbols (take count qs)))) c
 
--- with 15 before that, and the work words zero after it
-pub record Settles (qs ws ws′ t : List ℕ) (count K E : ℕ) (file file′ : List ℕ) (o : Written) : Type 0 where
-  pub narrows : (S : Sheet) → Handed t K E S → Narrows (settled (narrow-symbols S (question-symbols (take count qs))) ws file) o ws′ file′
+-- with the files and 15 before that; the work words are what is due once so many are zeroed
+pub record Prepares (s q ws ws′ : List ℕ) (p : Prepared) : Type 0 where
+  pub counts : Counts (p .codes) ws′ (members-call s q ws .outcome) (p .counted)
+  pub room : p .words ≤ length ws′
+  pub zeroed : (xs : List ℕ) → Wrote 0 (p .words) (λ j. 0) ws′ xs → xs ≡ members-call s q ws .work

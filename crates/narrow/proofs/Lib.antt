@@ -9,3 +9,6 @@ pub mod Given
 pub mod Whole
 -- for other crates: what an accepted call says
 pub mod Accepted
+-- what the size says of narrowing
+pub mod Numbers
+pub mod Beforehand

@@ -10,11 +10,11 @@
  * Areas are lent by the caller, of any length and with any contents; a length counts elements.
  *   work       words to work in: PATHS_NARROW_WORK, PATHS_ANSWER_WORK(N), PATHS_JOB_WORK(N)
  *   answer     PATHS_ANSWER_WORDS(N) words: bit t % 64 of word s * W + t / 64 is the pair of records (s, t), W = PATHS_ROW_WORDS(N)
- *   file       where a narrowed question is written; PATHS_FILE_BYTES are always enough
+ *   file       where a narrowed question is written; PATHS_FILE_BYTES are always enough, paths_narrow_bytes tells how many are needed
  *
- * A result of 0 is acceptance: *first is the number of members and *second the number of bytes of the file that was written; both are 0
- * where the call writes none. Any other result is the number of a refusal: *first is its place and *second what it is about, one of the
- * PATHS_IN_ numbers. Both are always written.
+ * A result of 0 is acceptance: *first is the number of members and *second the number of bytes of the file that was written, or that
+ * paths_narrow would write; both are 0 for the other calls. Any other result is the number of a refusal: *first is its place and *second
+ * what it is about, one of the PATHS_IN_ numbers. Both are always written.
  *
  *   result                  reason                                                          place
  *   1  PATHS_TRUNCATED      one or two bytes left for a field's head, or a body past        the byte at which the field begins
@@ -33,7 +33,8 @@
  *                                                                                           of the first such link
  *
  * Order: 1 to 6 of the sheet, the question, the narrowed question, the register; 15; 14 for the answer; 11; 16; the first symbol with 13
- * or 12 (13 where it has both); 14 for the file. Only paths_check and paths_job give 16, only paths_narrow and paths_job 11 to 13.
+ * or 12 (13 where it has both); 14 for the file. Only paths_check and paths_job give 16, only paths_narrow, paths_narrow_bytes and
+ * paths_job 11 to 13; paths_narrow_bytes never gives 14.
  *
  * What is left: a refused call leaves answer and file as they were, an accepted one what lies past the words and bytes that it has to
  * write. Work words up to the need are untouched by 1 to 6 and 15, and 0 after any other return; those past it are untouched.
@@ -42,8 +43,8 @@
  * that first and second differ, and that no area overlaps a file or another area. Files may overlap.
  *
  * No call has state, takes memory from the heap or calls anything but memcpy, memmove and memset; every call returns. Threads may call
- * at once, each with areas of its own. 256 KiB of stack are enough; measured: paths_check and paths_narrow 65 KiB, paths_answer 10 KiB,
- * paths_answer_narrowed 122 KiB, paths_job 154 KiB.
+ * at once, each with areas of its own. 256 KiB of stack are enough; measured: paths_check 65 KiB, paths_narrow and paths_narrow_bytes
+ * 69 KiB, paths_answer 10 KiB, paths_answer_narrowed 122 KiB, paths_job 154 KiB.
  *
  * What a call returns and leaves in each area is proved, for any bytes and areas (docs/MAP.md); not covered are the compiler's back end
  * and this header.
@@ -102,6 +103,14 @@ uint64_t paths_narrow(const uint8_t *sheet, size_t sheet_length,
                       uint64_t *work, size_t work_length,
                       uint8_t *file, size_t file_length,
                       uint64_t *first, uint64_t *second);
+
+/* The bytes that paths_narrow needs for its file, without any area for it: its members and bytes, or the refusal that it would give.
+ * With the same files and work area, paths_narrow lent that many bytes or more is accepted and tells the same; lent fewer, it is refused
+ * with 14, place that many. */
+uint64_t paths_narrow_bytes(const uint8_t *sheet, size_t sheet_length,
+                            const uint8_t *question, size_t question_length,
+                            uint64_t *work, size_t work_length,
+                            uint64_t *first, uint64_t *second);
 
 /* The pairs of a question on a register. */
 uint64_t paths_answer(const uint8_t *question, size_t question_length,

@@ -262,8 +262,24 @@ static void check(const File *sheet, const File *reg, Told due)
     free(r.at);
 }
 
+static void narrow_bytes(const File *sheet, const File *question, size_t work_length, Told due)
+{
+    Bytes s = lent(sheet), q = lent(question);
+    Words work = marked_words(work_length);
+    Told t = unset;
+    t.number = paths_narrow_bytes(s.at, s.length, q.at, q.length, work.at, work.length, &t.first, &t.second);
+    expect(same_told(t, due), "bytes needed, beforehand");
+    expect_work(work, due, PATHS_NARROW_WORK);
+    free(s.at);
+    free(q.at);
+    free(work.at);
+}
+
+/* What is told beforehand is what narrowing tells, but for 14. */
 static void narrow(const File *sheet, const File *question, size_t work_length, size_t room, Told due, const File *written)
 {
+    if (due.number != PATHS_AREA_SHORT)
+        narrow_bytes(sheet, question, work_length, due);
     Bytes s = lent(sheet), q = lent(question), file = marked_bytes(room);
     Words work = marked_words(work_length);
     Told t = unset;
@@ -615,6 +631,7 @@ static void short_areas(bool bare)
     const size_t no_file[3] = {8192, 6, bare ? 0 : bytes - 1};
     narrow(&sheet, &question, no_work[0], no_work[2], told(PATHS_WORK_SHORT, 8192, PATHS_IN_WORK), NULL);
     narrow(&sheet, &question, no_file[0], no_file[2], told(PATHS_AREA_SHORT, bytes, PATHS_IN_WORK), NULL);
+    narrow_bytes(&sheet, &question, no_file[0], told(PATHS_ACCEPTED, 2, bytes));
     answer(paths_answer, &question, &reg, bare ? 0 : 167, no_work[1], told(PATHS_WORK_SHORT, 168, PATHS_IN_WORK), NULL);
     answer(paths_answer, &question, &reg, 168, no_answer[1], told(PATHS_AREA_SHORT, 6, PATHS_IN_WORK), NULL);
     answer(paths_answer_narrowed, &narrowed, &reg, bare ? 0 : 167, no_work[1], told(PATHS_WORK_SHORT, 168, PATHS_IN_WORK), NULL);

@@ -35,7 +35,7 @@ told-by f (refuses s n p) = tells n p (source-number s)
 abbrev pub told : Outcome (Unit {0}) → Told
 told o = told-by (λ _. tells 0 0 0) o
 
--- of a call that writes a file: the numbers of its members and of its bytes
+-- of a call that writes a file, or tells its size: the numbers of its members and of its bytes
 abbrev pub told-file : Outcome Size → Told
 told-file o = told-by (λ z. tells 0 (z .members) (z .bytes)) o
 
@@ -58,6 +58,10 @@ pub record Narrows (due : narrow.Result) (t : Told) (xs ys : List ℕ) : Type 0 
   pub outcome : Tells-file (due .outcome) t
   pub work : xs ≡ due .work
   pub file : ys ≡ due .file
+
+pub record Sizes (due : narrow.Sizing) (t : Told) (xs : List ℕ) : Type 0 where
+  pub outcome : Tells-file (due .outcome) t
+  pub work : xs ≡ due .work
 
 pub record Jobs (due : job.Result) (t : Told) (xs ys zs : List ℕ) : Type 0 where
   pub outcome : Tells-file (due .outcome) t

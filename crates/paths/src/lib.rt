@@ -15,10 +15,10 @@ ghost use Rattle.narrowed.specs.Form.{narrowed-form};
 ghost use Rattle.register.specs.Form.{register-form};
 ghost use Rattle.writing.specs.Outcome.{Writes};
 ghost use Rattle.conform.specs.Check.{check-of};
-ghost use Rattle.narrow.specs.Call.{narrow-call};
+ghost use Rattle.narrow.specs.Call.{narrow-call, size-call};
 ghost use Rattle.answer.specs.Calls.{plain-call, narrowed-call};
 ghost use Rattle.job.specs.Call.{job-call};
-ghost use Rattle.paths.specs.Told.{judged, tells, Tells, Tells-file, Answers, Narrows, Jobs, Plain};
+ghost use Rattle.paths.specs.Told.{judged, tells, Tells, Tells-file, Answers, Narrows, Sizes, Jobs, Plain};
 
 // What a call that is accepted returns; every refusal has a number of its own.
 const ACCEPTED: u64 = 0;
@@ -152,6 +152,21 @@ pub extern "C" fn paths_narrow(
         first,
         second,
     )
+}
+
+// The size of the file that narrowing writes, without any area for it; or the refusal that narrowing gives.
+#[no_mangle]
+pub extern "C" fn paths_narrow_bytes(
+    sheet: &[u8],
+    question: &[u8],
+    work: &mut [u64],
+    first: &mut u64,
+    second: &mut u64,
+) -> u64
+    ensures { λ n. ⌜ Sizes (size-call (now (sheet .entry)) (now (question .entry)) (now (work .entry)))
+        (tells n (now (first .exit)) (now (second .exit))) (now (work .exit)) ⌝ }
+{
+    tell_file(narrow::narrowed_size(sheet, question, work), first, second)
 }
 
 // The pairs of a question on a register.

@@ -1,0 +1,21 @@
+-- `paths::paths_narrow_bytes` meets its contract.
+-- Assumes nothing.
+use borrow.Author.Needs.{needs}
+use Rattle.paths.proofs.paths_narrow_bytes.Statement.{statement}
+use Rattle.paths.proofs.paths_narrow_bytes.Tie as tie
+
+narrowed-size-requires : tie.Need-narrowed-size-requires
+narrowed-size-requires c κs = search needs
+
+tell-file-requires : tie.Need-tell-file-requires
+tell-file-requires c κs = search needs
+
+same-length : tie.Need-same-length
+same-length c = search needs
+
+returns : tie.Need-returns
+returns c = let h = c .before .before .before .before .before .narrowed-size .ensures in record { outcome = rw (h .outcome) at (c .tell-file .ensures); work = h .work }
+
+pub paths-narrow-bytes-spec : {M : Type 1} → statement M
+paths-narrow-bytes-spec =
+    tie.close (tie.spec narrowed-size-requires tell-file-requires same-length returns)

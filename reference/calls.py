@@ -1,4 +1,4 @@
-"""The five calls over files and lent areas.
+"""The calls over files and lent areas.
 
 Files are bytes. `work` and `answer` are lists of 64-bit integers and `file` is
 a bytearray; each is changed in place and keeps its length.
@@ -101,6 +101,15 @@ def narrow(sheet: bytes, question: bytes, work: list, file: bytearray) -> Outcom
         demand_room(file, len(made))
         fill(file, made)
     return Accepted(len(members), len(made))
+
+
+@outcome
+def narrow_bytes(sheet: bytes, question: bytes, work: list) -> Outcome:
+    """What narrowing would tell, without any area for its file."""
+    permitted, symbols = read_sheet(sheet), read_question(question)
+    with borrowed(work, NARROWING_WORK):
+        members = narrowing.narrow(permitted, symbols)
+    return Accepted(len(members), len(write_narrowed(members)))
 
 
 def answered(records: Register, words, work: list, answer: list) -> Outcome:

@@ -5,7 +5,8 @@
 runs the cases of the specification, each refusal of each file in each call, and N cases drawn with the seed S. The program is run in a
 folder of its own for each case, and has to print what reference/program.py prints. The library (an archive with the calls of
 include/paths.h, or a shared object) has to leave result, numbers and every word and byte of every area as reference/calls.py does; all
-areas are marked before each call, and the words and bytes past their ends too. `--program ""` or `--library ""` leaves that one out.
+areas are marked before each call, and the words and bytes past their ends too. Beside them are N / 16 narrowings whose bytes are asked
+for beforehand. `--program ""` or `--library ""` leaves that one out.
 
 The first cases that differ are printed, with their files in hex and both results, and the exit status is 1.
 """
@@ -49,6 +50,7 @@ class Entry(NamedTuple):
 ENTRIES = {
     "check": Entry("paths_check", calls.check, ("sheet", "register"), ()),
     "narrow": Entry("paths_narrow", calls.narrow, ("sheet", "question"), ("work", "file")),
+    "narrow_bytes": Entry("paths_narrow_bytes", calls.narrow_bytes, ("sheet", "question"), ("work",)),
     "answer": Entry("paths_answer", calls.plain_answer, ("question", "register"), ("work", "answer")),
     "answer_narrowed": Entry("paths_answer_narrowed", calls.narrowed_answer, ("narrowed", "register"), ("work", "answer")),
     "job": Entry("paths_job", calls.whole_job, ("sheet", "question", "register"), ("work", "answer", "file")),
@@ -200,7 +202,7 @@ def needs(name: str, handed: tuple) -> dict:
     found = dict(zip(ENTRIES[name].files, (read(*pair) for pair in zip(ENTRIES[name].files, handed))))
     register = found.get("register")
     answer = 0 if register is None else calls.answer_words(register)
-    work = {"narrow": calls.NARROWING_WORK, "job": max(calls.NARROWING_WORK, 28 * answer)}.get(name, 28 * answer)
+    work = max(calls.NARROWING_WORK if "sheet" in found else 0, 28 * answer)
     members = members_of(found.get("sheet"), found.get("question"))
     return {"work": work, "answer": answer, "file": len(cases.CASE_1_FILE if members is None else files.narrowed_bytes(members))}
 
@@ -256,11 +258,20 @@ def state_jobs(rng: Random) -> Iterator:
     yield bytes_of(job.sheet, job.question, generate.breaking_register(rng, job.sheet))
 
 
+def foretold(sheet: bytes, question: bytes, work: int) -> Iterator:
+    """The bytes needed; then narrowing lent exactly as many, and one fewer. The work area is the same, so much longer than needed."""
+    yield lent("narrow_bytes", (sheet, question), work=work)
+    yield lent("narrow", (sheet, question), work=work)
+    yield lent("narrow", (sheet, question), work=work, file=-1)
+
+
 def state_calls(rng: Random) -> Iterator:
     for sheet, question, register in state_jobs(rng):
         yield lent("check", (sheet, register))
         for lengths in product((-1, 0), repeat=2):
             yield lent("narrow", (sheet, question), work=lengths[0], file=lengths[1])
+        yield from foretold(sheet, question, -1)
+        yield from foretold(sheet, question, 0)
         for lengths in product((-1, 0), repeat=3):
             yield lent("job", (sheet, question, register), work=lengths[0], answer=lengths[1], file=lengths[2])
 
@@ -308,6 +319,10 @@ def drawn_call(rng: Random) -> Call:
     return loosely(rng, name, drawn_files(rng, name))
 
 
+def drawn_foretold(rng: Random) -> Iterator:
+    return foretold(*drawn_files(rng, "narrow_bytes"), rng.choice([0, 0, 0, 0, 1, 3, 17, -1]))
+
+
 def drawn_run(rng: Random) -> Run:
     made: list = list(job_files(rng))
     if rng.random() < 0.1:
@@ -331,10 +346,12 @@ def library_calls(seed: int, count: int) -> Iterator:
     yield from short_calls()
     yield from state_calls(rng)
     yield from (drawn_call(rng) for _ in range(count))
+    for _ in range(count // 12):
+        yield from drawn_foretold(rng)
 
 
 FILE_NUMBERS = {"sheet": (1, 2, 3, 4, 5), "question": (1, 2, 3, 5, 6), "narrowed": (1, 2, 3, 4, 5, 6), "register": (1, 2, 3, 4, 5)}
-WORK_NUMBERS = {"check": (16,), "narrow": (11, 12, 13, 14, 15), "answer": (14, 15), "answer_narrowed": (14, 15),
+WORK_NUMBERS = {"check": (16,), "narrow": (11, 12, 13, 14, 15), "narrow_bytes": (11, 12, 13, 15), "answer": (14, 15), "answer_narrowed": (14, 15),
                 "job": (11, 12, 13, 14, 15, 16)}
 RUN_NUMBERS = (11, 12, 13, 15, 16)  # the program lends enough for every file, and for every answer that has work words
 

@@ -5,7 +5,7 @@ from collections import Counter
 
 from reference import cases, files, generate, meaning, narrowing, program
 from reference.calls import (
-    Accepted, Refused, check, narrow, narrowed_answer, plain_answer, whole_job,
+    Accepted, Refused, check, narrow, narrow_bytes, narrowed_answer, plain_answer, whole_job,
 )
 from reference.files import (
     Register, Sheet, Step, question_bytes, register_bytes, sheet_bytes, write_narrowed,
@@ -101,6 +101,48 @@ class Narrow(CallTest):
         self.assertEqual(self.call(areas, question=question_bytes(cases.CASES[7].question)),
                          Accepted(0, 5))
         self.areas_are(areas, 8192, file=bytes.fromhex("4100020000"))
+
+
+class NarrowBytes(CallTest):
+    def call(self, areas: Areas, sheet=SHEET, question=QUESTION):
+        return narrow_bytes(sheet, question, areas.work)
+
+    def test_size(self):
+        areas = Areas(work=8193)
+        self.assertEqual(self.call(areas), Accepted(2, len(NARROWED)))
+        self.areas_are(areas, 8192)
+
+    def test_case_1_takes_46_bytes(self):
+        self.assertEqual(self.call(Areas(work=8192), question=question_bytes(cases.CASES[0].question)),
+                         Accepted(1, 46))
+
+    def test_no_members_take_5_bytes(self):
+        self.assertEqual(self.call(Areas(work=8192), question=question_bytes(cases.CASES[7].question)),
+                         Accepted(0, 5))
+
+    def test_files_in_order_and_then_the_work(self):
+        areas = Areas(work=8191)
+        self.assertEqual(self.call(areas, b"\x11", b""), Refused(1, "sheet", 0))
+        self.assertEqual(self.call(areas, question=b""), Refused(5, "question", 0))
+        self.assertEqual(self.call(areas), Refused(15, "work", 8192))
+        self.areas_are(areas, 0)
+
+    def test_it_foretells_narrowing(self):
+        rng, seen = random.Random(63), Counter()
+        for _ in range(400):
+            sheet, question, _ = generate.random_job_files(rng)
+            work = rng.choice([8191, 8192, 8192, 8192, 8195])
+            told, areas = narrow_bytes(sheet, question, [FILL] * work), Areas(work=work, file=9000)
+            if isinstance(told, Accepted):
+                exact, short = Areas(work=work, file=told.size), Areas(work=work, file=told.size - 1)
+                self.assertEqual(narrow(sheet, question, exact.work, exact.file), told)
+                self.assertEqual(narrow(sheet, question, short.work, short.file),
+                                 Refused(14, "work", told.size))
+            self.assertEqual(narrow(sheet, question, areas.work, areas.file), told)
+            seen[None if isinstance(told, Accepted) else told.number] += 1
+        self.assertGreater(seen[None], 100)
+        self.assertTrue({1, 2, 3, 5, 11, 15} <= set(seen), seen)
+        self.assertNotIn(14, seen)
 
 
 class Answers(CallTest):

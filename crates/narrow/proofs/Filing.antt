@@ -59,7 +59,8 @@ module _ {qs ws : List ℕ} {s e : ℕ} (h : Listed qs ws s e) where
         }
 
 -- ---- a refusal
-pub uncounted : {qs ws : List ℕ} {c : Counted} {x : Source} (r : Refusal) {due : Outcome (List Member)} → c .outcome ≡ written.Refused x r → due ≡ refuses x (number-of r) (place-of r) → Counts qs ws due c
+pub uncounted : {qs ws : List ℕ} {c : Counted} {x : Source} (r : Refusal) {due : Outcome (List Member)}
+    → c .outcome ≡ written.Refused x r → due ≡ refuses x (number-of r) (place-of r) → Counts qs ws due c
 uncounted r e d =
     record {
       outcome = ap written-said e ∙ sym (ap sized d);
@@ -85,7 +86,8 @@ module _ (ms : List Member) (m b : ℕ) (z : size m b ≡ file-size ms) (file : 
       let t = lt-ltb (length file) (length (narrowed-file ms)) (omega (arith, is-bytes)) in
       record { outcome = rw t (ap (refuses source.Work 14) is-bytes); file = rw t }
 
-  file-put : {file′ : List ℕ} {n : ℕ} → b ≤ length file → n ≡ length (narrowed-file ms) → file′ ≡ sets file 0 (narrowed-file ms) → Files (file-of ms file) (written.File m n) file′
+  file-put : {file′ : List ℕ} {n : ℕ} → b ≤ length file → n ≡ length (narrowed-file ms) → file′ ≡ sets file 0 (narrowed-file ms)
+      → Files (file-of ms file) (written.File m n) file′
   unfolding file-of
   file-put l e f =
       let t = le-ltb (length file) (length (narrowed-file ms)) (omega (arith, is-bytes)) in
@@ -130,6 +132,6 @@ module _ {qs ws : List ℕ} {c : Counted} where
     put-filed {file} l f =
         record {
           files = λ due g.
-              let same = sorted g .members-are in
-              in-file g file (file-put (all g .0) m b (all g .2) file l (f .bytes-are ∙ ap (λ (x : List Member). length (narrowed-file x)) same) (f .area ∙ ap (λ (x : List Member). sets file 0 (narrowed-file x)) same));
+              let same : narrowed-file (grouped (nodes-at qs ws (c .order) 0 (c .triples))) ≡ narrowed-file (all g .0) = ap narrowed-file (sorted g .members-are) in
+              in-file g file (file-put (all g .0) m b (all g .2) file l (f .bytes-are ∙ ap length same) (f .area ∙ ap (sets file 0) same));
         }

@@ -31,7 +31,7 @@ use Rattle.inference.specs.declared.Inferred.the-variants.{Triples, Refused}
 use Rattle.inference.specs.Questions.{Asking, Sheeted, Infers, Found}
 use Rattle.narrow.specs.declared.Counted.{Counted}
 use Rattle.narrow.specs.Call.{outcome-of, narrow-need}
-use Rattle.narrow.specs.Said.{Listed, Ready, Counts, Known, Puts, parted, Counts-named, Infers-file}
+use Rattle.narrow.specs.Said.{Listed, Ready, Counts, Known, Puts, Counts-named, Infers-file}
 use Rattle.narrow.proofs.Filing.{uncounted}
 
 module _ {qs ws t : List ℕ} {count K : ℕ} (h : Ready qs t count K) (n : narrow-need ≤ length ws) where
@@ -84,12 +84,13 @@ module _ {qs ws t : List ℕ} {count K : ℕ} (h : Ready qs t count K) (n : narr
             kept = kept;
             counts = λ S g q x.
                 let z = found w S g q x in
-                let same : outcome-of (parted S (take count qs) q) ≡ accepts (members (part qs ws′ s e)) = ap outcome-of (z .0 (narrowed (members (triples S q)))) ∙ ap (λ (l : List Triple). accepts (members l)) (sym (z .1)) in
+                let same = ap outcome-of (z .0 (narrowed (members (triples S q)))) ∙ ap (λ (l : List Triple). accepts (members l)) (sym (z .1)) in
                 subst (λ (o : fields·Call.Outcome (List Member)). Counts qs ws′ o c) (sym same) d;
           }
 
 -- what was counted is put into the area
-pub named-filed : {qs ws ws′ t : List ℕ} {count K : ℕ} {c : Counted} {file file′ : List ℕ} {o : Written} → Counts-named qs ws ws′ t count K c → Puts qs ws′ c file file′ o → Infers-file qs ws ws′ t count K file file′ o
+pub named-filed : {qs ws ws′ t : List ℕ} {count K : ℕ} {c : Counted} {file file′ : List ℕ} {o : Written} → Counts-named qs ws ws′ t count K c → Puts qs ws′ c file file′ o
+    → Infers-file qs ws ws′ t count K file file′ o
 named-filed g p = record { kept = g .kept; files = λ S h q e. p .files _ (g .counts S h q e) }
 
 -- by the sheet that the table is of

@@ -72,10 +72,13 @@ below-field d s at =
 
 -- ---- a whole file, of a form whose own refusals are so
 module _ (F : Form) (s : List ℕ) (own : (st : F .State) (at next t : ℕ) (b : List ℕ) → Below (F .judge st at next t b)) where
-  below-after : (rest : F .State → ℕ → Answer (F .Value)) → ((st : F .State) (at : ℕ) → Below (rest st at)) → (st : F .State) (at : ℕ) (d : Field) → BelowField d → Below (after F s rest st at d)
+  below-after : (rest : F .State → ℕ → Answer (F .Value)) → ((st : F .State) (at : ℕ) → Below (rest st at)) → (st : F .State) (at : ℕ) (d : Field) → BelowField d
+      → Below (after F s rest st at d)
   below-after rest h st at ends g = fine (F .value st)
   below-after rest h st at (wrong n p) g = low n p (g .most n p refl)
-  below-after rest h st at (body t n) g = going-on (λ st′. rest st′ (at + 3 + n)) (F .judge st at (at + 3 + n) t (take n (drop (at + 3) s))) (own st at (at + 3 + n) t (take n (drop (at + 3) s))) (λ st′. h st′ (at + 3 + n))
+  below-after rest h st at (body t n) g =
+      let next = at + 3 + n in
+      going-on (λ st′. rest st′ next) (F .judge st at next t (take n (drop (at + 3) s))) (own st at next t (take n (drop (at + 3) s))) (λ st′. h st′ next)
 
   below-walk : (k : ℕ) (st : F .State) (at : ℕ) → Below (walk F s k st at)
   unfolding walk

@@ -28,7 +28,7 @@ use Rattle.rows.proofs.Areas.{zero-words}
 use Rattle.narrow.specs.declared.Counted.{Counted}
 use Rattle.narrow.specs.declared.Prepared.{Prepared}
 use Rattle.narrow.specs.Call.{Found, found, outcome-of, narrow-need, settled, members-call, narrow-call, size-call}
-use Rattle.narrow.specs.Said.{Narrows, Sizes, FirstUnnamed, Handed, Ready, Counts, Puts, parted, Counts-named, Counts-codes, Prepares}
+use Rattle.narrow.specs.Said.{Narrows, Sizes, FirstUnnamed, Handed, Ready, Counts, Puts, parted, Counts-named, Counts-codes, Unprepared, Prepares}
 use Rattle.narrow.proofs.Filing.{uncounted}
 
 -- ---- 11
@@ -77,20 +77,20 @@ enough l = l
 -- ---- the files, 15, and all but the file
 module _ (s q work : List ℕ) where
   -- refused before a work word was touched
-  untouched : {p : Prepared} {x : Source} (r : Refusal) → members-call s q work ≡ found (refuses x (number-of r) (place-of r)) work → (p .counted .outcome ≡ written.Refused x r) × (p .words ≡ 0) → Prepares s q work work p
-  untouched {p} r e (u, w) =
+  untouched : {p : Prepared} {x : Source} (r : Refusal) → members-call s q work ≡ found (refuses x (number-of r) (place-of r)) work → Unprepared x r p → Prepares s q work work p
+  untouched {p} r e u =
       record {
-        counts = uncounted r u (ap (λ (m : Found). m .outcome) e);
-        room = omega (arith, w);
-        zeroed = λ xs z. zero-words 0 (kept-refl 0 0 work) (rw w at z) (omega arith) ∙ sym (ap (λ (m : Found). m .work) e);
+        counts = uncounted r (u .outcome) (ap (λ (m : Found). m .outcome) e);
+        room = omega (arith, u .words);
+        zeroed = λ xs z. zero-words 0 (kept-refl 0 0 work) (rw (u .words) at z) (omega arith) ∙ sym (ap (λ (m : Found). m .work) e);
       }
 
-  pub sheet-refused : {p : Prepared} (x : Refusal) → read sheet-form s ≡ refused-file (number-of x) (place-of x) → (p .counted .outcome ≡ written.Refused source.Sheet x) × (p .words ≡ 0) → Prepares s q work work p
+  pub sheet-refused : {p : Prepared} (x : Refusal) → read sheet-form s ≡ refused-file (number-of x) (place-of x) → Unprepared source.Sheet x p → Prepares s q work work p
   unfolding members-call
   sheet-refused x e u = untouched x (rw e) u
 
   module _ (S : Sheet) (e : read sheet-form s ≡ got S) where
-    pub question-refused : {p : Prepared} (x : Refusal) → read question-form q ≡ refused-file (number-of x) (place-of x) → (p .counted .outcome ≡ written.Refused source.Question x) × (p .words ≡ 0) → Prepares s q work work p
+    pub question-refused : {p : Prepared} (x : Refusal) → read question-form q ≡ refused-file (number-of x) (place-of x) → Unprepared source.Question x p → Prepares s q work work p
     unfolding members-call
     question-refused x f u = untouched x (rw (e, f)) u
 
@@ -99,7 +99,7 @@ module _ (s q work : List ℕ) where
       unfolding members-call
       is-settled = rw (e, f)
 
-      pub work-short : {p : Prepared} (n : ℕ) → n ≡ narrow-need → length work < n → (p .counted .outcome ≡ written.Refused source.Work (WorkShort n)) × (p .words ≡ 0) → Prepares s q work work p
+      pub work-short : {p : Prepared} (n : ℕ) → n ≡ narrow-need → length work < n → Unprepared source.Work (WorkShort n) p → Prepares s q work work p
       unfolding settled
       work-short n k l u = untouched (WorkShort n) (is-settled ∙ rw (lt-ltb (length work) narrow-need (rw k at l), k)) u
 

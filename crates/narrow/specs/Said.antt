@@ -14,7 +14,10 @@ use Rattle.theory.specs.Inference.{Triple, triples}
 use Rattle.theory.specs.Merging.{Member, members}
 use Rattle.theory.specs.Sorting.{grouped}
 use Rattle.theory.specs.Narrowing.{Outcome, refused, narrowed, refuse, link-fault, part-fault, narrow-symbols}
+use Rattle.fields.specs.declared.Refusal.{Refusal}
+use Rattle.fields.specs.declared.Source.{Source}
 use Rattle.fields.specs.declared.Written.{Written}
+use Rattle.fields.specs.declared.Written.the-variants as written
 use Rattle.fields.specs.Call.{accepts}
 use Rattle.fields.specs.Call as fields·Call
 use Rattle.fields.specs.Said.{written-said}
@@ -29,7 +32,8 @@ use Rattle.order.specs.Runs.{nodes-at}
 use Rattle.emit.specs.Files.{Measuring}
 use Rattle.narrow.specs.declared.Counted.{Counted}
 use Rattle.narrow.specs.declared.Prepared.{Prepared}
-use Rattle.narrow.specs.Call.{Output, Result, Sizing, outcome-of, sized, in-area, written, narrow-need, members-call}
+use Rattle.narrow.specs.Call.{Output, Result, Sizing, outcome-of, sized, in-area, narrow-need, members-call}
+use Rattle.narrow.specs.Call as call
 
 -- the outcome and both areas are what is due
 pub record Narrows (due : Result) (o : Written) (xs ys : List ℕ) : Type 0 where
@@ -115,12 +119,17 @@ pub record Counts-named (qs ws ws′ t : List ℕ) (count K : ℕ) (c : Counted)
 -- the same with 14 behind it
 pub record Infers-file (qs ws ws′ t : List ℕ) (count K : ℕ) (file file′ : List ℕ) (o : Written) : Type 0 where
   pub kept : Kept 0 narrow-need ws ws′
-  pub files : (S : Sheet) → Sheeted t K S → (q : PathExpr) → path-of (question-symbols (take count qs)) ≡ some q → Files (written (parted S (take count qs) q) file) o file′
+  pub files : (S : Sheet) → Sheeted t K S → (q : PathExpr) → path-of (question-symbols (take count qs)) ≡ some q → Files (call.written (parted S (take count qs) q) file) o file′
 
 -- with 11 before it
 pub record Counts-codes (qs ws ws′ t : List ℕ) (count K E : ℕ) (c : Counted) : Type 0 where
   pub kept : Kept 0 narrow-need ws ws′
   pub counts : (S : Sheet) → Handed t K E S → Counts qs ws′ (outcome-of (narrow-symbols S (question-symbols (take count qs)))) c
+
+-- refused, and no work word is to be zeroed
+pub record Unprepared (x : Source) (r : Refusal) (p : Prepared) : Type 0 where
+  pub outcome : p .counted .outcome ≡ written.Refused x r
+  pub words : p .words ≡ 0
 
 -- with the files and 15 before that; the work words are what is due once so many are zeroed
 pub record Prepares (s q ws ws′ : List ℕ) (p : Prepared) : Type 0 where

@@ -11,7 +11,7 @@ ghost use Rattle.fields.specs.declared.Written.the-variants as written;
 ghost use Rattle.fields.specs.Call.{accepts};
 ghost use Rattle.rules.specs.Asks.{part};
 ghost use Rattle.narrow.specs.Call.{narrow-need, narrow-call, size-call};
-ghost use Rattle.narrow.specs.Said.{Narrows, Sizes, Unnamed, FirstUnnamed, Listed, Ready, Counts, Known, Puts, Counts-named, Infers-file, Counts-codes, Prepares};
+ghost use Rattle.narrow.specs.Said.{Narrows, Sizes, Unnamed, FirstUnnamed, Listed, Ready, Counts, Known, Puts, Counts-named, Infers-file, Counts-codes, Unprepared, Prepares};
 
 // The work words that narrowing needs.
 const NEED: usize = 8192;
@@ -125,7 +125,7 @@ fn count_codes(
 
 // A refusal before any work word is touched.
 fn unprepared(s: Source, r: Refusal) -> Prepared
-    ensures { λ p. ⌜ (p .counted .outcome ≡ written.Refused s r) × (p .words ≡ 0) ⌝ }
+    ensures { λ p. ⌜ Unprepared s r p ⌝ }
 {
     Prepared {
         counted: uncounted(s, r),

@@ -204,11 +204,14 @@ static void load(File *f, const char *folder, const char *format, const char *na
     fclose(in);
 }
 
-/* Takes the library's file as what is due. */
+/* Takes the library's file as what is due; it has as many bytes as are told beforehand. */
 static void narrow_first(void)
 {
+    accepted(paths_narrow_bytes(sheet.at, sheet.length, question.at, question.length, work, PATHS_NARROW_WORK, &first, &second));
+    due_bytes = second;
     library_narrow();
-    due_bytes = written;
+    if (written != due_bytes)
+        fail("the library's file has other bytes than were told beforehand", "see the question's line in the list");
     memcpy(due_file, file, written);
     memcpy(narrowed.at, file, written);
     narrowed.length = written;

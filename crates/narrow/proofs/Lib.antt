@@ -10,5 +10,4 @@ pub mod Whole
 -- for other crates: what an accepted call says
 pub mod Accepted
 -- what the size says of narrowing
-pub mod Numbers
 pub mod Beforehand

@@ -17,9 +17,9 @@ pub record Foretells (sheet question work : List ℕ) : Type 0 where
   -- lent fewer, it is refused with 14, place the bytes needed
   pub fewer : (z : Size) → size-call sheet question work .outcome ≡ accepts z → (file : List ℕ) → length file < z .bytes
       → narrow-call sheet question work file .outcome ≡ refuses source.Work 14 (z .bytes)
-  -- "or the refusal that narrowing would give", whatever the area; it is never 14
+  -- "or the refusal that narrowing would give", whatever the area; never 14, which is about the work
   pub refused : (s : Source) (n p : ℕ) → size-call sheet question work .outcome ≡ refuses s n p → (file : List ℕ)
       → narrow-call sheet question work file .outcome ≡ refuses s n p
-  pub never-14 : (s : Source) (p : ℕ) → size-call sheet question work .outcome ≡ refuses s 14 p → ⊥
+  pub never-14 : (p : ℕ) → size-call sheet question work .outcome ≡ refuses source.Work 14 p → ⊥
   -- the work words are those after narrowing
   pub work-same : (file : List ℕ) → size-call sheet question work .work ≡ narrow-call sheet question work file .work

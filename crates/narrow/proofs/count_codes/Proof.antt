@@ -26,7 +26,9 @@ same-length : tie.Need-same-length
 same-length c = search needs
 
 returns-2 : tie.Need-returns-2
-returns-2 c = codes-named (c .before .before .before .before .before .before .before .before .pre .0) (c .before .before .before .before .before .first-unnamed .ensures) (c .before .before .before .before .if1 .left) (c .before .before .count-named .ensures)
+returns-2 c =
+    codes-named (c .before .before .before .before .before .before .before .before .pre .0) (c .before .before .before .before .before .first-unnamed .ensures)
+    (c .before .before .before .before .if1 .left) (c .before .before .count-named .ensures)
 
 pub count-codes-spec : {M : Type 1} → statement M
 count-codes-spec =

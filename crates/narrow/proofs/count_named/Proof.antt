@@ -23,19 +23,26 @@ enum-known-s : tie.Need-enum-known-s
 enum-known-s c = search needs
 
 count-members-requires : tie.Need-count-members-requires
-count-members-requires c κs = listed (c .before .before .before .before .before .before .before .before .before .before .pre .0) (c .before .before .before .before .before .before .before .before .before .before .pre .1) (c .before .before .before .before .before .before .infer .ensures) _ _ (c .before .before .s .given .1)
+count-members-requires c κs =
+    listed (c .before .before .before .before .before .before .before .before .before .before .pre .0) (c .before .before .before .before .before .before .before .before .before .before .pre .1)
+    (c .before .before .before .before .before .before .infer .ensures) _ _ (c .before .before .s .given .1)
 
 same-length : tie.Need-same-length
 same-length c = search needs
 
 returns : tie.Need-returns
-returns c = part-refused (c .before .before .before .before .before .before .before .before .before .before .pre .0) (c .before .before .before .before .before .before .before .before .before .before .pre .1) (c .before .before .before .before .before .before .infer .ensures) _ (c .before .before .r .given .1) (c .uncounted .ensures)
+returns c =
+    part-refused (c .before .before .before .before .before .before .before .before .before .before .pre .0) (c .before .before .before .before .before .before .before .before .before .before .pre .1)
+    (c .before .before .before .before .before .before .infer .ensures) _ (c .before .before .r .given .1) (c .uncounted .ensures)
 
 same-length-2 : tie.Need-same-length-2
 same-length-2 c = search needs
 
 returns-2 : tie.Need-returns-2
-returns-2 c = part-counted (c .before .before .before .before .before .before .before .before .before .before .before .pre .0) (c .before .before .before .before .before .before .before .before .before .before .before .pre .1) (c .before .before .before .before .before .before .before .infer .ensures) _ _ (c .before .before .before .s .given .1) (c .count-members .ensures)
+returns-2 c =
+    part-counted (c .before .before .before .before .before .before .before .before .before .before .before .pre .0)
+    (c .before .before .before .before .before .before .before .before .before .before .before .pre .1) (c .before .before .before .before .before .before .before .infer .ensures) _ _
+    (c .before .before .before .s .given .1) (c .count-members .ensures)
 
 pub count-named-spec : {M : Type 1} → statement M
 count-named-spec =

@@ -26,7 +26,9 @@ same-length-2 : tie.Need-same-length-2
 same-length-2 c = search needs
 
 returns : tie.Need-returns
-returns c = file-told (c .before .before .before .before .before .before .before .before .before .before .before .before .before .before .before .prepare .ensures) (c .before .before .clear .ensures) (c .before .before .before .before .before .before .put-members .ensures)
+returns c =
+    file-told (c .before .before .before .before .before .before .before .before .before .before .before .before .before .before .before .prepare .ensures) (c .before .before .clear .ensures)
+    (c .before .before .before .before .before .before .put-members .ensures)
 
 pub narrowing-spec : {M : Type 1} → statement M
 narrowing-spec =

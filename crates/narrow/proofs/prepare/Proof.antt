@@ -43,7 +43,8 @@ unprepared-requires-3 c κs = search needs
 
 returns : tie.Need-returns
 returns c =
-    let (S, d) = told-sheet _ _ _ (c .before .before .before .before .before .before .before .before .before .read .ensures) _ _ (c .before .before .before .before .before .before .before .outcome2 .given .1) in
+    let (S, d) = told-sheet _ _ _ (c .before .before .before .before .before .before .before .before .before .read .ensures) _ _
+    (c .before .before .before .before .before .before .before .outcome2 .given .1) in
     let (cs, g) = told-question _ _ _ (c .before .before .before .before .before .read2 .ensures) _ (c .before .before .before .read4 .given .1) in
     work-short _ _ _ S (d .reads) cs (g .reads) 8192 need-is (c .before .if1 .taken) (c .unprepared3 .ensures)
 
@@ -51,7 +52,12 @@ cast-count-codes : tie.Need-cast-count-codes
 cast-count-codes c = search needs
 
 count-codes-requires : tie.Need-count-codes-requires
-count-codes-requires c κs = (ready (told-sheet _ _ _ (c .before .before .before .before .before .before .before .before .before .before .before .before .before .before .read .ensures) _ _ (c .before .before .before .before .before .before .before .before .before .before .before .before .outcome2 .given .1) .1) (told-question _ _ _ (c .before .before .before .before .before .before .before .before .before .before .read2 .ensures) _ (c .before .before .before .before .before .before .before .before .read4 .given .1) .1), enough (c .before .before .before .before .before .before .if1 .left))
+count-codes-requires c κs =
+    let (S, d) = told-sheet _ _ _ (c .before .before .before .before .before .before .before .before .before .before .before .before .before .before .read .ensures) _ _
+    (c .before .before .before .before .before .before .before .before .before .before .before .before .outcome2 .given .1) in
+    let (cs, g) = told-question _ _ _ (c .before .before .before .before .before .before .before .before .before .before .read2 .ensures) _
+    (c .before .before .before .before .before .before .before .before .read4 .given .1) in
+    (ready d g, enough (c .before .before .before .before .before .before .if1 .left))
 
 returns-2 : tie.Need-returns-2
 returns-2 c = sheet-refused _ _ _ _ (refused-sheet _ _ _ (c .before .before .before .before .read .ensures) _ (c .before .before .outcome .given .1)) (c .unprepared .ensures)
@@ -66,9 +72,12 @@ same-length c = search needs
 
 returns-4 : tie.Need-returns-4
 returns-4 c =
-    let (S, d) = told-sheet _ _ _ (c .before .before .before .before .before .before .before .before .before .before .before .before .before .before .before .before .before .before .read .ensures) _ _ (c .before .before .before .before .before .before .before .before .before .before .before .before .before .before .before .before .outcome2 .given .1) in
-    let (cs, g) = told-question _ _ _ (c .before .before .before .before .before .before .before .before .before .before .before .before .before .before .read2 .ensures) _ (c .before .before .before .before .before .before .before .before .before .before .before .before .read4 .given .1) in
-    files-read _ _ _ S (d .reads) cs (g .reads) _ _ _ _ _ 8192 need-is (c .before .before .before .before .before .before .before .before .before .before .if1 .left) (taken d g) (handed d) (c .before .before .before .count-codes .ensures)
+    let (S, d) = told-sheet _ _ _ (c .before .before .before .before .before .before .before .before .before .before .before .before .before .before .before .before .before .before .read .ensures) _ _
+    (c .before .before .before .before .before .before .before .before .before .before .before .before .before .before .before .before .outcome2 .given .1) in
+    let (cs, g) = told-question _ _ _ (c .before .before .before .before .before .before .before .before .before .before .before .before .before .before .read2 .ensures) _
+    (c .before .before .before .before .before .before .before .before .before .before .before .before .read4 .given .1) in
+    files-read _ _ _ S (d .reads) cs (g .reads) _ _ _ _ _ 8192 need-is (c .before .before .before .before .before .before .before .before .before .before .if1 .left) (taken d g) (handed d)
+    (c .before .before .before .count-codes .ensures)
 
 pub prepare-spec : {M : Type 1} → statement M
 prepare-spec =

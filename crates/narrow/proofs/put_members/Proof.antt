@@ -18,7 +18,9 @@ returns : tie.Need-returns
 returns c = put-short _ _ (c .before .before .outcome2 .given .1) (c .if1 .taken)
 
 put-file-requires : tie.Need-put-file-requires
-put-file-requires c κs = filing _ _ (c .before .before .before .before .before .before .outcome2 .given .1) (c .before .before .before .before .before .before .before .before .before .before .before .pre) (c .before .before .before .before .if1 .left)
+put-file-requires c κs =
+    filing _ _ (c .before .before .before .before .before .before .outcome2 .given .1) (c .before .before .before .before .before .before .before .before .before .before .before .pre)
+    (c .before .before .before .before .if1 .left)
 
 returns-2 : tie.Need-returns-2
 returns-2 c = put-refused _ _ (c .before .outcome .given .1)
@@ -27,7 +29,9 @@ same-length : tie.Need-same-length
 same-length c = search needs
 
 returns-3 : tie.Need-returns-3
-returns-3 c = put-filed _ _ (c .before .before .before .before .before .before .before .before .before .outcome2 .given .1) (c .before .before .before .before .before .before .before .if1 .left) (c .before .before .put-file .ensures)
+returns-3 c =
+    put-filed _ _ (c .before .before .before .before .before .before .before .before .before .outcome2 .given .1) (c .before .before .before .before .before .before .before .if1 .left)
+    (c .before .before .put-file .ensures)
 
 pub put-members-spec : {M : Type 1} → statement M
 put-members-spec =

@@ -22,7 +22,7 @@ use Rattle.theory.proofs.Inside.{derives-inside}
 use Rattle.theory.proofs.Inference.{Short, exact}
 use Rattle.theory.proofs.Soundness.{erase-holds, derives-sound}
 use Rattle.theory.proofs.Completeness.{derives-complete}
-use Rattle.theory.proofs.Universal.{universal, kind-universal, universal-well-formed, universal-conforms, derives-held}
+use Rattle.theory.proofs.Universal.{derives-held, universal-witness}
 use Rattle.theory.proofs.Merging.{members-cover, members-trace}
 use Rattle.theory.proofs.Narrowing.{narrow-short, narrow-members}
 use Rattle.theory.proofs.Postfix.{path-of-postfix, postfix-path-of, ended-parts}
@@ -61,16 +61,7 @@ module _ (S : Sheet) (ok : T (sheet? S)) (q : PathExpr) (plain : T (plain? q)) (
   witness P t m e =
       let d = derives t m in
       let i = derives-inside S ok q (t .from) (t .path) (t .to) d in
-      record {
-        register = universal S;
-        well-formed = universal-well-formed S ok;
-        conforms = universal-conforms S ok;
-        from = t .from;
-        to = t .to;
-        holds = derives-held S ok q (t .from) (t .path) (t .to) d plain;
-        kinds = subst (λ a. P a (kind (universal S) (t .to))) (sym (kind-universal S (t .from) (i .0)))
-            (subst (λ b. P (t .from) b) (sym (kind-universal S (t .to) (i .1))) e);
-      }
+      universal-witness S ok q P (t .from) (t .to) (i .0) (i .1) (derives-held S ok q plain (t .from) (t .path) (t .to) d) e
 
   -- one end of the members: which set of a member it is, and which kind of a pair
   module _ (set-of : Member → ℕ) (end-of : ℕ → ℕ → ℕ)

@@ -63,7 +63,7 @@ module _ (r : Register) where
       go (branches-right x y) s t h = (x e₁ s t (h .0), (h .1 .0, y e₂ t (h .1 .0) (h .1 .1)))
       go (branches-left x y) s t h = (y e₂ s t (h .0), (h .1 .0, x e₁ s (h .1 .0) (h .1 .1)))
 
-  walk-sound : (o : PathExpr) (a : ℕ) (p : PathExpr) (b : ℕ) (ks : List ℕ) → Walk (Sound o) a p b ks → Sound (closure o) a p b
+  pub walk-sound : (o : PathExpr) (a : ℕ) (p : PathExpr) (b : ℕ) (ks : List ℕ) → Walk (Sound o) a p b ks → Sound (closure o) a p b
   walk-sound o a p b ks (first x) e s t h = single (x e s t h)
   walk-sound o a p b ks (then {b = z} {p = q} {ks = ls} w x) e s t h = extend (walk-sound o a q z ls w e s (h .0) (h .1)) (x e (h .0) t (h .2))
 

@@ -1,23 +1,26 @@
--- The universal register of a sheet: a record for each kind, a link for each permitted triple. It conforms, and each triple of a question is a pair of it there.
+-- The universal register of a sheet: a record for each kind, a link for each permitted triple. It conforms, and each triple of a question is there a pair
+-- of its own path, and so of the question.
 -- Assumes nothing.
-use mathlib.Core.Path.{_≡_, sym, subst, subst₂}
-use mathlib.Core.Logic.{inl, inr}
+use mathlib.Core.Path.{_≡_, refl, sym, subst, subst₂}
 use mathlib.Core.Bool.{_&&_}
 use mathlib.Core.List.{List, [], _∷_, List·Memᴰ as In, List·Memᴰ·head as here, List·Memᴰ·eq-of-singleton as in-one}
-use mathlib.Core.Path.{refl}
 use Prim.Native.Nat.{ℕ, _<_}
 use lib.Dec.{T, ltb, lt→ltb}
 use lib.ListN.{length}
 use Rattle.theory.specs.Lists.{every?, guard, concat-map, range}
-use Rattle.theory.specs.TransitiveClosure.{single, extend}
+use Rattle.theory.specs.KindSet.{has, singleton}
 use Rattle.theory.specs.PathExpr.{Direction, Via, any, through, Op, PathExpr, step, join, op, closure, plain?}
 use Rattle.theory.specs.Register.{Edge, edge, Register, kind, well-formed?, Linked, Holds}
 use Rattle.theory.specs.Sheet.{Sheet, sheet?, permits?, kind-known?, link-permitted?, conforms?}
-use Rattle.theory.specs.Derivation.{Triples, Step, along, back, Join, joins, Operate, union-left, union-right, conjoins, branches-right, branches-left, Walk, first, then, Derives}
+use Rattle.theory.specs.Derivation.{along, back, joins, Operate, union-left, union-right, conjoins, branches-right, branches-left, Walk, first, then, Closure, kept, unrolled, Derives}
+use Rattle.theory.specs.Demand3.{Witness}
 use Rattle.theory.proofs.Tests.{tests, and-both}
 use Rattle.theory.proofs.Lists.{in-guard, guard-in, in-concat-map, concat-map-in, in-every, range-in, in-range, range-at, length-tabulate}
+use Rattle.theory.proofs.KindSet.{has-singleton}
 use Rattle.theory.proofs.Sheet.{permits-inside}
-use Rattle.theory.proofs.Rules.{Sub, induction}
+use Rattle.theory.proofs.Rules.{walk-map}
+use Rattle.theory.proofs.Inside.{derives-inside}
+use Rattle.theory.proofs.Soundness.{erase-holds, walk-sound, derives-sound}
 
 -- the permitted triples from a, those of link l among them, and all
 abbrev edges-at : Sheet → ℕ → ℕ → List Edge
@@ -88,37 +91,58 @@ module _ (S : Sheet) (ok : T (sheet? S)) where
           let i = permits-inside S ok p in
           subst₂ (λ x y. T (permits? S x (e .label) y)) (sym (kind-universal S (e .from) (i .0))) (sym (kind-universal S (e .to) (i .2))) p
 
-  -- the universal register gives the question the pair of the two kinds
-  abbrev Held : PathExpr → Triples
-  Held o a p b = T (plain? o) → Holds (universal S) o a b
+  -- ---- a derived triple is there a pair of its own path
+  abbrev U : Register
+  U = universal S
 
-  steps : (d : Direction) (l a : ℕ) (p : PathExpr) (b : ℕ) → Step S d l a p b → Held (step d l) a p b
-  steps d l a p b (along m) e = universal-linked m
-  steps d l a p b (back m) e = universal-linked m
+  at-kind : (k : ℕ) → k < S .kinds → T (has (singleton k) (kind U k))
+  at-kind k h = subst (λ j. T (has (singleton k) j)) (sym (kind-universal S k h)) (has-singleton k)
 
-  join-held : (v : Via) (o₁ o₂ : PathExpr) (a : ℕ) (p : PathExpr) (b : ℕ) → Join (Held o₁) (Held o₂) a p b → Held (join v o₁ o₂) a p b
-  join-held any o₁ o₂ a p b (joins {b = z} x y) e = (z, x (search tests), y (search tests), tt)
-  join-held (through m) o₁ o₂ a p b x e = absurd e
+  abbrev Own : PathExpr → Type 0
+  Own o = (a : ℕ) (p : PathExpr) (b : ℕ) → Derives S o a p b → Holds U p a b
 
-  op-held : (o : Op) (o₁ o₂ : PathExpr) (a : ℕ) (p : PathExpr) (b : ℕ) → Operate (Held o₁) (Held o₂) o a p b → Held (op o o₁ o₂) a p b
-  op-held o o₁ o₂ a p b x e = go x
-    where
-      e₁ : T (plain? o₁)
-      e₁ = search tests
+  step-own : (d : Direction) (l : ℕ) → Own (step d l)
+  step-own d l a p b (along t) = universal-linked t
+  step-own d l a p b (back t) = universal-linked t
 
-      e₂ : T (plain? o₂)
-      e₂ = search tests
+  join-own : (v : Via) (o₁ o₂ : PathExpr) → Own o₁ → Own o₂ → Own (join v o₁ o₂)
+  join-own v o₁ o₂ f g a p b (joins {b = z} {p = p₁} {q = p₂} x y) = (z, f a p₁ z x, g z p₂ b y, at-kind z (derives-inside S ok o₁ a p₁ z x .1))
 
-      go : {o : Op} {a b : ℕ} {p : PathExpr} → Operate (Held o₁) (Held o₂) o a p b → Holds (universal S) (op o o₁ o₂) a b
-      go (union-left x) = inl (x e₁)
-      go (union-right y) = inr (y e₂)
-      go (conjoins x y) = (x e₁, y e₂)
-      go (branches-right {c = c} x y) = (x e₁, (c, y e₂))
-      go (branches-left {c = c} x y) = (y e₂, (c, x e₁))
+  op-own : (o₁ o₂ : PathExpr) → Own o₁ → Own o₂ → {o : Op} {a b : ℕ} {p : PathExpr} → Operate (Derives S o₁) (Derives S o₂) o a p b → Holds U p a b
+  op-own o₁ o₂ f g (union-left {a} {b} {p} x) = f a p b x
+  op-own o₁ o₂ f g (union-right {a} {b} {q} y) = g a q b y
+  op-own o₁ o₂ f g (conjoins {a} {b} {p} {q} x y) = (f a p b x, g a q b y)
+  op-own o₁ o₂ f g (branches-right {a} {b} {c} {p} {q} x y) = (f a p b x, (c, g b q c y))
+  op-own o₁ o₂ f g (branches-left {a} {b} {c} {p} {q} x y) = (g a q b y, (c, f a p c x))
 
-  walk-held : (o : PathExpr) (a : ℕ) (p : PathExpr) (b : ℕ) (ks : List ℕ) → Walk (Held o) a p b ks → Held (closure o) a p b
-  walk-held o a p b ks (first x) e = single (x e)
-  walk-held o a p b ks (then {b = z} {p = q} {ks = ls} w x) e = extend (walk-held o a q z ls w e) (x e)
+  walk-own : (o : PathExpr) → Own o → {a b : ℕ} {p : PathExpr} {ks : List ℕ} → Walk (Derives S o) a p b ks → Holds U p a b
+  walk-own o f (first {a} {b} {p} x) = f a p b x
+  walk-own o f (then {b = z} {c = c} {q = q} w x) = (z, walk-own o f w, f z q c x, at-kind z (derives-inside S ok o z q c x .0))
 
-  pub derives-held : (o : PathExpr) → Sub (Derives S o) (Held o)
-  derives-held = induction S Held (record { steps = steps; joins = join-held; ops = op-held; keeps = walk-held; unrolls = walk-held })
+  -- a kept closure holds what its walk holds, which is sound
+  closure-own : (o : PathExpr) → T (plain? o) → Own o → {a b : ℕ} {p : PathExpr} → Closure (Derives S o) o a p b → Holds U p a b
+  closure-own o e f (kept {a} {b} {p = p} {ks = ks} w i r) = walk-sound U o a p b ks (walk-map (derives-sound U S o) w) e a b (erase-holds U p a b (walk-own o f w))
+  closure-own o e f (unrolled w un) = walk-own o f w
+
+  pub derives-own : (o : PathExpr) → T (plain? o) → Own o
+  derives-own (step d l) e = step-own d l
+  derives-own (join any o₁ o₂) e = join-own any o₁ o₂ (derives-own o₁ (search tests)) (derives-own o₂ (search tests))
+  derives-own (join (through m) o₁ o₂) e = absurd e
+  derives-own (op o o₁ o₂) e = λ a p b x. op-own o₁ o₂ (derives-own o₁ (search tests)) (derives-own o₂ (search tests)) x
+  derives-own (closure o) e = λ a p b x. closure-own o e (derives-own o e) x
+
+  -- so it is a pair of the question
+  pub derives-held : (o : PathExpr) → T (plain? o) → (a : ℕ) (p : PathExpr) (b : ℕ) → Derives S o a p b → Holds U o a b
+  derives-held o e a p b x = derives-sound U S o a p b x e a b (erase-holds U p a b (derives-own o e a p b x))
+
+  -- a pair there of kinds that are so is a witness
+  pub universal-witness : (q : PathExpr) (P : ℕ → ℕ → Type 0) (a b : ℕ) → a < S .kinds → b < S .kinds → Holds U q a b → P a b → Witness S q P
+  universal-witness q P a b f g h e = record {
+    register = U;
+    well-formed = universal-well-formed;
+    conforms = universal-conforms;
+    from = a;
+    to = b;
+    holds = h;
+    kinds = subst₂ P (sym (kind-universal S a f)) (sym (kind-universal S b g)) e;
+  }

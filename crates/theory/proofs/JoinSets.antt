@@ -170,7 +170,7 @@ merge-inferred (closure p) (closure p′) x y = merge-plain p p′ x
 pub members-inferred : (ts : List Triple) → ((t : Triple) → In t ts → Inferred (t .path)) → (m : Member) → In m (members ts) → Inferred (m .path)
 members-inferred [] h m i = absurd (in-nil i)
 members-inferred (t ∷ ts) h m i =
-    insert-all (λ n. Inferred (n .path)) (λ x y. merge-inferred (x .path) (y .path)) (of-triple t) (members ts) (h t (here refl)) (members-inferred ts (λ u j. h u (there j))) m i
+    insert-all (λ n. Inferred (n .path)) (λ x y a. merge-inferred (x .path) (y .path)) (of-triple t) (members ts) (h t (here refl)) (members-inferred ts (λ u j. h u (there j))) m i
 
 -- so a group takes in a member by the unions of their sets
 pub merged-sets : (m n : Member) → Inferred (m .path) → Inferred (n .path) → alike? m n ≡ true

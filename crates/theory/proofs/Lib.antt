@@ -37,4 +37,5 @@ pub mod Members
 -- demand 3
 pub mod Words
 pub mod Demand3
+pub mod NoIdle
 pub mod Answers

@@ -157,8 +157,8 @@ record Sets (m : Member) : Type 0 where
   from : is-set (m .from)
   to : is-set (m .to)
 
-sets-merged : (m n : Member) → Sets m → Sets n → Sets (merged m n)
-sets-merged m n x y = record {
+sets-merged : (m n : Member) → T (same-shape? (m .path) (n .path)) → Sets m → Sets n → Sets (merged m n)
+sets-merged m n a x y = record {
   path = sets-merge (m .path) (n .path) (x .path) (y .path);
   from = union-fits (m .from) (n .from) (x .from) (y .from);
   to = union-fits (m .to) (n .to) (x .to) (y .to);

@@ -34,12 +34,12 @@ merge-erase (closure p) (op o′ p′ q′) = refl
 merge-erase (closure p) (closure p′) = ap closure (merge-erase p p′)
 
 module _ (r : Register) where
-  via-left : (v w : Via) (z : ℕ) → passes r v z → passes r (merge-via v w) z
+  pub via-left : (v w : Via) (z : ℕ) → passes r v z → passes r (merge-via v w) z
   via-left any w z h = tt
   via-left (through a) any z h = tt
   via-left (through a) (through b) z h = search (has-union-left, has-union-right)
 
-  via-right : (v w : Via) (z : ℕ) → passes r w z → passes r (merge-via v w) z
+  pub via-right : (v w : Via) (z : ℕ) → passes r w z → passes r (merge-via v w) z
   via-right any w z h = tt
   via-right (through a) any z h = tt
   via-right (through a) (through b) z h = search (has-union-left, has-union-right)
@@ -48,7 +48,7 @@ module _ (r : Register) where
   Within p q = (s t : ℕ) → Holds r p s t → Holds r q s t
 
   -- an operator keeps inclusion
-  op-within : (o : Op) (p q p′ q′ : PathExpr) → Within p p′ → Within q q′ → Within (op o p q) (op o p′ q′)
+  pub op-within : (o : Op) (p q p′ q′ : PathExpr) → Within p p′ → Within q q′ → Within (op o p q) (op o p′ q′)
   op-within union p q p′ q′ f g s t (inl h) = inl (f s t h)
   op-within union p q p′ q′ f g s t (inr h) = inr (g s t h)
   op-within conjunction p q p′ q′ f g s t h = (f s t (h .0), g s t (h .1))
@@ -104,24 +104,24 @@ pub record Covers (m n : Member) : Type 0 where
   pub to : (k : ℕ) → T (has (m .to) k) → T (has (n .to) k)
   pub path : (r : Register) (s t : ℕ) → Holds r (m .path) s t → Holds r (n .path) s t
 
-covers-refl : (m : Member) → Covers m m
+pub covers-refl : (m : Member) → Covers m m
 covers-refl m = record { from = λ k h. h; to = λ k h. h; path = λ r s t h. h }
 
-covers-trans : {l m n : Member} → Covers l m → Covers m n → Covers l n
+pub covers-trans : {l m n : Member} → Covers l m → Covers m n → Covers l n
 covers-trans c d = record {
   from = λ k h. d .from k (c .from k h);
   to = λ k h. d .to k (c .to k h);
   path = λ r s t h. d .path r s t (c .path r s t h);
 }
 
-merged-left : (m n : Member) → Covers m (merged m n)
+pub merged-left : (m n : Member) → Covers m (merged m n)
 merged-left m n = record {
   from = λ k h. has-union-left (m .from) (n .from) k h;
   to = λ k h. has-union-left (m .to) (n .to) k h;
   path = λ r s t h. merge-left r (m .path) (n .path) s t h;
 }
 
-merged-right : (m n : Member) → T (same-shape? (m .path) (n .path)) → Covers n (merged m n)
+pub merged-right : (m n : Member) → T (same-shape? (m .path) (n .path)) → Covers n (merged m n)
 merged-right m n a = record {
   from = λ k h. has-union-right (m .from) (n .from) k h;
   to = λ k h. has-union-right (m .to) (n .to) k h;
@@ -167,19 +167,19 @@ pub record Traces (ts : List Triple) (m : Member) : Type 0 where
   pub from : (k : ℕ) → T (has (m .from) k) → (t : Triple) × In t ts × (t .from ≡ k)
   pub to : (k : ℕ) → T (has (m .to) k) → (t : Triple) × In t ts × (t .to ≡ k)
 
--- what holds of two members holds of their merging: then it holds of all after an insertion
-pub insert-all : (P : Member → Type 0) → ((m n : Member) → P m → P n → P (merged m n))
+-- what holds of two members of one shape holds of their merging: then it holds of all after an insertion
+pub insert-all : (P : Member → Type 0) → ((m n : Member) → T (same-shape? (m .path) (n .path)) → P m → P n → P (merged m n))
     → (m : Member) (ns : List Member) → P m → ((n : Member) → In n ns → P n) → (n : Member) → In n (insert m ns) → P n
 insert-all P of-both m [] pm pns n (here e) = subst P (sym e) pm
 insert-all P of-both m [] pm pns n (there i) = absurd (in-nil i)
 insert-all P of-both m (x ∷ ns) pm pns n i =
-    cond-case (λ l. In n l → P n) (same-shape? (m .path) (x .path)) (λ _ j. with-merged j)
+    cond-case (λ l. In n l → P n) (same-shape? (m .path) (x .path)) (λ a j. with-merged a j)
     (λ _ j. cond-case (λ l. In n l → P n) (before? (codes (m .path)) (codes (x .path))) (λ _ k. front k)
     (λ _ k. after k (λ l. insert-all P of-both m ns pm (λ y h. pns y (there h)) n l)) j) i
   where
-    with-merged : In n (merged m x ∷ ns) → P n
-    with-merged (here e) = subst P (sym e) (of-both m x pm (pns x (here refl)))
-    with-merged (there j) = pns n (there j)
+    with-merged : T (same-shape? (m .path) (x .path)) → In n (merged m x ∷ ns) → P n
+    with-merged a (here e) = subst P (sym e) (of-both m x a pm (pns x (here refl)))
+    with-merged a (there j) = pns n (there j)
 
     front : In n (m ∷ x ∷ ns) → P n
     front (here e) = subst P (sym e) pm
@@ -189,8 +189,8 @@ insert-all P of-both m (x ∷ ns) pm pns n i =
     after (here e) rest = subst P (sym e) (pns x (here refl))
     after (there j) rest = rest j
 
-merged-traces : (ts : List Triple) (m n : Member) → Traces ts m → Traces ts n → Traces ts (merged m n)
-merged-traces ts m n x y = record {
+merged-traces : (ts : List Triple) (m n : Member) → T (same-shape? (m .path) (n .path)) → Traces ts m → Traces ts n → Traces ts (merged m n)
+merged-traces ts m n a x y = record {
   path = let p = x .path in (p .0, p .1, merge-erase (m .path) (n .path) ∙ p .2);
   from = λ k h. elim (has-union (m .from) (n .from) k h) [ inl g ↦ x .from k g | inr g ↦ y .from k g ];
   to = λ k h. elim (has-union (m .to) (n .to) k h) [ inl g ↦ x .to k g | inr g ↦ y .to k g ];

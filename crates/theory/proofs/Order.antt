@@ -201,7 +201,7 @@ insert-ascends m (n ∷ ns) lm ln asc =
     (λ a. (λ k i. subst (λ c. T (before? c (codes (k .path)))) (same-codes a) (asc .0 k i), asc .1))
     (λ a. cond-case Ascending (before? (codes (m .path)) (codes (n .path)))
     (λ b. (after b, asc))
-    (λ b. (λ k i. insert-all After (λ x y ax ay. after-merged x y ax) m ns (n-first a b) (asc .0) k i, insert-ascends m ns lm (λ k i. ln k (there i)) (asc .1))))
+    (λ b. (λ k i. insert-all After (λ x y a ax ay. after-merged x y ax) m ns (n-first a b) (asc .0) k i, insert-ascends m ns lm (λ k i. ln k (there i)) (asc .1))))
   where
     After : Member → Type 0
     After k = T (before? (codes (n .path)) (codes (k .path)))
@@ -226,7 +226,7 @@ insert-ascends m (n ∷ ns) lm ln asc =
 
 pub members-linked : (ts : List Triple) → ((t : Triple) → In t ts → T (links? 64 (t .path))) → (n : Member) → In n (members ts) → Linked n
 members-linked [] h n i = absurd (in-nil i)
-members-linked (t ∷ ts) h n i = insert-all Linked merged-linked (of-triple t) (members ts) (h t (here refl)) (members-linked ts (λ u j. h u (there j))) n i
+members-linked (t ∷ ts) h n i = insert-all Linked (λ m n a. merged-linked m n) (of-triple t) (members ts) (h t (here refl)) (members-linked ts (λ u j. h u (there j))) n i
 
 pub members-ascend : (ts : List Triple) → ((t : Triple) → In t ts → T (links? 64 (t .path))) → Ascending (members ts)
 members-ascend [] h = tt

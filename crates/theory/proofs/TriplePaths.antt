@@ -101,7 +101,7 @@ singleton-pos : (k : ℕ) → 0 < singleton k
 unfolding singleton
 singleton-pos k = pow-pos k
 
-inferred-paths : Paths (λ p. T (plain? p)) Inferred
+pub inferred-paths : Paths (λ p. T (plain? p)) Inferred
 inferred-paths = record {
   steps = λ d l x. tt;
   joins = λ k p q x y. (singleton-pos k, (x, y));

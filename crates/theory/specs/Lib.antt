@@ -19,3 +19,4 @@ pub mod Evaluation
 pub mod Words
 -- what is promised
 pub mod Demand3
+pub mod NoIdle

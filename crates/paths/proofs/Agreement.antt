@@ -9,8 +9,10 @@ use Rattle.theory.specs.PathExpr.{PathExpr}
 use Rattle.theory.specs.Sheet.{Sheet, sheet?, conforms?}
 use Rattle.theory.specs.Narrowing.{narrowed, narrow}
 use Rattle.theory.specs.Demand3.{Demand3}
+use Rattle.theory.specs.NoIdle.{NoIdle}
 use Rattle.theory.proofs.Members.{narrow-fits}
 use Rattle.theory.proofs.Demand3.{demand3, narrow-path}
+use Rattle.theory.proofs.NoIdle.{no-idle}
 use Rattle.fields.specs.Answer.{Answer, got}
 use Rattle.fields.specs.Call.{Size}
 use Rattle.fields.specs.Reading.{read}
@@ -54,6 +56,7 @@ module _ {s q file file′ : List ℕ} {z : Size} (a : Accepted s q file file′
         members = a .filed .counted ∙ sym (length-map (a .members) flat-of);
         bytes = a .filed .measured;
         meaning = subst (Demand3 (a .sheet) p) (sym back) (demand3 (a .sheet) valid p (k .plain) (a .members) same);
+        no-idle = subst (NoIdle (a .sheet)) (sym back) (no-idle (a .sheet) valid p (k .plain) (a .members) same);
         equal = λ {register} {work} {answer} {work′} {answer′} {r} h. words-equal (a .sheet) valid p (k .plain) (a .members) same q register (a .codes) (a .question-reads) (k .path) r (h .reads) work answer work′ answer′ (h .plain) (h .narrowed);
         subset = λ {register} {work} {answer} {work′} {answer′} {r} h. bits-subset (a .sheet) valid p (k .plain) (a .members) same q register (a .codes) (a .question-reads) (k .path) r (h .reads) work answer work′ answer′ (h .plain) (h .narrowed);
       }

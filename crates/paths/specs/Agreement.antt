@@ -13,6 +13,7 @@ use Rattle.theory.specs.Postfix.{path-of}
 use Rattle.theory.specs.Register.{Register}
 use Rattle.theory.specs.Sheet.{Sheet, conforms?}
 use Rattle.theory.specs.Demand3.{Demand3}
+use Rattle.theory.specs.NoIdle.{NoIdle}
 use Rattle.fields.specs.Answer.{got}
 use Rattle.fields.specs.Call.{accepts, Size}
 use Rattle.fields.specs.Reading.{read}
@@ -61,6 +62,8 @@ pub record Agrees (sheet question file : List ℕ) (z : Size) : Type 0 where
   pub bytes : z .bytes ≡ length file
   -- registers of any number of records and links
   pub meaning : Demand3 S q (members-of flats)
+  -- request j: each kind in a join set matters on some register that obeys
+  pub no-idle : NoIdle S (members-of flats)
   -- on a register's file: "their N times W words are equal if the register obeys"
   pub equal : {register work answer work′ answer′ : List ℕ} {r : Register} → Answers question file register work answer work′ answer′ r → T (conforms? S r)
       → (k : ℕ) → k < answer-need r → narrowed-word file register work′ answer′ k ≡ plain-word question register work answer k

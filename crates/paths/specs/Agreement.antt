@@ -1,5 +1,5 @@
--- Demand 3, whole: a sheet's file, a question's file, and the file that narrowing or the whole job wrote of them.
--- 01-scope.md, "How far a contract reaches", point 5. narrow-call, plain-call, narrowed-call and job-call are what the contracts of the calls cite.
+-- Demand 3, whole, and no idle kind at a join: a sheet's file, a question's file, and the file that narrowing or the whole job wrote of them.
+-- 01-scope.md, "How far a contract reaches", point 5; 02-change-requests.md, j. narrow-call, plain-call, narrowed-call and job-call are what the contracts of the calls cite.
 -- Assumes nothing.
 use mathlib.Core.Path.{_≡_}
 use mathlib.Core.List.{List}
@@ -46,7 +46,7 @@ plain-word question register work answer k = getD (plain-call question register 
 abbrev pub narrowed-word : List ℕ → List ℕ → List ℕ → List ℕ → ℕ → ℕ
 narrowed-word file register work answer k = getD (narrowed-call file register work answer .answer) k 0
 
--- what the three files hold, and what demand 3 says of them
+-- what the three files hold, and what demand 3 and request j say of them
 pub record Agrees (sheet question file : List ℕ) (z : Size) : Type 0 where
   pub S : Sheet
   pub sheet-reads : read sheet-form sheet ≡ got S
@@ -62,7 +62,7 @@ pub record Agrees (sheet question file : List ℕ) (z : Size) : Type 0 where
   pub bytes : z .bytes ≡ length file
   -- registers of any number of records and links
   pub meaning : Demand3 S q (members-of flats)
-  -- request j: each kind in a join set matters on some register that obeys
+  -- "each kind in one of its join sets" matters on some register that obeys
   pub no-idle : NoIdle S (members-of flats)
   -- on a register's file: "their N times W words are equal if the register obeys"
   pub equal : {register work answer work′ answer′ : List ℕ} {r : Register} → Answers question file register work answer work′ answer′ r → T (conforms? S r)

@@ -50,7 +50,7 @@ module _ (S : Sheet) (ok : T (sheet? S)) (q : PathExpr) (plain : T (plain? q)) (
         c .0,
         c .1,
         record {
-          holds = c .2 .path r s t (f .2);
+          holds = c .2 .path .holds r s t (f .2);
           from-kind = c .2 .from a (has-singleton a);
           to-kind = c .2 .to b (has-singleton b);
         },

@@ -33,99 +33,112 @@ merge-erase (closure p) (join w p′ q′) = refl
 merge-erase (closure p) (op o′ p′ q′) = refl
 merge-erase (closure p) (closure p′) = ap closure (merge-erase p p′)
 
-module _ (r : Register) where
-  pub via-left : (v w : Via) (z : ℕ) → passes r v z → passes r (merge-via v w) z
-  via-left any w z h = tt
-  via-left (through a) any z h = tt
-  via-left (through a) (through b) z h = search (has-union-left, has-union-right)
+-- ---- each of two paths of one shape is contained in their merging
+-- q holds what p holds, on every register
+pub record Under (p q : PathExpr) : Type 0 where
+  pub holds : (r : Register) (s t : ℕ) → Holds r p s t → Holds r q s t
 
-  pub via-right : (v w : Via) (z : ℕ) → passes r w z → passes r (merge-via v w) z
-  via-right any w z h = tt
-  via-right (through a) any z h = tt
-  via-right (through a) (through b) z h = search (has-union-left, has-union-right)
+pub record Passing (v w : Via) : Type 0 where
+  pub passing : (r : Register) (z : ℕ) → passes r v z → passes r w z
 
-  abbrev Within : PathExpr → PathExpr → Type 0
-  Within p q = (s t : ℕ) → Holds r p s t → Holds r q s t
+under-refl : {p : PathExpr} → Under p p
+under-refl = record { holds = λ r s t h. h }
 
-  -- an operator keeps inclusion
-  pub op-within : (o : Op) (p q p′ q′ : PathExpr) → Within p p′ → Within q q′ → Within (op o p q) (op o p′ q′)
-  op-within union p q p′ q′ f g s t (inl h) = inl (f s t h)
-  op-within union p q p′ q′ f g s t (inr h) = inr (g s t h)
-  op-within conjunction p q p′ q′ f g s t h = (f s t (h .0), g s t (h .1))
-  op-within branch-right p q p′ q′ f g s t h = (f s t (h .0), (h .1 .0, g t (h .1 .0) (h .1 .1)))
-  op-within branch-left p q p′ q′ f g s t h = (g s t (h .0), (h .1 .0, f s (h .1 .0) (h .1 .1)))
+pub join-under : {v w : Via} {p q p′ q′ : PathExpr} → Passing v w → Under p p′ → Under q q′ → Under (join v p q) (join w p′ q′)
+join-under e f g = record { holds = λ r s t h. (h .0, f .holds r s (h .0) (h .1), g .holds r (h .0) t (h .2), e .passing r (h .0) (h .3)) }
 
-  pub merge-left : (p q : PathExpr) → Within p (merge p q)
-  merge-left (step d l) q s t h = h
-  merge-left (join v p q) (step d l) s t h = h
-  merge-left (join v p q) (join w p′ q′) s t h =
-      (h .0, merge-left p p′ s (h .0) (h .1), merge-left q q′ (h .0) t (h .2), via-left v w (h .0) (h .3))
-  merge-left (join v p q) (op o p′ q′) s t h = h
-  merge-left (join v p q) (closure p′) s t h = h
-  merge-left (op o p q) (step d l) s t h = h
-  merge-left (op o p q) (join w p′ q′) s t h = h
-  merge-left (op o p q) (op o′ p′ q′) s t h = op-within o p q (merge p p′) (merge q q′) (merge-left p p′) (merge-left q q′) s t h
-  merge-left (op o p q) (closure p′) s t h = h
-  merge-left (closure p) (step d l) s t h = h
-  merge-left (closure p) (join w p′ q′) s t h = h
-  merge-left (closure p) (op o′ p′ q′) s t h = h
-  merge-left (closure p) (closure p′) s t h = closure-map (merge-left p p′) h
+op-holds : (o : Op) {p q p′ q′ : PathExpr} → Under p p′ → Under q q′ → (r : Register) (s t : ℕ) → Holds r (op o p q) s t → Holds r (op o p′ q′) s t
+op-holds union f g r s t (inl h) = inl (f .holds r s t h)
+op-holds union f g r s t (inr h) = inr (g .holds r s t h)
+op-holds conjunction f g r s t h = (f .holds r s t (h .0), g .holds r s t (h .1))
+op-holds branch-right f g r s t h = (f .holds r s t (h .0), (h .1 .0, g .holds r t (h .1 .0) (h .1 .1)))
+op-holds branch-left f g r s t h = (g .holds r s t (h .0), (h .1 .0, f .holds r s (h .1 .0) (h .1 .1)))
 
-  pub merge-right : (p q : PathExpr) → erase p ≡ erase q → Within q (merge p q)
-  merge-right (step d l) (step d′ l′) e s t h = subst (λ x. Holds r x s t) (sym e) h
-  merge-right (step d l) (join w p′ q′) e s t h = apart (cc)
-  merge-right (step d l) (op o′ p′ q′) e s t h = apart (cc)
-  merge-right (step d l) (closure p′) e s t h = apart (cc)
-  merge-right (join v p q) (step d′ l′) e s t h = apart (cc)
-  merge-right (join v p q) (join w p′ q′) e s t h =
-      let f : erase p ≡ erase p′ = cc in
-      let g : erase q ≡ erase q′ = cc in
-      (h .0, merge-right p p′ f s (h .0) (h .1), merge-right q q′ g (h .0) t (h .2), via-right v w (h .0) (h .3))
-  merge-right (join v p q) (op o′ p′ q′) e s t h = apart (cc)
-  merge-right (join v p q) (closure p′) e s t h = apart (cc)
-  merge-right (op o p q) (step d′ l′) e s t h = apart (cc)
-  merge-right (op o p q) (join w p′ q′) e s t h = apart (cc)
-  merge-right (op o p q) (op o′ p′ q′) e s t h =
-      let f : erase p ≡ erase p′ = cc in
-      let g : erase q ≡ erase q′ = cc in
-      let k : o ≡ o′ = cc in
-      op-within o p′ q′ (merge p p′) (merge q q′) (merge-right p p′ f) (merge-right q q′ g) s t (subst (λ x. Holds r (op x p′ q′) s t) (sym k) h)
-  merge-right (op o p q) (closure p′) e s t h = apart (cc)
-  merge-right (closure p) (step d′ l′) e s t h = apart (cc)
-  merge-right (closure p) (join w p′ q′) e s t h = apart (cc)
-  merge-right (closure p) (op o′ p′ q′) e s t h = apart (cc)
-  merge-right (closure p) (closure p′) e s t h =
-      let f : erase p ≡ erase p′ = cc in
-      closure-map (merge-right p p′ f) h
+pub op-under : {o : Op} {p q p′ q′ : PathExpr} → Under p p′ → Under q q′ → Under (op o p q) (op o p′ q′)
+op-under {o} f g = record { holds = op-holds o f g }
+
+pub closure-under : {p p′ : PathExpr} → Under p p′ → Under (closure p) (closure p′)
+closure-under f = record { holds = λ r s t h. closure-map (f .holds r) h }
+
+passes-left : (v w : Via) (r : Register) (z : ℕ) → passes r v z → passes r (merge-via v w) z
+passes-left any w r z h = tt
+passes-left (through a) any r z h = tt
+passes-left (through a) (through b) r z h = search (has-union-left, has-union-right)
+
+passes-right : (v w : Via) (r : Register) (z : ℕ) → passes r w z → passes r (merge-via v w) z
+passes-right any w r z h = tt
+passes-right (through a) any r z h = tt
+passes-right (through a) (through b) r z h = search (has-union-left, has-union-right)
+
+pub via-left : (v w : Via) → Passing v (merge-via v w)
+via-left v w = record { passing = passes-left v w }
+
+pub via-right : (v w : Via) → Passing w (merge-via v w)
+via-right v w = record { passing = passes-right v w }
+
+pub merge-left : (p q : PathExpr) → Under p (merge p q)
+merge-left (step d l) q = under-refl
+merge-left (join v p q) (step d l) = under-refl
+merge-left (join v p q) (join w p′ q′) = join-under (via-left v w) (merge-left p p′) (merge-left q q′)
+merge-left (join v p q) (op o p′ q′) = under-refl
+merge-left (join v p q) (closure p′) = under-refl
+merge-left (op o p q) (step d l) = under-refl
+merge-left (op o p q) (join w p′ q′) = under-refl
+merge-left (op o p q) (op o′ p′ q′) = op-under (merge-left p p′) (merge-left q q′)
+merge-left (op o p q) (closure p′) = under-refl
+merge-left (closure p) (step d l) = under-refl
+merge-left (closure p) (join w p′ q′) = under-refl
+merge-left (closure p) (op o′ p′ q′) = under-refl
+merge-left (closure p) (closure p′) = closure-under (merge-left p p′)
+
+pub merge-right : (p q : PathExpr) → erase p ≡ erase q → Under q (merge p q)
+merge-right (step d l) (step d′ l′) e = subst (λ x. Under x (step d l)) e under-refl
+merge-right (step d l) (join w p′ q′) e = apart (cc)
+merge-right (step d l) (op o′ p′ q′) e = apart (cc)
+merge-right (step d l) (closure p′) e = apart (cc)
+merge-right (join v p q) (step d′ l′) e = apart (cc)
+merge-right (join v p q) (join w p′ q′) e = join-under (via-right v w) (merge-right p p′ (cc)) (merge-right q q′ (cc))
+merge-right (join v p q) (op o′ p′ q′) e = apart (cc)
+merge-right (join v p q) (closure p′) e = apart (cc)
+merge-right (op o p q) (step d′ l′) e = apart (cc)
+merge-right (op o p q) (join w p′ q′) e = apart (cc)
+merge-right (op o p q) (op o′ p′ q′) e =
+    let k : o ≡ o′ = cc in
+    subst (λ x. Under (op x p′ q′) (op o (merge p p′) (merge q q′))) k (op-under (merge-right p p′ (cc)) (merge-right q q′ (cc)))
+merge-right (op o p q) (closure p′) e = apart (cc)
+merge-right (closure p) (step d′ l′) e = apart (cc)
+merge-right (closure p) (join w p′ q′) e = apart (cc)
+merge-right (closure p) (op o′ p′ q′) e = apart (cc)
+merge-right (closure p) (closure p′) e = closure-under (merge-right p p′ (cc))
 
 -- ---- nothing is lost
 pub record Covers (m n : Member) : Type 0 where
   pub from : (k : ℕ) → T (has (m .from) k) → T (has (n .from) k)
   pub to : (k : ℕ) → T (has (m .to) k) → T (has (n .to) k)
-  pub path : (r : Register) (s t : ℕ) → Holds r (m .path) s t → Holds r (n .path) s t
+  pub path : Under (m .path) (n .path)
 
 pub covers-refl : (m : Member) → Covers m m
-covers-refl m = record { from = λ k h. h; to = λ k h. h; path = λ r s t h. h }
+covers-refl m = record { from = λ k h. h; to = λ k h. h; path = under-refl }
 
 pub covers-trans : {l m n : Member} → Covers l m → Covers m n → Covers l n
 covers-trans c d = record {
   from = λ k h. d .from k (c .from k h);
   to = λ k h. d .to k (c .to k h);
-  path = λ r s t h. d .path r s t (c .path r s t h);
+  path = record { holds = λ r s t h. d .path .holds r s t (c .path .holds r s t h) };
 }
 
 pub merged-left : (m n : Member) → Covers m (merged m n)
 merged-left m n = record {
   from = λ k h. has-union-left (m .from) (n .from) k h;
   to = λ k h. has-union-left (m .to) (n .to) k h;
-  path = λ r s t h. merge-left r (m .path) (n .path) s t h;
+  path = merge-left (m .path) (n .path);
 }
 
 pub merged-right : (m n : Member) → T (same-shape? (m .path) (n .path)) → Covers n (merged m n)
 merged-right m n a = record {
   from = λ k h. has-union-right (m .from) (n .from) k h;
   to = λ k h. has-union-right (m .to) (n .to) k h;
-  path = λ r s t h. merge-right r (m .path) (n .path) (same-shape (m .path) (n .path) a) s t h;
+  path = merge-right (m .path) (n .path) (same-shape (m .path) (n .path) a);
 }
 
 abbrev pub Covered : Member → List Member → Type 0

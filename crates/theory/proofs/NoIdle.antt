@@ -8,41 +8,24 @@ use Prim.Native.Nat.{ℕ}
 use lib.Dec.{T}
 use Rattle.theory.specs.KindSet.{has, singleton}
 use Rattle.theory.specs.PathExpr.{Via, any, through, Op, PathExpr, step, join, op, closure, erase, plain?}
-use Rattle.theory.specs.Register.{Register, passes, Holds}
 use Rattle.theory.specs.Sheet.{Sheet, sheet?}
 use Rattle.theory.specs.Inference.{Triple, triples}
 use Rattle.theory.specs.Merging.{Member, member, of-triple, same-shape?, merge-via, merge, merged, members}
-use Rattle.theory.specs.Sorting.{EvenVia, plain, with-sets, Even, steps, joins, ops, closures, Inferred}
+use Rattle.theory.specs.Sorting.{plain, with-sets, Even, steps, joins, ops, closures, Inferred}
 use Rattle.theory.specs.Narrowing.{narrowed, narrow}
 use Rattle.theory.specs.NoIdle.{Cut, at-join, join-left, join-right, op-left, op-right, below, NoIdle}
 use Rattle.theory.proofs.Tests.{tests}
 use Rattle.theory.proofs.KindSet.{has-singleton, singleton-has, has-union}
-use Rattle.theory.proofs.TransitiveClosure.{closure-map}
 use Rattle.theory.proofs.Inside.{derives-inside}
 use Rattle.theory.proofs.Inference.{Short, exact}
 use Rattle.theory.proofs.Universal.{universal, derives-own, universal-witness}
-use Rattle.theory.proofs.Merging.{same-shape, via-left, via-right, op-within, merge-left, merge-right, Covers, covers-refl, covers-trans, merged-left, merged-right, insert-all}
+use Rattle.theory.proofs.Merging.{Under, Passing, join-under, op-under, closure-under, via-left, via-right, merge-left, merge-right}
+use Rattle.theory.proofs.Merging.{same-shape, Covers, covers-refl, covers-trans, merged-left, merged-right, insert-all}
 use Rattle.theory.proofs.TriplePaths.{Paths, triples-paths, inferred-paths, triples-inferred}
 use Rattle.theory.proofs.JoinSets.{inferred-even, merge-inferred}
 use Rattle.theory.proofs.Narrowing.{narrow-short, narrow-members}
 
--- ---- q holds what p holds, on every register
-record Under (p q : PathExpr) : Type 0 where
-  holds : (r : Register) (s t : ℕ) → Holds r p s t → Holds r q s t
-
-record Passing (v w : Via) : Type 0 where
-  passing : (r : Register) (z : ℕ) → passes r v z → passes r w z
-
-join-under : {v w : Via} {p q p′ q′ : PathExpr} → Passing v w → Under p p′ → Under q q′ → Under (join v p q) (join w p′ q′)
-join-under e f g = record { holds = λ r s t h. (h .0, f .holds r s (h .0) (h .1), g .holds r (h .0) t (h .2), e .passing r (h .0) (h .3)) }
-
-op-under : {o : Op} {p q p′ q′ : PathExpr} → Under p p′ → Under q q′ → Under (op o p q) (op o p′ q′)
-op-under {o} {p} {q} {p′} {q′} f g = record { holds = λ r. op-within r o p q p′ q′ (f .holds r) (g .holds r) }
-
-closure-under : {p p′ : PathExpr} → Under p p′ → Under (closure p) (closure p′)
-closure-under f = record { holds = λ r s t h. closure-map (f .holds r) h }
-
--- in the merging of two each is contained
+-- ---- in the merging of two even paths each is contained
 even-erase : {p q : PathExpr} → Even p q → erase p ≡ erase q
 even-erase steps = refl
 even-erase (joins e f g) = ap₂ (join any) (even-erase f) (even-erase g)
@@ -50,16 +33,10 @@ even-erase (ops {o} f g) = ap₂ (op o) (even-erase f) (even-erase g)
 even-erase (closures f) = ap closure (even-erase f)
 
 left : {p q : PathExpr} → Even p q → Under p (merge p q)
-left {p} {q} e = record { holds = λ r. merge-left r p q }
+left {p} {q} e = merge-left p q
 
 right : {p q : PathExpr} → Even p q → Under q (merge p q)
-right {p} {q} e = record { holds = λ r. merge-right r p q (even-erase e) }
-
-left-via : {v w : Via} → EvenVia v w → Passing v (merge-via v w)
-left-via {v} {w} e = record { passing = λ r. via-left r v w }
-
-right-via : {v w : Via} → EvenVia v w → Passing w (merge-via v w)
-right-via {v} {w} e = record { passing = λ r. via-right r v w }
+right {p} {q} e = merge-right p q (even-erase e)
 
 -- ---- c holds what p holds with one join cut to k
 record CutOf (k : ℕ) (p c : PathExpr) : Type 0 where
@@ -91,19 +68,19 @@ module _ {k : ℕ} where
   cut-below x = record { path = closure (x .path); cut = below (x .cut); under = closure-under (x .under) }
 
   -- ---- a cut of a merged path holds what a cut of one of the two holds
-  on-left : {v w : Via} {p q p′ q′ c : PathExpr} → EvenVia v w → Even q q′ → EitherCut k p p′ c → EitherCut k (join v p q) (join w p′ q′) (join (merge-via v w) c (merge q q′))
-  on-left e g = ⊎-map (λ y. cut-left (left-via e) y (left g)) (λ y. cut-left (right-via e) y (right g))
+  on-left : (v w : Via) {p q p′ q′ c : PathExpr} → Even q q′ → EitherCut k p p′ c → EitherCut k (join v p q) (join w p′ q′) (join (merge-via v w) c (merge q q′))
+  on-left v w g = ⊎-map (λ y. cut-left (via-left v w) y (left g)) (λ y. cut-left (via-right v w) y (right g))
 
-  on-right : {v w : Via} {p q p′ q′ c : PathExpr} → EvenVia v w → Even p p′ → EitherCut k q q′ c → EitherCut k (join v p q) (join w p′ q′) (join (merge-via v w) (merge p p′) c)
-  on-right e f = ⊎-map (λ y. cut-right (left-via e) (left f) y) (λ y. cut-right (right-via e) (right f) y)
+  on-right : (v w : Via) {p q p′ q′ c : PathExpr} → Even p p′ → EitherCut k q q′ c → EitherCut k (join v p q) (join w p′ q′) (join (merge-via v w) (merge p p′) c)
+  on-right v w f = ⊎-map (λ y. cut-right (via-left v w) (left f) y) (λ y. cut-right (via-right v w) (right f) y)
 
   merge-cut : {p q c : PathExpr} → Even p q → Cut k (merge p q) c → EitherCut k p q c
   merge-cut steps x = elim x [ ]
-  merge-cut (joins plain f g) (join-left x) = on-left plain g (merge-cut f x)
-  merge-cut (joins plain f g) (join-right x) = on-right plain f (merge-cut g x)
+  merge-cut (joins plain f g) (join-left x) = on-left any any g (merge-cut f x)
+  merge-cut (joins plain f g) (join-right x) = on-right any any f (merge-cut g x)
   merge-cut (joins (with-sets {a} {b}) f g) (at-join t) = ⊎-map (λ h. cut-join h (left f) (left g)) (λ h. cut-join h (right f) (right g)) (has-union a b k t)
-  merge-cut (joins with-sets f g) (join-left x) = on-left with-sets g (merge-cut f x)
-  merge-cut (joins with-sets f g) (join-right x) = on-right with-sets f (merge-cut g x)
+  merge-cut (joins (with-sets {a} {b}) f g) (join-left x) = on-left (through a) (through b) g (merge-cut f x)
+  merge-cut (joins (with-sets {a} {b}) f g) (join-right x) = on-right (through a) (through b) f (merge-cut g x)
   merge-cut (ops f g) (op-left x) = ⊎-map (λ y. cut-op-left y (left g)) (λ y. cut-op-left y (right g)) (merge-cut f x)
   merge-cut (ops f g) (op-right x) = ⊎-map (λ y. cut-op-right (left f) y) (λ y. cut-op-right (right f) y) (merge-cut g x)
   merge-cut (closures f) (below x) = ⊎-map cut-below cut-below (merge-cut f x)
@@ -153,7 +130,7 @@ module _ (ts : List Triple) where
   widened : {m n : Member} {k : ℕ} {c : PathExpr} → Covers m n → Brings m → CutOf k (m .path) c → Brought (n .from) c (n .to)
   widened {k = k} v x u =
       let b = x .cuts k (u .path) (u .cut) in
-      (b .0, b .1, covers-trans (b .2) (record { from = v .from; to = v .to; path = u .under .holds }))
+      (b .0, b .1, covers-trans (b .2) (record { from = v .from; to = v .to; path = u .under }))
 
   merged-brings : (m n : Member) → T (same-shape? (m .path) (n .path)) → Brings m → Brings n → Brings (merged m n)
   merged-brings m n a x y =
@@ -185,7 +162,7 @@ module _ (S : Sheet) (ok : T (sheet? S)) (q : PathExpr) (h : T (plain? q)) (shor
       let d = exact S ok q short (t .from) (t .path) (t .to) .0 j in
       let w = derives-inside S ok q (t .from) (t .path) (t .to) d in
       universal-witness S ok c (λ a b. T (has (m .from) a) × T (has (m .to) b)) (t .from) (t .to) (w .0) (w .1)
-      (v .path (universal S) (t .from) (t .to) (derives-own S ok q h (t .from) (t .path) (t .to) d))
+      (v .path .holds (universal S) (t .from) (t .to) (derives-own S ok q h (t .from) (t .path) (t .to) d))
       (v .from (t .from) (has-singleton (t .from)), v .to (t .to) (has-singleton (t .to)))
 
 pub no-idle : (S : Sheet) → T (sheet? S) → (q : PathExpr) → T (plain? q) → (ms : List Member) → narrow S q ≡ narrowed ms → NoIdle S ms

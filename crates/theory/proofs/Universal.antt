@@ -35,7 +35,7 @@ edges S = concat-map (edges-from S) (range (S .kinds))
 pub universal : Sheet → Register
 universal S = record { kinds = range (S .kinds); links = edges S }
 
-pub kind-universal : (S : Sheet) (k : ℕ) → k < S .kinds → kind (universal S) k ≡ k
+kind-universal : (S : Sheet) (k : ℕ) → k < S .kinds → kind (universal S) k ≡ k
 unfolding universal
 kind-universal S k h = range-at (S .kinds) k h
 
@@ -61,7 +61,7 @@ module _ (S : Sheet) (ok : T (sheet? S)) where
   unfolding universal
   universal-linked t = edges-in t
 
-  pub universal-well-formed : T (well-formed? (universal S))
+  universal-well-formed : T (well-formed? (universal S))
   unfolding universal well-formed?
   universal-well-formed = in-every (λ e. ltb (e .from) n && ltb (e .to) n) (edges S) there-are
     where
@@ -75,7 +75,7 @@ module _ (S : Sheet) (ok : T (sheet? S)) where
           let g : T (ltb (e .to) (S .kinds)) = lt→ltb (e .to) (S .kinds) (i .2) in
           subst (λ x. T (ltb (e .from) x && ltb (e .to) x)) (sym (length-tabulate (λ k. k) 0 (S .kinds))) (search tests)
 
-  pub universal-conforms : T (conforms? S (universal S))
+  universal-conforms : T (conforms? S (universal S))
   unfolding universal conforms?
   universal-conforms =
       and-both (every? (kind-known? S) (range (S .kinds))) (every? (link-permitted? S U) (edges S))

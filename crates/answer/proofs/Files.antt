@@ -15,6 +15,7 @@ use Rattle.fields.specs.Said.{number-of, place-of}
 use Rattle.symbols.specs.Symbols.{symbol-numbered}
 use Rattle.fields.proofs.Bools.{onward-got, told-refused}
 use Rattle.fields.proofs.Padded.{pad-length}
+use Rattle.fields.specs.Writing.{Bytes}
 use Rattle.question.specs.declared.Outcome as question·Outcome
 use Rattle.question.specs.declared.Outcome.the-variants as question·outcome
 use Rattle.question.specs.Form.{question-symbols}
@@ -33,7 +34,6 @@ use Rattle.narrowed.specs.Given.{given}
 use Rattle.narrowed.specs.Said.{Packed, members-in, outcome-said as narrowed-said}
 use Rattle.narrowed.specs.Said as narrowed·Said
 use Rattle.narrowed.proofs.Handed.{heads, packed-given}
-use Rattle.narrowed.proofs.Bytes.{Bytes}
 use Rattle.narrowed.proofs.Back.{accepted-formed}
 use Rattle.evaluation.specs.Ground.{symbols-in, MakePath}
 use Rattle.evaluation.proofs.Numbers.{set-ignored}

@@ -8,7 +8,8 @@ use lib.Seq.{sets}
 use native.Mathlib.Omega.{arith}
 use Rattle.fields.specs.Table.{rows, tag-length, field-size}
 use Rattle.narrowed.specs.declared.Members.{Members}
-use Rattle.narrowed.specs.Writing.{two-bytes, field-bytes, member-bytes, members-bytes, encode}
+use Rattle.fields.specs.Writing.{two-bytes, field-bytes}
+use Rattle.narrowed.specs.Writing.{member-bytes, members-bytes, encode}
 use Rattle.narrowed.specs.Given.{members-given, given}
 use Rattle.bytes.specs.Wrote.{Wrote, Few}
 use Rattle.bytes.proofs.Along.{wrote-length, wrote-more, Along, along-start, along-more, along-end, along-room}

@@ -11,7 +11,9 @@ use borrow.Author.Tests.{lt-ltb, le-ltb, eq-eqb, ne-eqb}
 use Rattle.fields.specs.Table.{rows, tag-length, field-size}
 use Rattle.narrowed.specs.declared.Members.{Members}
 use Rattle.narrowed.specs.Form.{Flat, flat}
-use Rattle.narrowed.specs.Writing.{two-bytes, eight-bytes, field-bytes, symbol-bytes, symbols-bytes, member-bytes, members-bytes, encode}
+use Rattle.fields.specs.Writing.{two-bytes, eight-bytes, field-bytes}
+use Rattle.symbols.specs.Writing.{symbol-bytes, symbols-bytes}
+use Rattle.narrowed.specs.Writing.{member-bytes, members-bytes, encode}
 use Rattle.symbols.specs.Symbols.{symbol-given, symbols-given}
 use Rattle.narrowed.specs.Given.{members-given, given}
 use Rattle.bytes.specs.Size.{symbol-size}

@@ -5,7 +5,7 @@ use mathlib.Core.Path.{_≡_, ap}
 use mathlib.Core.List.{List}
 use lib.ListN.{length, getD}
 use native.Mathlib.Omega.{arith}
-use Rattle.narrowed.specs.Writing.{symbol-bytes, symbols-bytes}
+use Rattle.symbols.specs.Writing.{symbol-bytes, symbols-bytes}
 use Rattle.symbols.specs.Symbols.{symbol-given, symbols-given}
 use Rattle.bytes.specs.Wrote.{Wrote}
 use Rattle.bytes.proofs.Along.{Along, along-start, along-more, along-end, along-room}

@@ -1,4 +1,4 @@
-// Puts the fields of a narrowed question into the caller's area.
+// Puts fields into the caller's area: those of a path's symbols, and those of a narrowed question.
 use fields::Link;
 use narrowed::Members;
 ghost use mathlib.Core.Path.{_≡_};
@@ -8,7 +8,9 @@ ghost use lib.ListN.{length};
 ghost use lib.Seq.{sets};
 ghost use Rattle.fields.specs.Table.{field-size};
 ghost use Rattle.narrowed.specs.Form.{flat};
-ghost use Rattle.narrowed.specs.Writing.{two-bytes, eight-bytes, field-bytes, symbol-bytes, symbols-bytes, member-bytes, encode};
+ghost use Rattle.fields.specs.Writing.{two-bytes, eight-bytes, field-bytes};
+ghost use Rattle.symbols.specs.Writing.{symbol-bytes, symbols-bytes};
+ghost use Rattle.narrowed.specs.Writing.{member-bytes, encode};
 ghost use Rattle.symbols.specs.Symbols.{symbol-given, symbols-given};
 ghost use Rattle.narrowed.specs.Given.{given};
 ghost use Rattle.bytes.specs.Size.{symbol-size};
@@ -81,7 +83,7 @@ fn put_eight(out: &mut [u8], at: usize, n: u64) -> usize
 }
 
 // A field's tag and the length of its body.
-fn put_head(out: &mut [u8], at: usize, tag: u8, len: u16) -> usize
+pub fn put_head(out: &mut [u8], at: usize, tag: u8, len: u16) -> usize
     requires { ⌜ at + 3 ≤ length (now out) ⌝ }
     ensures { λ r. ⌜ Wrote (now (out .entry)) (now (out .exit)) at r (tag ∷ two-bytes len) ⌝ }
 {
@@ -152,7 +154,14 @@ fn put_symbol(out: &mut [u8], at: usize, number: u8, set: u64) -> usize
 }
 
 // n symbols from the k-th on.
-fn put_symbols(out: &mut [u8], at: usize, numbers: &[u8], sets: &[u64], k: usize, n: u8) -> usize
+pub fn put_symbols(
+    out: &mut [u8],
+    at: usize,
+    numbers: &[u8],
+    sets: &[u64],
+    k: usize,
+    n: u8,
+) -> usize
     requires { ⌜ (k + n ≤ length (now numbers)) × ((k + n ≤ length (now sets)) × (at + length (symbols-bytes (symbols-given (now numbers) (now sets) n k)) ≤ length (now out))) ⌝ }
     ensures { λ r. ⌜ Wrote (now (out .entry)) (now (out .exit)) at r (symbols-bytes (symbols-given (now (numbers .entry)) (now (sets .entry)) n k)) ⌝ }
 {

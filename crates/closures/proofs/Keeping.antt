@@ -18,7 +18,7 @@ use Rattle.nodes.specs.Parts.{part-of, Candidate, Added}
 use Rattle.nodes.proofs.Words.{node-new}
 use Rattle.nodes.proofs.Triples.{triple-from, triple-to, path-kept}
 use Rattle.nodes.proofs.Codes.{closure-numbered}
-use Rattle.nodes.proofs.Writing.{length-codes}
+use Rattle.symbols.proofs.Numbers.{length-codes}
 use Rattle.rules.specs.Outcome.{Done}
 use Rattle.rules.proofs.Grows.{grows-start, none-added, one-added}
 use Rattle.rules.proofs.Ranging.{Ranging, ranging-room}

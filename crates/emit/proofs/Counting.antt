@@ -11,7 +11,9 @@ use Rattle.theory.specs.Merging.{Member, members}
 use Rattle.theory.specs.Sorting.{grouped}
 use Rattle.symbols.specs.Symbols.{Numbered, number-symbol}
 use Rattle.narrowed.specs.Form.{flat}
-use Rattle.narrowed.specs.Writing.{two-bytes, field-bytes, symbols-bytes, head-bytes, member-bytes, members-bytes, encode}
+use Rattle.fields.specs.Writing.{two-bytes, field-bytes}
+use Rattle.symbols.specs.Writing.{symbols-bytes}
+use Rattle.narrowed.specs.Writing.{head-bytes, member-bytes, members-bytes, encode}
 use Rattle.narrowed.specs.Members.{flat-of, narrowed-file}
 use Rattle.nodes.specs.Parts.{part-of}
 use Rattle.order.specs.declared.Group.{Group}

@@ -10,7 +10,8 @@ use Rattle.theory.specs.Merging.{Member}
 use Rattle.theory.specs.Sorting.{grouped}
 use Rattle.symbols.specs.Symbols.{symbols-given}
 use Rattle.narrowed.specs.Form.{Flat, flat}
-use Rattle.narrowed.specs.Writing.{two-bytes, field-bytes, member-bytes, members-bytes, encode}
+use Rattle.fields.specs.Writing.{two-bytes, field-bytes}
+use Rattle.narrowed.specs.Writing.{member-bytes, members-bytes, encode}
 use Rattle.narrowed.specs.Members.{flat-of, narrowed-file}
 use Rattle.bytes.specs.Wrote.{Wrote}
 use Rattle.fields.specs.Table.{rows, tag-length, field-size}

@@ -18,7 +18,7 @@ use Rattle.theory.specs.Sorting.{set-of, sets-of, Inferred, Marked}
 use Rattle.theory.proofs.Tests.{of-true}
 use Rattle.theory.proofs.JoinSets.{symbols-by, inferred-marked}
 use Rattle.symbols.specs.Symbols.{Numbered, numbered, number-symbol, symbol-given, symbols-given}
-use Rattle.narrowed.specs.Writing.{symbol-bytes, symbols-bytes}
+use Rattle.symbols.specs.Writing.{symbol-bytes, symbols-bytes}
 use Rattle.order.specs.Arrays.{segment}
 use Rattle.bytes.specs.Size.{symbol-size}
 use Rattle.bytes.proofs.Parts.{size-is}

@@ -12,7 +12,8 @@ use Rattle.theory.specs.Merging.{Member}
 use Rattle.theory.specs.Sorting.{grouped}
 use Rattle.symbols.specs.Symbols.{Numbered, symbol-given, symbols-given}
 use Rattle.narrowed.specs.Form.{flat}
-use Rattle.narrowed.specs.Writing.{symbols-bytes, member-bytes}
+use Rattle.symbols.specs.Writing.{symbols-bytes}
+use Rattle.narrowed.specs.Writing.{member-bytes}
 use Rattle.narrowed.specs.Members.{flat-of, narrowed-file}
 use Rattle.order.specs.Arranging.{Usable}
 use Rattle.order.specs.Runs.{nodes-at}

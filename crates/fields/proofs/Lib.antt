@@ -3,6 +3,11 @@ pub mod Bools
 pub mod Rows
 pub mod Raws
 pub mod Fields
+-- fields as bytes, both ways
+pub mod Bytes
+pub mod Lies
+-- a file in a lent area
+pub mod Filing
 -- reading: the loop, and induction over an accepted file
 pub mod Going
 pub mod Accepted

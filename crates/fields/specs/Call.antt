@@ -1,11 +1,14 @@
 -- What a call yields: a value; or a refusal, with what it is about, its number and its place.
 -- 01-scope.md, case 11: "number, file (`work` for 11 to 16), place".
 -- Assumes nothing.
+use mathlib.Core.Bool.{cond}
 use mathlib.Core.List.{List}
 use Prim.Native.Nat.{ℕ}
-use lib.ListN.{replicate}
+use lib.Dec.{ltb}
+use lib.ListN.{length, replicate}
 use lib.Seq.{sets}
 use Rattle.fields.specs.declared.Source.{Source}
+use Rattle.fields.specs.declared.Source.the-variants as source
 use Rattle.fields.specs.Answer.{Answer, got, refused}
 
 pub data Outcome (A : Type 0) : Type 0 where
@@ -17,15 +20,29 @@ abbrev pub reading : {A R : Type 0} → Answer A → (ℕ → ℕ → R) → (A 
 reading (got x) refuse go = go x
 reading (refused n p) refuse go = refuse n p
 
--- ---- what the calls share
--- how large a narrowed question's file is
+-- ---- a file in the area that is lent for it
+-- how large it is: how many members a narrowed question has, or symbols a question; and how many bytes
 pub record Size : Type 0 where
-  pub members : ℕ
+  pub count : ℕ
   pub bytes : ℕ
 
 abbrev pub size : ℕ → ℕ → Size
-size members bytes = record { members = members; bytes = bytes }
+size count bytes = record { count = count; bytes = bytes }
 
--- the first n words of a lent area are 0
+-- the outcome, and the area after the call
+pub record Output : Type 0 where
+  pub outcome : Outcome Size
+  pub file : List ℕ
+
+abbrev pub output : Outcome Size → List ℕ → Output
+output o file = record { outcome = o; file = file }
+
+-- 14, "place: bytes needed"; or the file, and the bytes past it as they were
+unfoldable pub file-in : ℕ → List ℕ → List ℕ → Output
+file-in count bytes area =
+    cond (ltb (length area) (length bytes)) (output (refuses source.Work 14 (length bytes)) area) (output (accepts (size count (length bytes))) (sets area 0 bytes))
+
+-- ---- words to work in
+-- the first n of a lent area are 0
 abbrev pub zeroed : ℕ → List ℕ → List ℕ
 zeroed n xs = sets xs 0 (replicate n 0)

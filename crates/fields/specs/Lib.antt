@@ -1,6 +1,7 @@
 pub mod Answer
 pub mod Table
 pub mod Reading
+pub mod Writing
 pub mod Raw
 pub mod Call
 pub mod Said

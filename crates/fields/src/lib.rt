@@ -77,7 +77,7 @@ pub enum Outcome {
     Refused(Source, Refusal),
 }
 
-// What comes of a call that writes a narrowed question's file, or tells its size: the numbers of its members and of its bytes.
+// What comes of a call that writes a file, or tells its size: the number of its members, or of a question's symbols, and that of its bytes.
 pub enum Written {
     File(usize, usize),
     Refused(Source, Refusal),
@@ -151,6 +151,8 @@ pub const STEP_TAG: u8 = ROWS[8].0;
 pub const OPERATOR_TAG: u8 = ROWS[9].0;
 
 pub const THROUGH_TAG: u8 = ROWS[10].0;
+
+pub const QUESTION_LENGTH: u16 = ROWS[2].1;
 
 pub const REGISTER_LENGTH: u16 = ROWS[3].1;
 

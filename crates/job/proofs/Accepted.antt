@@ -33,7 +33,8 @@ use Rattle.question.proofs.Paths.{Asks, accepted-question}
 use Rattle.register.specs.Form.{register-form}
 use Rattle.register.proofs.AcceptedRegister.{accepted-register}
 use Rattle.narrow.specs.Call.{file-of, narrow-need}
-use Rattle.narrow.proofs.Accepted.{filed, not-accepted}
+use Rattle.fields.proofs.Filing.{not-accepted}
+use Rattle.narrow.proofs.Accepted.{filed}
 use Rattle.narrow.proofs.Accepted as narrow·Accepted
 use Rattle.answer.specs.Calls.{answer-need, work-need, plain-call}
 use Rattle.answer.proofs.Meaning.{same, answered-enough}

@@ -30,6 +30,7 @@ use Rattle.fields.specs.declared.Written.the-variants as written
 use Rattle.fields.specs.Answer.{got}
 use Rattle.fields.specs.Call.{size}
 use Rattle.fields.specs.Reading.{read}
+use Rattle.fields.specs.Said.{Files}
 use Rattle.question.specs.Form.{question-symbols}
 use Rattle.register.specs.Form.{register-in}
 use Rattle.conform.specs.declared.Failing.{Failing}
@@ -44,9 +45,10 @@ use Rattle.evaluation.proofs.Grounds.{limits}
 use Rattle.rows.proofs.Words.{kept-refl, kept-trans, kept-in}
 use Rattle.narrow.specs.Call.{narrow-need}
 use Rattle.narrow.specs.Call as narrow·Call
-use Rattle.narrow.specs.Said.{Files, FirstUnnamed, Infers-file}
+use Rattle.narrow.specs.Said.{FirstUnnamed, Infers-file}
 use Rattle.narrow.proofs.Whole.{rest, symbols-unnamed, symbols-named}
-use Rattle.narrow.proofs.Accepted.{Filed, filed, file-written, within, not-accepted}
+use Rattle.fields.proofs.Filing.{file-written, within, not-accepted}
+use Rattle.narrow.proofs.Accepted.{Filed, filed}
 use Rattle.answer.specs.Calls.{members-of}
 use Rattle.answer.specs.Said as answer·Said
 use Rattle.answer.proofs.TwoAnswers.{members-back}

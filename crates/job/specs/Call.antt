@@ -17,12 +17,12 @@ use Rattle.theory.specs.Evaluation.{narrowed-answer}
 use Rattle.theory.specs.Words.{answer-words}
 use Rattle.fields.specs.declared.Source.the-variants as source
 use Rattle.fields.specs.Call.{Outcome, accepts, refuses, reading, Size, zeroed}
+use Rattle.fields.specs.Call as fields·Call
 use Rattle.fields.specs.Reading.{read}
 use Rattle.sheet.specs.Form.{sheet-form}
 use Rattle.question.specs.Form.{question-form, question-symbols}
 use Rattle.register.specs.Form.{register-form}
 use Rattle.narrow.specs.Call.{file-of, narrow-need}
-use Rattle.narrow.specs.Call as narrow·Call
 use Rattle.answer.specs.Calls.{answer-need, work-need}
 
 -- the outcome, and the areas for the answer and the file after the call
@@ -41,7 +41,7 @@ if-accepted (accepts z) words area = words
 if-accepted (refuses f n p) words area = area
 
 -- 14 for the file; or the file, and the answer of its members
-abbrev pub with-answer : Register → List Member → List ℕ → narrow·Call.Output → Output
+abbrev pub with-answer : Register → List Member → List ℕ → fields·Call.Output → Output
 with-answer r ms answer f =
     output (f .outcome) (if-accepted (f .outcome) (sets answer 0 (answer-words (records r) (narrowed-answer r ms))) answer) (f .file)
 

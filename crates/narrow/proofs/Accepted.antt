@@ -1,34 +1,30 @@
 -- What an accepted narrowing says: both files were read, nothing was refused, and the file is that of the members.
 -- Assumes nothing.
-use mathlib.Core.Path.{_≡_, refl, sym, ap}
+use mathlib.Core.Path.{_≡_, refl}
 use mathlib.Core.Bool.{Bool, true, false}
-use mathlib.Core.List.{List, _++_}
-use Prim.Native.Nat.{ℕ, _+_, _≤_}
-use native.Mathlib.Omega.{arith}
+use mathlib.Core.List.{List}
+use Prim.Native.Nat.{ℕ}
 use lib.Dec.{ltb}
-use lib.ListN.{length, take, drop}
-use lib.Seq.{sets, length-sets, sets-eq, take-append-seam}
-use borrow.Author.Tests.{ltb-false}
+use lib.ListN.{length}
 use Rattle.theory.specs.Sheet.{Sheet}
 use Rattle.theory.specs.Merging.{Member}
 use Rattle.theory.specs.Narrowing.{Outcome, refused, narrowed, narrow-symbols}
 use Rattle.fields.specs.declared.Source.{Source}
 use Rattle.fields.specs.declared.Source.the-variants as source
 use Rattle.fields.specs.Answer.{Answer, got, refused as refused-file}
-use Rattle.fields.specs.Call.{accepts, refuses, Size, size}
+use Rattle.fields.specs.Call.{accepts, Size}
 use Rattle.fields.specs.Call as fields·Call
 use Rattle.fields.specs.Reading.{read}
+use Rattle.fields.proofs.Filing as fields·Filing
+use Rattle.fields.proofs.Filing.{not-accepted}
 use Rattle.sheet.specs.Form.{sheet-form}
 use Rattle.question.specs.Form.{question-form, question-symbols}
 use Rattle.narrowed.specs.Members.{narrowed-file}
 use Rattle.narrow.specs.Call.{file-of, in-area, narrow-need, settled, members-call, narrow-call}
 
 -- the area has the members' file, of the size that was told
-pub record Filed (ms : List Member) (file file′ : List ℕ) (z : Size) : Type 0 where
-  pub counted : z .members ≡ length ms
-  pub measured : z .bytes ≡ length (narrowed-file ms)
-  pub room : length (narrowed-file ms) ≤ length file
-  pub area : file′ ≡ sets file 0 (narrowed-file ms)
+abbrev pub Filed : List Member → List ℕ → List ℕ → Size → Type 0
+Filed ms file file′ z = fields·Filing.Filed (length ms) (narrowed-file ms) file file′ z
 
 pub record Accepted (s q file file′ : List ℕ) (z : Size) : Type 0 where
   pub sheet : Sheet
@@ -39,36 +35,10 @@ pub record Accepted (s q file file′ : List ℕ) (z : Size) : Type 0 where
   pub narrows : narrow-symbols sheet (question-symbols codes) ≡ narrowed members
   pub filed : Filed members file file′ z
 
-module _ {ms : List Member} {file file′ : List ℕ} {z : Size} (a : Filed ms file file′ z) where
-  -- the file that was written: as many bytes of the area as the call told
-  pub file-written : take (z .bytes) file′ ≡ narrowed-file ms
-  file-written =
-      let bytes = narrowed-file ms in
-      let e : sets file 0 bytes ≡ bytes ++ drop (0 + length bytes) file = sets-eq bytes file 0 (omega (arith, a .room)) in
-      rw (a .measured, a .area, e) (take-append-seam bytes (drop (0 + length bytes) file))
-
-  pub within : z .bytes ≤ length file′
-  within = omega (arith, a .measured, a .room, ap length (a .area), length-sets file 0 (narrowed-file ms))
-
-pub not-accepted : {A : Type 0} (x : Source) (n p : ℕ) (z : Size) → _≡_ {A = fields·Call.Outcome Size} (refuses x n p) (accepts z) → A
-not-accepted x n p z e = let w : _≡_ {A = ℕ} 0 1 = cc in absurd (omega arith)
-
 -- 14 was not told
 pub filed : (ms : List Member) (file : List ℕ) (z : Size) → file-of ms file .outcome ≡ accepts z → Filed ms file (file-of ms file .file) z
 unfolding file-of
-filed ms file z e = by-room (ltb (length file) (length (narrowed-file ms))) refl
-  where
-    by-room : (b : Bool) → ltb (length file) (length (narrowed-file ms)) ≡ b → Filed ms file (file-of ms file .file) z
-    by-room true t = not-accepted source.Work 14 (length (narrowed-file ms)) z (rw t at e)
-    by-room false t =
-        let y : accepts (size (length ms) (length (narrowed-file ms))) ≡ accepts z = rw t at e in
-        let x : size (length ms) (length (narrowed-file ms)) ≡ z = cc in
-        record {
-          counted = sym (ap (λ (w : Size). w .members) x);
-          measured = sym (ap (λ (w : Size). w .bytes) x);
-          room = ltb-false (length file) (length (narrowed-file ms)) t;
-          area = rw t;
-        }
+filed ms file z e = fields·Filing.filed (length ms) (narrowed-file ms) file z e
 
 module _ (s q work file : List ℕ) (z : Size) where
   abbrev Due : fields·Call.Outcome (List Member) → Type 0

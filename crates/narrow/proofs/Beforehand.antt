@@ -18,7 +18,8 @@ use Rattle.theory.proofs.Demand3.{narrow-path}
 use Rattle.fields.specs.declared.Source.{Source}
 use Rattle.fields.specs.declared.Source.the-variants as source
 use Rattle.fields.specs.Answer.{Answer, got, refused as refused-file}
-use Rattle.fields.specs.Call.{Outcome, accepts, refuses, Size}
+use Rattle.fields.specs.Call.{Outcome, accepts, refuses, Size, file-in}
+use Rattle.fields.proofs.Filing.{not-accepted}
 use Rattle.fields.specs.Reading.{read}
 use Rattle.fields.specs.Said.{source-number}
 use Rattle.sheet.specs.Form.{sheet-form}
@@ -28,18 +29,17 @@ use Rattle.question.proofs.Paths.{accepted-question}
 use Rattle.narrowed.specs.Members.{narrowed-file}
 use Rattle.narrow.specs.Call.{sized, file-size, file-of, in-area, narrow-need, settled, members-call, narrow-call, size-call}
 use Rattle.narrow.specs.Beforehand.{Foretells}
-use Rattle.narrow.proofs.Accepted.{not-accepted}
 
 -- ---- the members, or a refusal, with and without an area
 in-enough : (o : Outcome (List Member)) (z : Size) → sized o ≡ accepts z → (file : List ℕ) → z .bytes ≤ length file → in-area o file .outcome ≡ accepts z
-unfolding file-of
+unfolding file-of file-in
 in-enough (refuses s n p) z e file l = not-accepted s n p z e
 in-enough (accepts ms) z e file l =
     let same : file-size ms ≡ z = cc in
     rw (le-ltb (length file) (length (narrowed-file ms)) (omega (arith, ap (λ (x : Size). x .bytes) same))) e
 
 in-fewer : (o : Outcome (List Member)) (z : Size) → sized o ≡ accepts z → (file : List ℕ) → length file < z .bytes → in-area o file .outcome ≡ refuses source.Work 14 (z .bytes)
-unfolding file-of
+unfolding file-of file-in
 in-fewer (refuses s n p) z e file l = not-accepted s n p z e
 in-fewer (accepts ms) z e file l =
     let same : file-size ms ≡ z = cc in

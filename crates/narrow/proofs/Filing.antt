@@ -6,7 +6,6 @@ use Prim.Native.Nat.{ℕ, _-_, _<_, _≤_}
 use native.Mathlib.Omega.{arith}
 use lib.ListN.{length}
 use lib.Seq.{sets}
-use borrow.Author.Tests.{lt-ltb, le-ltb}
 use Rattle.theory.specs.Merging.{Member, members}
 use Rattle.theory.specs.Sorting.{grouped}
 use Rattle.fields.specs.declared.Refusal.{Refusal}
@@ -16,7 +15,9 @@ use Rattle.fields.specs.declared.Source.the-variants as source
 use Rattle.fields.specs.declared.Written.{Written}
 use Rattle.fields.specs.declared.Written.the-variants as written
 use Rattle.fields.specs.Call.{Outcome, accepts, refuses, Size, size}
-use Rattle.fields.specs.Said.{number-of, place-of, written-said}
+use Rattle.fields.specs.Said.{number-of, place-of, written-said, Files}
+use Rattle.fields.proofs.Filing as fields·Filing
+use Rattle.fields.proofs.Filing.{not-accepted}
 use Rattle.narrowed.specs.Members.{narrowed-file}
 use Rattle.rules.specs.Asks.{part}
 use Rattle.order.specs.Arranging.{Arranging, Arranged}
@@ -27,8 +28,7 @@ use Rattle.emit.specs.Files.{Measuring, Measured, Filing, Filed}
 use Rattle.emit.proofs.Counting.{arranged-nodes}
 use Rattle.narrow.specs.declared.Counted.{Counted}
 use Rattle.narrow.specs.Call.{sized, file-size, file-of, in-area}
-use Rattle.narrow.specs.Said.{Files, Listed, Sorted, Counts, Known, Puts}
-use Rattle.narrow.proofs.Accepted.{not-accepted}
+use Rattle.narrow.specs.Said.{Listed, Sorted, Counts, Known, Puts}
 
 -- ---- the members of a part
 module _ {qs ws : List ℕ} {s e : ℕ} (h : Listed qs ws s e) where
@@ -75,23 +75,19 @@ members-due (refuses y n p) z f = not-accepted y n p z (sym f)
 
 module _ (ms : List Member) (m b : ℕ) (z : size m b ≡ file-size ms) (file : List ℕ) where
   is-members : m ≡ length ms
-  is-members = ap (λ (x : Size). x .members) z
+  is-members = ap (λ (x : Size). x .count) z
 
   is-bytes : b ≡ length (narrowed-file ms)
   is-bytes = ap (λ (x : Size). x .bytes) z
 
   file-short : length file < b → Files (file-of ms file) (written.Refused source.Work (AreaShort b)) file
   unfolding file-of
-  file-short l =
-      let t = lt-ltb (length file) (length (narrowed-file ms)) (omega (arith, is-bytes)) in
-      record { outcome = rw t (ap (refuses source.Work 14) is-bytes); file = rw t }
+  file-short l = fields·Filing.file-short (length ms) (narrowed-file ms) file is-bytes l
 
   file-put : {file′ : List ℕ} {n : ℕ} → b ≤ length file → n ≡ length (narrowed-file ms) → file′ ≡ sets file 0 (narrowed-file ms)
       → Files (file-of ms file) (written.File m n) file′
   unfolding file-of
-  file-put l e f =
-      let t = le-ltb (length file) (length (narrowed-file ms)) (omega (arith, is-bytes)) in
-      record { outcome = rw (t, e) (ap (λ (k : ℕ). accepts (size k (length (narrowed-file ms)))) is-members); file = rw t f }
+  file-put l e f = fields·Filing.file-put (length ms) (narrowed-file ms) file is-bytes l is-members e f
 
 -- ---- what was counted, put into the area
 module _ {qs ws : List ℕ} {c : Counted} where

@@ -7,12 +7,11 @@ use mathlib.Core.List.{List}
 use Prim.Native.Nat.{ℕ}
 use lib.Dec.{ltb}
 use lib.ListN.{length}
-use lib.Seq.{sets}
 use Rattle.theory.specs.Merging.{Member}
 use Rattle.theory.specs.Narrowing as narrowing
 use Rattle.theory.specs.Narrowing.{refused, narrowed, narrow-symbols}
 use Rattle.fields.specs.declared.Source.the-variants as source
-use Rattle.fields.specs.Call.{Outcome, accepts, refuses, reading, Size, size, zeroed}
+use Rattle.fields.specs.Call.{Outcome, accepts, refuses, reading, Size, size, Output, output, file-in, zeroed}
 use Rattle.fields.specs.Reading.{read}
 use Rattle.sheet.specs.Form.{sheet-form}
 use Rattle.question.specs.Form.{question-form, question-symbols}
@@ -67,19 +66,9 @@ size-call sheet question work =
     record { outcome = sized (m .outcome); work = m .work }
 
 -- ---- the file
--- the outcome, and the area for the file after the call
-pub record Output : Type 0 where
-  pub outcome : Outcome Size
-  pub file : List ℕ
-
-abbrev pub output : Outcome Size → List ℕ → Output
-output o file = record { outcome = o; file = file }
-
 -- 14, or the file of the members
 unfoldable pub file-of : List Member → List ℕ → Output
-file-of ms file =
-    let bytes = narrowed-file ms in
-    cond (ltb (length file) (length bytes)) (output (refuses source.Work 14 (length bytes)) file) (output (accepts (file-size ms)) (sets file 0 bytes))
+file-of ms file = file-in (length ms) (narrowed-file ms) file
 
 -- a refusal leaves the area as it came
 abbrev pub in-area : Outcome (List Member) → List ℕ → Output

@@ -20,7 +20,7 @@ use Rattle.fields.specs.declared.Written.{Written}
 use Rattle.fields.specs.declared.Written.the-variants as written
 use Rattle.fields.specs.Call.{accepts}
 use Rattle.fields.specs.Call as fields·Call
-use Rattle.fields.specs.Said.{written-said}
+use Rattle.fields.specs.Said.{written-said, Files}
 use Rattle.symbols.specs.Symbols.{symbol-numbered}
 use Rattle.question.specs.Form.{question-symbols}
 use Rattle.rows.specs.Kept.{Kept, Wrote}
@@ -32,7 +32,7 @@ use Rattle.order.specs.Runs.{nodes-at}
 use Rattle.emit.specs.Files.{Measuring}
 use Rattle.narrow.specs.declared.Counted.{Counted}
 use Rattle.narrow.specs.declared.Prepared.{Prepared}
-use Rattle.narrow.specs.Call.{Output, Result, Sizing, outcome-of, sized, in-area, narrow-need, members-call}
+use Rattle.narrow.specs.Call.{Result, Sizing, outcome-of, sized, in-area, narrow-need, members-call}
 use Rattle.narrow.specs.Call as call
 
 -- the outcome and both areas are what is due
@@ -45,11 +45,6 @@ pub record Narrows (due : Result) (o : Written) (xs ys : List ℕ) : Type 0 wher
 pub record Sizes (due : Sizing) (o : Written) (xs : List ℕ) : Type 0 where
   pub outcome : written-said o ≡ due .outcome
   pub work : xs ≡ due .work
-
--- the outcome and the file's area
-pub record Files (due : Output) (o : Written) (ys : List ℕ) : Type 0 where
-  pub outcome : written-said o ≡ due .outcome
-  pub file : ys ≡ due .file
 
 -- ---- what the code computes on the way; nothing that is handed on rests on it
 -- r tells whether the code c is that of a step whose link is not one of E

@@ -14,10 +14,12 @@ use Rattle.fields.specs.Reading.{word, eight}
 use Rattle.symbols.specs.Symbols.{Numbered}
 use Rattle.fields.proofs.Bools.{cond-then, not-got, and-left, and-right}
 use Rattle.narrowed.specs.Form.{Flat, flat, Open, open-as, State, head, between, within, order-codes, open-of}
-use Rattle.narrowed.specs.Writing.{two-bytes, eight-bytes, field-bytes, symbols-bytes, head-bytes, members-bytes, encode}
+use Rattle.fields.specs.Writing.{Bytes, two-bytes, eight-bytes, field-bytes}
+use Rattle.symbols.specs.Writing.{symbols-bytes}
+use Rattle.narrowed.specs.Writing.{head-bytes, members-bytes, encode}
 use Rattle.symbols.specs.Symbols.{Runs}
 use Rattle.narrowed.specs.Formed.{InOrder, WellFormed}
-use Rattle.narrowed.proofs.Bytes.{Bytes, listed, two-word, eight-of}
+use Rattle.fields.proofs.Bytes.{listed, two-word, eight-of}
 
 abbrev pub member-of : Open → List Numbered → Flat
 member-of o xs = flat (o .from) (o .to) xs

@@ -21,12 +21,14 @@ use Rattle.symbols.proofs.InPath.{in-path}
 use Rattle.symbols.proofs.Symbols.{push-anywhere, push-got}
 use Rattle.fields.proofs.Accepted.{accepted-ind}
 use Rattle.narrowed.specs.Form.{Flat, Open, open-as, State, head, between, within, order-codes, due, head-of, open-of, grown, judge, value, narrowed-form}
-use Rattle.narrowed.specs.Writing.{field-bytes, symbol-bytes, symbols-bytes, members-bytes, encode}
+use Rattle.fields.specs.Writing.{Bytes, field-bytes}
+use Rattle.symbols.specs.Writing.{symbol-bytes, symbols-bytes}
+use Rattle.narrowed.specs.Writing.{members-bytes, encode}
 use Rattle.symbols.specs.Symbols.{Fine, Runs}
 use Rattle.narrowed.specs.Formed.{Formed, InOrder, WellFormed}
-use Rattle.narrowed.proofs.Bytes.{Bytes, bytes-take, bytes-drop, eight-set}
-use Rattle.narrowed.proofs.Lies.{field-split}
-use Rattle.narrowed.proofs.Symbols.{symbol-split}
+use Rattle.fields.proofs.Bytes.{bytes-take, bytes-drop, eight-set}
+use Rattle.fields.proofs.Lies.{field-split}
+use Rattle.symbols.proofs.Bytes.{symbol-split}
 use Rattle.narrowed.proofs.Ahead.{member-of, one-more, Inside, Back, Ahead, head-case, open-known, member-case}
 
 module _ (s : List ℕ) (h : Bytes s) where

@@ -17,12 +17,14 @@ use Rattle.symbols.specs.Symbols.{Numbered, arity, push, due-symbols}
 use Rattle.symbols.proofs.Symbols.{push-got, push-anywhere}
 use Rattle.fields.proofs.Going.{Going, going-start, going-ends, going-more}
 use Rattle.narrowed.specs.Form.{Flat, Open, open-as, State, head, between, within, order-codes, due, grown, judge, narrowed-form}
-use Rattle.narrowed.specs.Writing.{two-bytes, eight-bytes, symbol-tag, symbol-body, symbol-bytes, symbols-bytes, head-bytes, members-bytes, encode}
+use Rattle.fields.specs.Writing.{two-bytes, eight-bytes}
+use Rattle.symbols.specs.Writing.{symbol-tag, symbol-body, symbol-bytes, symbols-bytes}
+use Rattle.narrowed.specs.Writing.{head-bytes, members-bytes, encode}
 use Rattle.symbols.specs.Symbols.{Fine, Runs}
 use Rattle.narrowed.specs.Formed.{Formed, InOrder, WellFormed}
-use Rattle.narrowed.proofs.Bytes.{word-back, eight-back}
-use Rattle.narrowed.proofs.Lies.{field-lies, ends-lie}
-use Rattle.narrowed.proofs.Symbols.{symbol-fits, symbol-short, symbol-reads}
+use Rattle.fields.proofs.Bytes.{word-back, eight-back}
+use Rattle.fields.proofs.Lies.{field-lies, ends-lie}
+use Rattle.symbols.proofs.Bytes.{symbol-fits, symbol-short, symbol-reads}
 use Rattle.narrowed.proofs.Ahead.{member-of, one-more}
 
 pub head-fits : fitting (due head) 0x41 2 ≡ true

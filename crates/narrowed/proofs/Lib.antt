@@ -5,9 +5,6 @@ pub mod Tracks
 pub mod Filled
 pub mod Loop
 -- written and read, read and written
-pub mod Bytes
-pub mod Lies
-pub mod Symbols
 pub mod Ahead
 pub mod Back
 pub mod Forth

@@ -10,7 +10,7 @@ use lib.Pow.{shl-exact}
 use lib.ListN.{length, take, drop, replicate, length-replicate}
 use Rattle.theory.specs.KindSet.{singleton}
 use Rattle.theory.specs.PathExpr.{through, Direction, PathExpr, step, codes, code, size, step-code, op-code}
-use Rattle.symbols.proofs.Numbers.{code-number}
+use Rattle.symbols.proofs.Numbers.{code-number, length-codes}
 use Rattle.nodes.specs.declared.Node.{Node}
 use Rattle.nodes.specs.Table.{node-at}
 use Rattle.theory.specs.Sorting.{sets-of}
@@ -19,7 +19,7 @@ use Rattle.nodes.specs.Paths.{original, triple-of, Has}
 use Rattle.nodes.specs.Expansion.{Wrote, Expanded, Ready}
 use Rattle.nodes.proofs.Codes.{step-numbered}
 use Rattle.nodes.proofs.Nodes.{known, step-path, kept-path, kept-copied, left-has, right-has, join-path, made-op, op-path}
-use Rattle.nodes.proofs.Writing.{wrote-as, expanded-join, expanded-op, expanded-closure, length-codes}
+use Rattle.nodes.proofs.Writing.{wrote-as, expanded-join, expanded-op, expanded-closure}
 
 pub shl-singleton : (k : ℕ) → k < 64 → (1 * 2 ^ k) % 2 ^ 64 ≡ singleton k
 unfolding singleton

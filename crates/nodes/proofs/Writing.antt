@@ -5,12 +5,11 @@ use mathlib.Core.List.{List, [], _∷_, _++_, map-append}
 use Prim.Native.Nat.{ℕ, _+_, _<_}
 use native.Mathlib.Numerals.{add-one}
 use native.Mathlib.Omega.{arith}
-use lib.ListN.{length, getD, set, take, drop, replicate, length-append, length-map, length-set, length-drop, replicate-append-replicate}
+use lib.ListN.{length, getD, set, take, drop, replicate, length-append, length-set, length-drop, replicate-append-replicate}
 use lib.Seq.{take-suc, getD-drop}
-use Rattle.theory.specs.PathExpr.{Via, Op, PathExpr, join, op, closure, s-join, postfix, codes, code, op-code, size}
+use Rattle.theory.specs.PathExpr.{Via, Op, PathExpr, join, op, closure, s-join, op-code}
 use Rattle.theory.proofs.Lists.{sets-append}
 use Rattle.theory.specs.Sorting.{set-of}
-use Rattle.symbols.proofs.Numbers.{length-postfix}
 use Rattle.nodes.specs.Expansion.{Wrote, Expanded}
 
 -- ---- one after the other
@@ -57,6 +56,3 @@ module _ (p q : PathExpr) {at mid end r : ℕ} {xs ys xs₁ ys₁ xs₂ ys₂ xs
 
 pub expanded-closure : (p : PathExpr) {at mid r : ℕ} {xs ys xs₁ ys₁ xs₂ ys₂ : List ℕ} → Expanded p at xs ys xs₁ ys₁ mid → Wrote mid (133 ∷ []) (0 ∷ []) xs₁ ys₁ xs₂ ys₂ r → Expanded (closure p) at xs ys xs₂ ys₂ r
 expanded-closure p a c = wrote-as (wrote-then a c) (sym (simp map-append)) (sym (simp map-append))
-
-pub length-codes : (p : PathExpr) → length (codes p) ≡ size p
-length-codes p = length-map (postfix p) code ∙ length-postfix p

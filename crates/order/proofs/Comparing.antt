@@ -11,7 +11,7 @@ use Rattle.theory.specs.PathExpr.{codes, before?}
 use Rattle.theory.specs.Sorting.{sets-of}
 use Rattle.nodes.specs.Paths.{triple-of}
 use Rattle.nodes.specs.Expansion.{Expanded, Ready}
-use Rattle.nodes.proofs.Writing.{length-codes}
+use Rattle.symbols.proofs.Numbers.{length-codes}
 use Rattle.order.specs.Arrays.{segment}
 use Rattle.order.specs.Arranging.{Usable}
 use Rattle.order.proofs.Segments.{segment-next, segment-end, segment-wrote}

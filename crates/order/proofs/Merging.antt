@@ -23,7 +23,7 @@ use Rattle.theory.proofs.JoinSets.{merge-inferred, merged-sets}
 use Rattle.nodes.specs.Paths.{triple-of}
 use Rattle.nodes.specs.Expansion.{Expanded, Ready}
 use Rattle.nodes.proofs.Triples.{triple-from, triple-to}
-use Rattle.nodes.proofs.Writing.{length-codes}
+use Rattle.symbols.proofs.Numbers.{length-codes}
 use Rattle.theory.proofs.Lists.{tabulate-same}
 use Rattle.order.specs.declared.Ends.{Ends}
 use Rattle.order.specs.Arrays.{segment}

@@ -23,7 +23,7 @@ use Rattle.question.proofs.Paths.{Asks, accepted-question}
 use Rattle.narrowed.specs.Members.{flat-of, narrowed-file}
 use Rattle.narrowed.proofs.Formed.{narrowed-back}
 use Rattle.narrow.proofs.Accepted.{Accepted, accepted}
-use Rattle.narrow.proofs.Accepted as narrow·Accepted
+use Rattle.fields.proofs.Filing as Filing
 use Rattle.answer.specs.Calls.{members-of}
 use Rattle.answer.proofs.Meaning.{plain-word}
 use Rattle.answer.proofs.TwoAnswers.{members-back, words-equal, bits-subset}
@@ -65,7 +65,7 @@ pub agreement : (sheet question work area : List ℕ) (z : Size) → Took sheet 
 agreement sheet question work area z took =
     let a = accepted sheet question work area z took in
     let (p, k) = accepted-question question (a .codes) (a .question-reads) in
-    subst (λ (f : List ℕ). Agrees sheet question f z) (sym (narrow·Accepted.file-written (a .filed))) (file-agrees a p k)
+    subst (λ (f : List ℕ). Agrees sheet question f z) (sym (Filing.file-written (a .filed))) (file-agrees a p k)
 
 -- ---- the whole job
 module _ (sheet question register work answer area : List ℕ) (z : Size) (took : JobTook sheet question register work answer area z) where
@@ -83,7 +83,7 @@ module _ (sheet question register work answer area : List ℕ) (z : Size) (took 
 
   module _ (p : PathExpr) (k : Asks (a .narrowing .codes) p) where
     abbrev agrees : Agrees sheet question file z
-    agrees = subst (λ (f : List ℕ). Agrees sheet question f z) (sym (narrow·Accepted.file-written (a .narrowing .filed))) (file-agrees (a .narrowing) p k)
+    agrees = subst (λ (f : List ℕ). Agrees sheet question f z) (sym (Filing.file-written (a .narrowing .filed))) (file-agrees (a .narrowing) p k)
 
     job-agrees : JobAgrees sheet question register work answer area z
     job-agrees =

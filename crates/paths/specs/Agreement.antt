@@ -58,7 +58,7 @@ pub record Agrees (sheet question file : List ℕ) (z : Size) : Type 0 where
   -- the members in the file
   pub flats : List Flat
   pub file-reads : read narrowed-form file ≡ got flats
-  pub members : z .members ≡ length flats
+  pub members : z .count ≡ length flats
   pub bytes : z .bytes ≡ length file
   -- registers of any number of records and links
   pub meaning : Demand3 S q (members-of flats)

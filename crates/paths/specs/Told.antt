@@ -6,7 +6,7 @@ use mathlib.Core.List.{List}
 use Prim.Native.Nat.{ℕ}
 use Rattle.fields.specs.declared.Source.{Source}
 use Rattle.fields.specs.Answer.{Answer}
-use Rattle.fields.specs.Call.{Outcome, accepts, refuses, reading, Size, size}
+use Rattle.fields.specs.Call.{Outcome, accepts, refuses, reading, Size, size, Output}
 use Rattle.fields.specs.Said.{source-number}
 use Rattle.narrow.specs.Call as narrow
 use Rattle.answer.specs.Calls as answer
@@ -35,9 +35,9 @@ told-by f (refuses s n p) = tells n p (source-number s)
 abbrev pub told : Outcome (Unit {0}) → Told
 told o = told-by (λ _. tells 0 0 0) o
 
--- of a call that writes a file, or tells its size: the numbers of its members and of its bytes
+-- of a call that writes a file, or tells its size: the number of its members, or of a question's symbols, and that of its bytes
 abbrev pub told-file : Outcome Size → Told
-told-file o = told-by (λ z. tells 0 (z .members) (z .bytes)) o
+told-file o = told-by (λ z. tells 0 (z .count) (z .bytes)) o
 
 -- ---- the outcome is told, and 0 of acceptance alone
 pub record Tells (o : Outcome (Unit {0})) (t : Told) : Type 0 where
@@ -62,6 +62,10 @@ pub record Narrows (due : narrow.Result) (t : Told) (xs ys : List ℕ) : Type 0 
 pub record Sizes (due : narrow.Sizing) (t : Told) (xs : List ℕ) : Type 0 where
   pub outcome : Tells-file (due .outcome) t
   pub work : xs ≡ due .work
+
+pub record FilesTold (due : Output) (t : Told) (ys : List ℕ) : Type 0 where
+  pub outcome : Tells-file (due .outcome) t
+  pub file : ys ≡ due .file
 
 pub record Jobs (due : job.Result) (t : Told) (xs ys zs : List ℕ) : Type 0 where
   pub outcome : Tells-file (due .outcome) t

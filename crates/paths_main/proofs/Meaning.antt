@@ -43,15 +43,15 @@ module _ (area : List ℕ) (n : ℕ) (f : ℕ → ℕ → Bool) (room : n * row-
       ∙ answer-bit n f s t h (omega arith)
       ∙ ap (λ (b : Bool). b && f s t) (lt-ltb t n l)
 
-  area-text : (z : Size) (o : Outcome Size) (k : ℕ) (ws : List ℕ) → o ≡ accepts z → k ≡ n → ws ≡ sets area 0 (answer-words n f) → text-of o k ws ≡ answer-text (z .members) f n
-  area-text z o k ws e d w = rw (e, d, w) (answer-same (pair-at (sets area 0 (answer-words n f)) 0 (row-words n)) f n area-pair (z .members))
+  area-text : (z : Size) (o : Outcome Size) (k : ℕ) (ws : List ℕ) → o ≡ accepts z → k ≡ n → ws ≡ sets area 0 (answer-words n f) → text-of o k ws ≡ answer-text (z .count) f n
+  area-text z o k ws e d w = rw (e, d, w) (answer-same (pair-at (sets area 0 (answer-words n f)) 0 (row-words n)) f n area-pair (z .count))
 
 -- ---- of the files' bytes
 module _ (s q g : List ℕ) (z : Size) (e : job-of s q g .outcome ≡ accepts z) where
   abbrev job : job·Accepted.Accepted s q g (zeros 8192) (zeros 256) (job-of s q g .answer) (zeros 65536) (job-of s q g .file) z
   job = accepted-job s q g z e
 
-  pub printed-pairs : printed s q g ≡ answer-text (z .members) (narrowed-answer (job .register) (job .narrowing .members)) (records (job .register))
+  pub printed-pairs : printed s q g ≡ answer-text (z .count) (narrowed-answer (job .register) (job .narrowing .members)) (records (job .register))
   unfolding printed
   printed-pairs =
       area-text (zeros 256) (records (job .register)) (narrowed-answer (job .register) (job .narrowing .members)) (job .room)

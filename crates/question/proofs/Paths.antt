@@ -29,6 +29,7 @@ use Rattle.symbols.proofs.Symbols.{symbol-plain, push-got, push-anywhere}
 use Rattle.symbols.proofs.Numbers.{Held, symbol-of, symbol-comes, code-number, length-postfix}
 use Rattle.symbols.proofs.Counting.{runs-read}
 use Rattle.question.specs.Form.{State, head, within, question-form, due, judge, head-of, fresh, one-more, question-symbols}
+use Rattle.question.specs.Writing.{numbered-codes}
 
 -- field 45 is not a question's
 no-through : (q : Stack) (t n : ℕ) → fitting (due-symbols file.Question q) t n ≡ true → t ≡ 0x45 → ⊥
@@ -38,18 +39,15 @@ no-through q t n e h =
     let l : n ≡ 8 = own-length file.Question t n a ∙ ap tag-length h in
     false≢true (subst (λ (m : ℕ). among rows file.Question 0x45 m ≡ true) l (subst (λ (u : ℕ). among rows file.Question u n ≡ true) h a))
 
-abbrev symbols : List ℕ → List Numbered
-symbols cs = map (λ c. numbered c 0) cs
-
 -- each is a symbol without a set
-abbrev Small : List ℕ → Type 0
+abbrev pub Small : List ℕ → Type 0
 Small [] = Unit {0}
 Small (c ∷ cs) = (c < 134) × Small cs
 
 -- what is to come, from a state on
 abbrev Ahead : State → ℕ → List ℕ → Type 0
-Ahead head at v = (1 ≤ length v) × (length v ≤ 32) × Runs (record { left = length v; depth = 0 }) (symbols v) × Small v
-Ahead (within q cs) at v = (ys : List ℕ) × (v ≡ cs ++ ys) × (length ys ≡ q .left) × Runs q (symbols ys) × Small ys
+Ahead head at v = (1 ≤ length v) × (length v ≤ 32) × Runs (record { left = length v; depth = 0 }) (numbered-codes v) × Small v
+Ahead (within q cs) at v = (ys : List ℕ) × (v ≡ cs ++ ys) × (length ys ≡ q .left) × Runs q (numbered-codes ys) × Small ys
 
 module _ (s : List ℕ) where
   at-end : (st : State) (at : ℕ) → field-at (due st) s at ≡ ends → Ahead st at (question-form .value st)
@@ -68,7 +66,8 @@ module _ (s : List ℕ) where
       let w′ : fresh m ≡ st′ = cc w in
       let (ys, e, l, r, a) : Ahead (fresh m) (at + 3 + n) v = subst (λ (st : State). Ahead st (at + 3 + n) v) (sym w′) ih in
       let c : length v ≡ m = ap length e ∙ l in
-      (omega arith, omega arith, subst (λ (u : List ℕ). Runs (record { left = length u; depth = 0 }) (symbols u)) (sym e) (subst (λ (i : ℕ). Runs (record { left = i; depth = 0 }) (symbols ys)) (sym l) r), subst Small (sym e) a)
+      let runs = subst (λ (i : ℕ). Runs (record { left = i; depth = 0 }) (numbered-codes ys)) (sym l) r in
+      (omega arith, omega arith, subst (λ (u : List ℕ). Runs (record { left = length u; depth = 0 }) (numbered-codes u)) (sym e) runs, subst Small (sym e) a)
 
   body-within : (q : Stack) (cs : List ℕ) (at t n : ℕ) (st′ : State) (v : List ℕ) → field-at (due (within q cs)) s at ≡ body t n
       → judge (within q cs) at (at + 3 + n) t (take n (drop (at + 3) s)) ≡ got st′ → Ahead st′ (at + 3 + n) v → Ahead (within q cs) at v
@@ -100,14 +99,14 @@ module _ (s : List ℕ) where
 
 -- ---- its path
 -- a symbol that a question may have
-abbrev Asked : Symbol → Type 0
+abbrev pub Asked : Symbol → Type 0
 Asked (s-step d l) = l < 64
 Asked (s-join any) = Unit {0}
 Asked (s-join (through m)) = ⊥
 Asked (s-op o) = Unit {0}
 Asked s-closure = Unit {0}
 
-abbrev AllAsked : List Symbol → Type 0
+abbrev pub AllAsked : List Symbol → Type 0
 AllAsked [] = Unit {0}
 AllAsked (s ∷ ss) = Asked s × AllAsked ss
 
@@ -148,7 +147,7 @@ small-asked (c ∷ cs) h =
     let (k, e) = symbol-comes (numbered c 0) (inl (h .0, refl)) in
     (asked (symbol-numbered c 0) k (subst (λ (x : Numbered). x .number < 134) (sym e) (h .0)), small-asked cs (h .1))
 
-symbols-are : (cs : List ℕ) → map symbol-of (symbols cs) ≡ question-symbols cs
+pub symbols-are : (cs : List ℕ) → map symbol-of (numbered-codes cs) ≡ question-symbols cs
 symbols-are [] = refl
 symbols-are (c ∷ cs) = ap (λ (l : List Symbol). symbol-numbered c 0 ∷ l) (symbols-are cs)
 
@@ -178,8 +177,8 @@ pub record Asks (cs : List ℕ) (p : PathExpr) : Type 0 where
 pub accepted-question : (s cs : List ℕ) → read question-form s ≡ got cs → (p : PathExpr) × Asks cs p
 accepted-question s cs e =
     let (some-symbols, few, runs, small) = ahead s cs e in
-    let n : length (symbols cs) ≡ length cs = length-map cs (λ c. numbered c 0) in
-    let (p, h) = runs-read (symbols cs) (record { left = length cs; depth = 0 }) [] runs (sym n) refl (omega (arith, n, some-symbols)) in
+    let n : length (numbered-codes cs) ≡ length cs = length-map cs (λ c. numbered c 0) in
+    let (p, h) = runs-read (numbered-codes cs) (record { left = length cs; depth = 0 }) [] runs (sym n) refl (omega (arith, n, some-symbols)) in
     let a : path-of (question-symbols cs) ≡ some p = ap path-of (sym (symbols-are cs)) ∙ ap single-path h in
     let b : postfix p ≡ question-symbols cs = postfix-path-of (question-symbols cs) p a in
     let known = small-known cs small in

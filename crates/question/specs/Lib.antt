@@ -1,2 +1,3 @@
 pub mod Form
+pub mod Writing
 pub mod Said

@@ -2,5 +2,6 @@
 pub mod Symbols
 pub mod InPath
 pub mod Numbers
+pub mod Bytes
 -- symbols that make a path
 pub mod Counting

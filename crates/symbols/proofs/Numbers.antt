@@ -5,12 +5,13 @@ use mathlib.Core.Path.{_≡_, refl, sym, ap, ap₂, _∙_, subst}
 use mathlib.Core.Logic.{inl, inr}
 use mathlib.Core.List.{List, [], _∷_, _++_, map}
 use lib.Dec.{T, ltb→lt}
-use lib.ListN.{length, length-append}
+use lib.ListN.{length, length-append, length-map}
 use native.Mathlib.Decide.{decLe}
 use native.Mathlib.Omega.{arith}
 use borrow.Author.Tests.{lt-ltb, le-ltb, eq-eqb, ne-eqb}
 use Rattle.theory.specs.KindSet.{is-set}
-use Rattle.theory.specs.PathExpr.{forward, reverse, any, through, union, conjunction, branch-right, branch-left, PathExpr, step, join, op, closure, Symbol, s-step, s-join, s-op, s-closure, postfix, size, code, links?}
+use Rattle.theory.specs.PathExpr.{forward, reverse, any, through, union, conjunction, branch-right, branch-left, PathExpr, step, join, op, closure}
+use Rattle.theory.specs.PathExpr.{Symbol, s-step, s-join, s-op, s-closure, postfix, size, code, codes, links?}
 use Rattle.theory.specs.Narrowing.{via-fits, sets-fit}
 use Rattle.theory.proofs.Tests.{tests}
 use Rattle.symbols.specs.Symbols.{Numbered, numbered, order-code, arity, operator-numbered, symbol-numbered}
@@ -169,3 +170,6 @@ length-postfix (step d l) = refl
 length-postfix (join v p q) = simp (length-append, length-postfix p, length-postfix q) (omega arith)
 length-postfix (op o p q) = simp (length-append, length-postfix p, length-postfix q) (omega arith)
 length-postfix (closure p) = simp (length-append, length-postfix p) (omega arith)
+
+pub length-codes : (p : PathExpr) → length (codes p) ≡ size p
+length-codes p = length-map (postfix p) code ∙ length-postfix p

@@ -10,6 +10,15 @@ ghost use Rattle.fields.specs.Table.{tag-length};
 ghost use Rattle.symbols.specs.Symbols.{symbol-length, step-of, operator-of, symbol-in, push, arity, due-symbols};
 ghost use Rattle.symbols.specs.Said.{symbol-said, push-said};
 
+// The codes of operators by name.
+pub const JOIN: u8 = 128;
+
+pub const BRANCH_RIGHT: u8 = 131;
+
+pub const BRANCH_LEFT: u8 = 132;
+
+pub const CLOSURE: u8 = 133;
+
 // A symbol as a number: its code, and 255 for a join through a set; and the set, 0 where there is none.
 pub struct Symbol {
     pub number: u8,
@@ -84,7 +93,7 @@ pub fn operands(number: u8) -> u8
     if number < 128 {
         return 0;
     }
-    if number == 133 {
+    if number == CLOSURE {
         return 1;
     }
     2

@@ -81,5 +81,5 @@ refusal-text f n p = (refused-word ++ decimal n) ++ (in-source f ++ ((at-word ++
 
 -- of a call's outcome, and the words of its answer on n records
 abbrev pub text-of : Outcome Size → ℕ → List ℕ → List ℕ
-text-of (accepts z) n ws = answer-text (z .members) (pair-at ws 0 (row-words n)) n
+text-of (accepts z) n ws = answer-text (z .count) (pair-at ws 0 (row-words n)) n
 text-of (refuses f p q) n ws = refusal-text f p q

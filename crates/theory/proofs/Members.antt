@@ -168,7 +168,7 @@ members-sets : (ts : List Triple) → ((t : Triple) → In t ts → Sets (of-tri
 members-sets [] h m i = absurd (in-nil i)
 members-sets (t ∷ ts) h m i = insert-all Sets sets-merged (of-triple t) (members ts) (h t (here refl)) (members-sets ts (λ u j. h u (there j))) m i
 
-plain-sets : (p : PathExpr) → T (plain? p) → sets-fit p
+pub plain-sets : (p : PathExpr) → T (plain? p) → sets-fit p
 plain-sets (step d l) t = tt
 plain-sets (join any p q) t = (tt, plain-sets p (search tests), plain-sets q (search tests))
 plain-sets (join (through m) p q) t = absurd t

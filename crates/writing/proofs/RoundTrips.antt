@@ -12,12 +12,12 @@ use borrow.Author.Tests.{le-leb, leb-true}
 use Rattle.fields.specs.Answer.{Answer, got, refused}
 use Rattle.fields.specs.Reading.{read}
 use Rattle.fields.proofs.Bools.{not-got}
+use Rattle.fields.specs.Writing.{Bytes}
 use Rattle.narrowed.specs.declared.Members.{Members}
 use Rattle.narrowed.specs.Form.{Flat, narrowed-form}
 use Rattle.narrowed.specs.Writing.{encode}
 use Rattle.narrowed.specs.Given.{given}
 use Rattle.narrowed.specs.Said.{Packed}
-use Rattle.narrowed.proofs.Bytes.{Bytes}
 use Rattle.narrowed.proofs.Handed.{packed-given}
 use Rattle.narrowed.proofs.Back.{encode-read, accepted-formed}
 use Rattle.writing.specs.Verdict.{verdict}

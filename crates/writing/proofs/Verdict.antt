@@ -19,12 +19,14 @@ use Rattle.fields.proofs.Bools.{and-left}
 use Rattle.fields.proofs.Going.{Going, going-start, going-ends, going-more, going-refused}
 use Rattle.narrowed.specs.declared.Members.{Members}
 use Rattle.narrowed.specs.Form.{Flat, flat, numbers, State, Open, open-as, between, within, head, due, grown, judge, narrowed-form, order-codes}
-use Rattle.narrowed.specs.Writing.{two-bytes, eight-bytes, symbol-tag, symbol-body, symbol-bytes, symbols-bytes, head-bytes, member-bytes, members-bytes, encode}
+use Rattle.fields.specs.Writing.{two-bytes, eight-bytes}
+use Rattle.symbols.specs.Writing.{symbol-tag, symbol-body, symbol-bytes, symbols-bytes}
+use Rattle.narrowed.specs.Writing.{head-bytes, member-bytes, members-bytes, encode}
 use Rattle.narrowed.specs.Given.{members-given, given}
 use Rattle.narrowed.proofs.Ahead.{one-more}
-use Rattle.narrowed.proofs.Bytes.{word-back, eight-back}
-use Rattle.narrowed.proofs.Lies.{Lies, field-lies, ends-lie}
-use Rattle.narrowed.proofs.Symbols.{symbol-fits, symbol-short, step-back, operator-back}
+use Rattle.fields.proofs.Bytes.{word-back, eight-back}
+use Rattle.fields.proofs.Lies.{Lies, field-lies, ends-lie}
+use Rattle.symbols.proofs.Bytes.{symbol-fits, symbol-short, step-back, operator-back}
 use Rattle.narrowed.proofs.Forth.{head-fits, open-fits, opened, head-body, from-back, to-back}
 use Rattle.bytes.specs.Size.{symbol-size}
 use Rattle.writing.specs.Verdict.{symbol?, offered, path-verdict, member-verdict, members-verdict, verdict}

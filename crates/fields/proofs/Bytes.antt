@@ -7,12 +7,8 @@ use lib.ListN.{length, getD, take, drop}
 use lib.Seq.{getD-drop}
 use native.Mathlib.Omega.{arith}
 use Rattle.theory.specs.KindSet.{is-set}
 use Rattle.fields.specs.Reading.{word, eight}
-use Rattle.narrowed.specs.Writing.{two-bytes, eight-bytes}
-
--- each is a byte
-abbrev pub Bytes : List ℕ → Type 0
-Bytes s = (i : ℕ) → getD s i 0 < 256
+use Rattle.fields.specs.Writing.{Bytes, two-bytes, eight-bytes}
 
 pub bytes-take : (n : ℕ) (l : List ℕ) → Bytes l → Bytes (take n l)
 bytes-take zero l h i = omega arith

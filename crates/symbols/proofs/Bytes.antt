@@ -11,14 +11,15 @@ use native.Mathlib.Omega.{arith}
 use borrow.Author.Tests.{eqb-true, eqb-false, ltb-true, leb-true, lt-ltb, le-ltb, le-leb, ne-eqb, ltb-false}
 use Rattle.fields.specs.Answer.{got}
 use Rattle.fields.specs.Reading.{eight, fitting}
 use Rattle.symbols.specs.Symbols.{Numbered, numbered, step-of, operator-of, symbol-in, symbol-length, due-symbols}
 use Rattle.fields.proofs.Bools.{cond-then, not-got, and-left, and-right}
-use Rattle.narrowed.specs.Writing.{eight-bytes, field-bytes, symbol-tag, symbol-body, symbol-bytes}
+use Rattle.fields.specs.Writing.{Bytes, eight-bytes, field-bytes}
+use Rattle.symbols.specs.Writing.{symbol-tag, symbol-body, symbol-bytes}
 use Rattle.symbols.specs.Symbols.{Fine}
 use Rattle.fields.specs.declared.File.the-variants as file
 use Rattle.symbols.specs.declared.Stack.{Stack}
 use Rattle.fields.specs.Table.{among, rows, tag-length}
-use Rattle.narrowed.proofs.Bytes.{Bytes, listed, eight-of, eight-set, eight-back}
+use Rattle.fields.proofs.Bytes.{listed, eight-of, eight-set, eight-back}
 
 -- ---- a symbol that was read: its field's bytes, and its ranges
 abbrev Split : ℕ → List ℕ → Numbered → Type 0

@@ -8,11 +8,10 @@ use lib.ListN.{length, getD, take, drop, take-append-drop, length-append, length
 use lib.Seq.{drop-cons, drop-drop, getD-drop, take-append-seam, drop-append-seam}
 use native.Mathlib.Omega.{arith}
 use borrow.Author.Tests.{le-ltb, lt-leb, le-leb}
 use Rattle.fields.specs.declared.Due.{Due}
 use Rattle.fields.specs.Reading.{word, ends, body, fitting, field-at}
 use Rattle.fields.proofs.Fields.{Found, body-length}
-use Rattle.narrowed.specs.Writing.{two-bytes, field-bytes}
-use Rattle.narrowed.proofs.Bytes.{Bytes}
+use Rattle.fields.specs.Writing.{Bytes, two-bytes, field-bytes}
 
 -- ---- a field that was found: its bytes, and what comes after
 module _ (d : Due) (s : List ℕ) (at t n : ℕ) (h : Bytes s) (f : Found d s at t n) where

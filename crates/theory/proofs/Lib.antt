@@ -20,6 +20,9 @@ pub mod Soundness
 pub mod Completeness
 pub mod Universal
 pub mod Evaluation
+-- questions shortened
+pub mod Inclusion
+pub mod Simplification
 -- members
 pub mod Postfix
 pub mod Merging

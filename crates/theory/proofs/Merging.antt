@@ -6,13 +6,13 @@ use mathlib.Core.List.{List, [], _∷_, List·Memᴰ as In, List·Memᴰ·head a
 use Prim.Native.Nat.{ℕ}
 use lib.Dec.{T}
 use Rattle.theory.specs.KindSet.{has}
-use Rattle.theory.specs.PathExpr.{codes, before?, Via, any, through, Op, union, conjunction, branch-right, branch-left, PathExpr, step, join, op, closure, erase, same?, path-discrete}
-use Rattle.theory.specs.Register.{Register, passes, Holds}
+use Rattle.theory.specs.PathExpr.{codes, before?, Via, any, through, PathExpr, step, join, op, closure, erase, same?, path-discrete}
+use Rattle.theory.specs.Register.{Register, passes}
 use Rattle.theory.specs.Inference.{Triple}
 use Rattle.theory.specs.Merging.{Member, of-triple, same-shape?, merge-via, merge, merged, insert, members}
 use Rattle.theory.proofs.Tests.{of-decided, cond-case, apart}
 use Rattle.theory.proofs.KindSet.{singleton-has, has-union-left, has-union-right, has-union}
-use Rattle.theory.proofs.TransitiveClosure.{closure-map}
+use Rattle.theory.proofs.Inclusion.{Under, Passing, under-refl, join-under, op-under, closure-under}
 
 pub same-shape : (p q : PathExpr) → T (same-shape? p q) → erase p ≡ erase q
 unfolding same-shape? same?
@@ -34,32 +34,6 @@ merge-erase (closure p) (op o′ p′ q′) = refl
 merge-erase (closure p) (closure p′) = ap closure (merge-erase p p′)
 
 -- ---- each of two paths of one shape is contained in their merging
--- q holds what p holds, on every register
-pub record Under (p q : PathExpr) : Type 0 where
-  pub holds : (r : Register) (s t : ℕ) → Holds r p s t → Holds r q s t
-
-pub record Passing (v w : Via) : Type 0 where
-  pub passing : (r : Register) (z : ℕ) → passes r v z → passes r w z
-
-under-refl : {p : PathExpr} → Under p p
-under-refl = record { holds = λ r s t h. h }
-
-pub join-under : {v w : Via} {p q p′ q′ : PathExpr} → Passing v w → Under p p′ → Under q q′ → Under (join v p q) (join w p′ q′)
-join-under e f g = record { holds = λ r s t h. (h .0, f .holds r s (h .0) (h .1), g .holds r (h .0) t (h .2), e .passing r (h .0) (h .3)) }
-
-op-holds : (o : Op) {p q p′ q′ : PathExpr} → Under p p′ → Under q q′ → (r : Register) (s t : ℕ) → Holds r (op o p q) s t → Holds r (op o p′ q′) s t
-op-holds union f g r s t (inl h) = inl (f .holds r s t h)
-op-holds union f g r s t (inr h) = inr (g .holds r s t h)
-op-holds conjunction f g r s t h = (f .holds r s t (h .0), g .holds r s t (h .1))
-op-holds branch-right f g r s t h = (f .holds r s t (h .0), (h .1 .0, g .holds r t (h .1 .0) (h .1 .1)))
-op-holds branch-left f g r s t h = (g .holds r s t (h .0), (h .1 .0, f .holds r s (h .1 .0) (h .1 .1)))
-
-pub op-under : {o : Op} {p q p′ q′ : PathExpr} → Under p p′ → Under q q′ → Under (op o p q) (op o p′ q′)
-op-under {o} f g = record { holds = op-holds o f g }
-
-pub closure-under : {p p′ : PathExpr} → Under p p′ → Under (closure p) (closure p′)
-closure-under f = record { holds = λ r s t h. closure-map (f .holds r) h }
-
 passes-left : (v w : Via) (r : Register) (z : ℕ) → passes r v z → passes r (merge-via v w) z
 passes-left any w r z h = tt
 passes-left (through a) any r z h = tt

@@ -19,7 +19,8 @@ use Rattle.theory.proofs.KindSet.{has-singleton, singleton-has, has-uni
 use Rattle.theory.proofs.Inside.{derives-inside}
 use Rattle.theory.proofs.Inference.{Short, exact}
 use Rattle.theory.proofs.Universal.{universal, derives-own, universal-witness}
-use Rattle.theory.proofs.Merging.{Under, Passing, join-under, op-under, closure-under, via-left, via-right, merge-left, merge-right}
+use Rattle.theory.proofs.Inclusion.{Under, Passing, join-under, op-under, closure-under}
+use Rattle.theory.proofs.Merging.{via-left, via-right, merge-left, merge-right}
 use Rattle.theory.proofs.Merging.{same-shape, Covers, covers-refl, covers-trans, merged-left, merged-right, insert-all}
 use Rattle.theory.proofs.TriplePaths.{Paths, triples-paths, inferred-paths, triples-inferred}
 use Rattle.theory.proofs.JoinSets.{inferred-even, merge-inferred}

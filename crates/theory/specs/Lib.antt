@@ -6,6 +6,7 @@ pub mod KindSet
 pub mod PathExpr
 pub mod Postfix
 pub mod Register
+pub mod Simplification
 -- sheets, the rules of inference, and the triples that are computed
 pub mod Sheet
 pub mod Derivation

@@ -1,0 +1,3 @@
+-- the file's bytes counted, and put
+pub mod Measuring
+pub mod Putting

@@ -1,0 +1,8 @@
+-- the pass over the codes
+pub mod Pending
+pub mod Pass
+-- the call
+pub mod Whole
+pub mod Cases
+-- what is promised of it
+pub mod Shortens

@@ -1,0 +1,156 @@
+-- The loop over a question's codes from the last to the first: what holds at its head, and how it goes on.
+-- Assumes nothing.
+use mathlib.Core.Path.{_≡_, refl, sym, ap, ap₂, _∙_, subst}
+use mathlib.Core.Bool.{Bool, true, false, cond}
+use mathlib.Core.List.{List, [], _∷_, _++_, append-nil}
+use Prim.Native.Nat.{ℕ, zero, suc, _+_, _-_, _≤_, _<_}
+use native.Mathlib.Omega.{arith}
+use lib.Dec.{ltb, eqb}
+use lib.ListN.{length, getD, set, take, drop, replicate, length-set, length-append, length-replicate}
+use lib.Seq.{take-suc, drop-cons, drop-set-lt, getD-set-same, length-take-le}
+use Rattle.theory.specs.PathExpr.{PathExpr, codes}
+use Rattle.theory.specs.Simplification.{normal-form}
+use Rattle.theory.proofs.Walks.{size-pos}
+use Rattle.symbols.specs.Symbols.{arity}
+use Rattle.symbols.proofs.Numbers.{length-codes}
+use Rattle.shortening.specs.Pass.{turned, kept, first-place, second-place, FirstCodes}
+use Rattle.shortening.proofs.Pending.{elsewhere, number, Pend, pend, before, after, last, Stacked, bottom, upon, turn-of}
+
+-- ---- i codes are left; the output begins at the start, the stack of places ends at the depth
+pub record Room (qs out places : List ℕ) (depth start i : ℕ) : Type 0 where
+  pub out-size : length out ≡ 32
+  pub places-size : length places ≡ 33
+  pub within : i ≤ length qs
+  pub room : i ≤ start
+  pub start-in : start ≤ 32
+  pub deep : depth + i ≤ 33
+
+pub record Pass (qs : List ℕ) (p : PathExpr) (out places : List ℕ) (depth start i : ℕ) : Type 0 where
+  pub pending : List Pend
+  pub left : take i qs ≡ before pending
+  pub whole : after pending (drop start out) ≡ codes (normal-form p)
+  pub stacked : Stacked places depth pending
+  pub fits : Room qs out places depth start i
+
+pub pass-start : (qs : List ℕ) (count : ℕ) (p : PathExpr) → FirstCodes qs count p → Pass qs p (replicate 32 0) (replicate 33 0) 1 32 count
+pass-start qs count p h =
+    let x = pend elsewhere p (h .plain) (h .links) in
+    record {
+      pending = x ∷ [];
+      left = sym (h .are);
+      whole = append-nil (codes (normal-form p));
+      stacked = upon x refl bottom;
+      fits = record {
+        out-size = length-replicate {A = ℕ} 32 0;
+        places-size = length-replicate {A = ℕ} 33 0;
+        within = h .within;
+        room = h .few;
+        start-in = omega arith;
+        deep = omega (arith, h .few);
+      };
+    }
+
+-- ---- one turn
+snoc-same : (xs ys : List ℕ) (x y : ℕ) → xs ++ (x ∷ []) ≡ ys ++ (y ∷ []) → (xs ≡ ys) × (x ≡ y)
+snoc-same [] [] x y e = (refl, cc)
+snoc-same [] (b ∷ ys) x y e = absurd (let z : _≡_ {A = List ℕ} [] (ys ++ (y ∷ [])) = cc in omega (arith, ap length z, length-append ys (y ∷ [])))
+snoc-same (a ∷ xs) [] x y e = absurd (let z : _≡_ {A = List ℕ} (xs ++ (x ∷ [])) [] = cc in omega (arith, ap length z, length-append xs (x ∷ [])))
+snoc-same (a ∷ xs) (b ∷ ys) x y e =
+    let z : a ≡ b = cc in
+    let r = snoc-same xs ys x y (cc) in
+    (ap₂ (λ (u : ℕ) (l : List ℕ). u ∷ l) z (r .0), r .1)
+
+-- a code is written in front of those that stand there, and counts or not
+put : (out : List ℕ) (start c n : ℕ) → 0 < start → start ≤ length out → n ≤ 1 → drop (start - n) (set out (start - 1) c) ≡ take n (c ∷ []) ++ drop start out
+put out start c zero h l n = ap (λ (k : ℕ). drop k (set out (start - 1) c)) (let z : start - 0 ≡ start = omega arith in z) ∙ drop-set-lt start out (start - 1) c (omega arith)
+put out start c (suc zero) h l n =
+    let m = start - 1 in
+    let z : suc m ≡ start = omega arith in
+    drop-cons (set out m c) m 0 (omega (arith, length-set out m c))
+    ∙ ap₂ (λ (x : ℕ) (k : ℕ). x ∷ drop k (set out m c)) (getD-set-same out m c 0 (omega arith)) z
+    ∙ ap (λ (u : List ℕ). c ∷ u) (drop-set-lt start out m c (omega arith))
+put out start c (suc (suc n)) h l k = absurd (omega arith)
+
+kept-small : (k c : ℕ) → kept k c ≤ 1
+unfolding kept
+kept-small k c = go (eqb c 133) (eqb k 0)
+  where
+    go : (a b : Bool) → cond a (cond b 1 0) 1 ≤ 1
+    go true true = omega arith
+    go true false = omega arith
+    go false b = omega arith
+
+pub arity-small : (c : ℕ) → arity c ≤ 2
+unfolding arity
+arity-small c = go (ltb c 128) (eqb c 133)
+  where
+    go : (a b : Bool) → cond a 0 (cond b 1 2) ≤ 2
+    go true b = omega arith
+    go false true = omega arith
+    go false false = omega arith
+
+module _ (qs : List ℕ) (p : PathExpr) (out places : List ℕ) (start i : ℕ) (more : 0 < i) where
+  -- what holds after a turn, at a place k on the stack's top d, and with c for the code
+  abbrev Next : ℕ → ℕ → ℕ → Type 0
+  Next d k c = Pass qs p (set out (start - 1) c) (set (set places d (first-place k c)) (d + 1) (second-place c)) (d + arity c) (start - kept k c) (i - 1)
+
+  abbrev Turned : ℕ → Type 0
+  Turned d = Next d (getD places d 0) (turned (getD places d 0) (getD qs (i - 1) 0))
+
+  room-next : {d : ℕ} (k c : ℕ) → Room qs out places (suc d) start i
+      → Room qs (set out (start - 1) c) (set (set places d (first-place k c)) (d + 1) (second-place c)) (d + arity c) (start - kept k c) (i - 1)
+  room-next {d} k c r =
+      let n = kept-small k c in
+      let m = arity-small c in
+      record {
+        out-size = length-set out (start - 1) c ∙ r .out-size;
+        places-size = length-set (set places d (first-place k c)) (d + 1) (second-place c) ∙ length-set places d (first-place k c) ∙ r .places-size;
+        within = omega (arith, r .within);
+        room = omega (arith, r .room);
+        start-in = omega (arith, r .start-in);
+        deep = omega (arith, r .deep);
+      }
+
+  -- x is on top
+  on-top : (d : ℕ) (x : Pend) (rest : List Pend) → getD places d 0 ≡ number (x .place) → Stacked places d rest → take i qs ≡ before (x ∷ rest)
+      → after (x ∷ rest) (drop start out) ≡ codes (normal-form p) → Room qs out places (suc d) start i → Turned d
+  on-top d x rest e s l w r =
+      let k = number (x .place) in
+      let j = i - 1 in
+      let z : suc j ≡ i = omega arith in
+      let t = turn-of (x .place) (x .path) rest (x .plain) (x .links) in
+      let (u, v) = snoc-same (take j qs) (before (t .next)) (getD qs j 0) (last (x .path)) (sym (take-suc qs j 0 (omega (arith, r .within))) ∙ ap (λ (m : ℕ). take m qs) z ∙ l ∙ t .lefts) in
+      let c = turned k (last (x .path)) in
+      let next : Next d k c = record {
+        pending = t .next;
+        left = u;
+        whole = ap (after (t .next)) (put out start c (kept k c) (omega (arith, r .room)) (omega (arith, r .start-in, r .out-size)) (kept-small k c)) ∙ sym (t .becomes (drop start out)) ∙ w;
+        stacked =
+            subst (λ (h : ℕ). Stacked (set (set places d (first-place k c)) h (second-place c)) (d + arity c) (t .next)) (let q : suc d ≡ d + 1 = omega arith in q)
+            (t .stacks places d (omega (arith, r .places-size, r .deep)) s);
+        fits = room-next k c r;
+      } in
+      subst (λ (h : ℕ). Next d h (turned h (getD qs j 0))) (sym e) (subst (λ (h : ℕ). Next d k (turned k h)) (sym v) next)
+
+  -- while codes are left there is an operand to come
+  pub record Top (depth : ℕ) : Type 0 where
+    pub some : 0 < depth
+    pub next : Turned (depth - 1)
+
+  by-stack : {depth : ℕ} {xs : List Pend} → Stacked places depth xs → take i qs ≡ before xs → after xs (drop start out) ≡ codes (normal-form p) → Room qs out places depth start i → Top depth
+  by-stack bottom l w r = absurd (omega (arith, ap length l, length-take-le i qs (r .within)))
+  by-stack (upon {d} {xs} x e s) l w r = record { some = omega arith; next = subst Turned (let z : d ≡ suc d - 1 = omega arith in z) (on-top d x xs e s l w r) }
+
+  pub pass-top : {depth : ℕ} → Pass qs p out places depth start i → Top depth
+  pass-top h = by-stack (h .stacked) (h .left) (h .whole) (h .fits)
+
+-- ---- no codes are left
+nothing : (xs : List Pend) → before xs ≡ [] → xs ≡ []
+nothing [] e = refl
+nothing (x ∷ xs) e = absurd (omega (arith, ap length e, length-append (before xs) (codes (x .path)), length-codes (x .path), size-pos (x .path)))
+
+pub pass-end : {qs : List ℕ} {p : PathExpr} {out places : List ℕ} {depth start i : ℕ} → Pass qs p out places depth start i → i ≤ 0 → drop start out ≡ codes (normal-form p)
+pass-end {qs} {p} {out} {places} {depth} {start} {i} h l =
+    let z : i ≡ 0 = omega arith in
+    let e = nothing (h .pending) (sym (h .left) ∙ ap (λ (n : ℕ). take n qs) z) in
+    ap (λ (xs : List Pend). after xs (drop start out)) (sym e) ∙ h .whole

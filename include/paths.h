@@ -10,11 +10,12 @@
  * Areas are lent by the caller, of any length and with any contents; a length counts elements.
  *   work       words to work in: PATHS_NARROW_WORK, PATHS_ANSWER_WORK(N), PATHS_JOB_WORK(N)
  *   answer     PATHS_ANSWER_WORDS(N) words: bit t % 64 of word s * W + t / 64 is the pair of records (s, t), W = PATHS_ROW_WORDS(N)
- *   file       where a narrowed question is written; PATHS_FILE_BYTES are always enough, paths_narrow_bytes tells how many are needed
+ *   file       where a narrowed question is written; PATHS_FILE_BYTES are always enough, paths_narrow_bytes tells how many are needed;
+ *              by paths_shorten, where a question is written; as many bytes as the question has are enough
  *
- * A result of 0 is acceptance: *first is the number of members and *second the number of bytes of the file that was written, or that
- * paths_narrow would write; both are 0 for the other calls. Any other result is the number of a refusal: *first is its place and *second
- * what it is about, one of the PATHS_IN_ numbers. Both are always written.
+ * A result of 0 is acceptance: *first is the number of members, by paths_shorten of symbols, and *second the number of bytes of the file
+ * that was written, or that paths_narrow would write; both are 0 for the other calls. Any other result is the number of a refusal: *first
+ * is its place and *second what it is about, one of the PATHS_IN_ numbers. Both are always written.
  *
  *   result                  reason                                                          place
  *   1  PATHS_TRUNCATED      one or two bytes left for a field's head, or a body past        the byte at which the field begins
@@ -44,7 +45,7 @@
  *
  * No call has state, takes memory from the heap or calls anything but memcpy, memmove and memset; every call returns. Threads may call
  * at once, each with areas of its own. 256 KiB of stack are enough; measured: paths_check 65 KiB, paths_narrow and paths_narrow_bytes
- * 69 KiB, paths_answer 10 KiB, paths_answer_narrowed 122 KiB, paths_job 154 KiB.
+ * 69 KiB, paths_shorten 5 KiB, paths_answer 10 KiB, paths_answer_narrowed 122 KiB, paths_job 154 KiB.
  *
  * What a call returns and leaves in each area is proved, for any bytes and areas (docs/MAP.md); not covered are the compiler's back end
  * and this header.
@@ -111,6 +112,13 @@ uint64_t paths_narrow_bytes(const uint8_t *sheet, size_t sheet_length,
                             const uint8_t *question, size_t question_length,
                             uint64_t *work, size_t work_length,
                             uint64_t *first, uint64_t *second);
+
+/* Shortens a question, and writes the file of the shortened one: a chain of a chain becomes that chain; a chain that is a branch's test
+ * becomes its operand, and a join that is one a branch right; until none of this fits. The shortened question has the same pairs on every
+ * register, is never longer, and shortened again is left as it is. Refusals: those of the question, then 14. */
+uint64_t paths_shorten(const uint8_t *question, size_t question_length,
+                       uint8_t *file, size_t file_length,
+                       uint64_t *first, uint64_t *second);
 
 /* The pairs of a question on a register. */
 uint64_t paths_answer(const uint8_t *question, size_t question_length,

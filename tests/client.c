@@ -1,4 +1,4 @@
-/* The cases of the specification, 1 to 13, through libpaths.a: the file that is written, the answers, each refusal with its place and
+/* The cases of the specification, 1 to 13, and those of shortening, through libpaths.a: the file that is written, the answers, each refusal with its place and
  * file, and every element of every area. Prints a line for each case, and at the end 'N passed, M failed'; ends with 0 if none failed.
  * Files and areas lie in blocks of exactly their lengths, so that a memory checker sees a step outside one. */
 #include <stdbool.h>
@@ -242,7 +242,7 @@ static void expect_work(Words work, Told due, size_t need)
 static void expect_file(Bytes file, Told due, const File *written)
 {
     bool some = due.number == PATHS_ACCEPTED;
-    expect(bytes_are(file, some ? written->at : NULL, some ? written->length : 0), "bytes of the narrowed file");
+    expect(bytes_are(file, some ? written->at : NULL, some ? written->length : 0), "bytes of the file");
 }
 
 static void expect_answer(Words answer, Told due, const uint64_t *words, size_t count)
@@ -295,6 +295,17 @@ static void narrow(const File *sheet, const File *question, size_t work_length, 
 
 /* paths_answer and paths_answer_narrowed */
 typedef uint64_t Answering(const uint8_t *, size_t, const uint8_t *, size_t, uint64_t *, size_t, uint64_t *, size_t, uint64_t *, uint64_t *);
+
+static void shorten(const File *question, size_t room, Told due, const File *written)
+{
+    Bytes q = lent(question), file = marked_bytes(room);
+    Told t = unset;
+    t.number = paths_shorten(q.at, q.length, file.at, file.length, &t.first, &t.second);
+    expect(same_told(t, due), "outcome of shortening");
+    expect_file(file, due, written);
+    free(q.at);
+    free(file.at);
+}
 
 static size_t records_of(const File *reg)
 {
@@ -661,6 +672,53 @@ static void other_refusals(void)
     end();
 }
 
+/* A question, and what it is shortened to. */
+typedef struct {
+    Symbol asked[12], shortened[12];
+} Shortening;
+
+#define P FORWARD(0)
+#define Q FORWARD(1)
+#define R REVERSE(2)
+static const Shortening shortenings[] = {
+    {{P, CHAIN, CHAIN, CHAIN}, {P, CHAIN}},
+    {{P, Q, CHAIN, BRANCH_RIGHT}, {P, Q, BRANCH_RIGHT}},
+    {{P, CHAIN, Q, BRANCH_LEFT}, {P, Q, BRANCH_LEFT}},
+    {{P, Q, R, JOIN, BRANCH_RIGHT}, {P, Q, R, BRANCH_RIGHT, BRANCH_RIGHT}},
+    {{P, Q, JOIN, R, BRANCH_LEFT}, {P, Q, BRANCH_RIGHT, R, BRANCH_LEFT}},
+    /* the second operand of a join that is a test is a test, its first is none */
+    {{P, Q, CHAIN, R, CHAIN, JOIN, CHAIN, BRANCH_RIGHT}, {P, Q, CHAIN, R, BRANCH_RIGHT, BRANCH_RIGHT}},
+    /* what is no test stays, and so does what is below a union or a both inside one */
+    {{P, CHAIN, Q, R, JOIN, CHAIN, BRANCH_LEFT}, {P, Q, R, JOIN, CHAIN, BRANCH_LEFT}},
+    {{P, Q, CHAIN, Q, R, JOIN, UNION, BRANCH_RIGHT}, {P, Q, CHAIN, Q, R, JOIN, UNION, BRANCH_RIGHT}},
+};
+
+/* In an area of the bytes needed, of one more, of one fewer and of none; and once more. */
+static void shortened(const Shortening *s)
+{
+    static File short_question;
+    question_file(&question, s->asked);
+    question_file(&short_question, s->shortened);
+    size_t symbols = count_of(s->shortened), bytes = short_question.length;
+    shorten(&question, bytes, told(PATHS_ACCEPTED, symbols, bytes), &short_question);
+    shorten(&question, bytes + 1, told(PATHS_ACCEPTED, symbols, bytes), &short_question);
+    shorten(&question, question.length, told(PATHS_ACCEPTED, symbols, bytes), &short_question);
+    shorten(&question, bytes - 1, told(PATHS_AREA_SHORT, bytes, PATHS_IN_WORK), NULL);
+    shorten(&question, 0, told(PATHS_AREA_SHORT, bytes, PATHS_IN_WORK), NULL);
+    shorten(&short_question, bytes, told(PATHS_ACCEPTED, symbols, bytes), &short_question);
+}
+
+static void shortening(void)
+{
+    begin("questions shortened");
+    for (size_t i = 0; i < sizeof shortenings / sizeof *shortenings; i++)
+        shortened(&shortenings[i]);
+    shorten(&empty, 100, told(PATHS_WRONG_END, 0, PATHS_IN_QUESTION), NULL);
+    shorten(&empty, 0, told(PATHS_WRONG_END, 0, PATHS_IN_QUESTION), NULL);
+    shorten(&sheet, 100, told(PATHS_UNEXPECTED, 0, PATHS_IN_QUESTION), NULL);
+    end();
+}
+
 int main(void)
 {
     case_files();
@@ -673,6 +731,7 @@ int main(void)
     case_12();
     case_13();
     other_refusals();
+    shortening();
     printf("%d passed, %d failed\n", passed, failed);
     return failed == 0 ? 0 : 1;
 }

@@ -11,3 +11,4 @@ pub mod Whole
 -- what the answers mean
 pub mod Meaning
 pub mod TwoAnswers
+pub mod SamePairs

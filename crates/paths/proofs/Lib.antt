@@ -1,5 +1,7 @@
 -- demand 3 of the calls
 pub mod Agreement
+-- a shortened question answered
+pub mod Shortening
 -- what C is told
 pub mod Told
 -- how a file is judged

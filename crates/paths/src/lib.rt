@@ -1,5 +1,5 @@
 // The public calls. Those for programs in C (include/paths.h) hand their areas on and tell the outcome in three numbers: specs/Told.antt.
-// What holds of the calls together (demand 3) is in specs/Agreement.antt.
+// What holds of the calls together is in specs/Agreement.antt (demand 3) and specs/Shortening.antt.
 use fields::Outcome;
 use fields::Refusal;
 use fields::Source;
@@ -18,7 +18,8 @@ ghost use Rattle.conform.specs.Check.{check-of};
 ghost use Rattle.narrow.specs.Call.{narrow-call, size-call};
 ghost use Rattle.answer.specs.Calls.{plain-call, narrowed-call};
 ghost use Rattle.job.specs.Call.{job-call};
-ghost use Rattle.paths.specs.Told.{judged, tells, Tells, Tells-file, Answers, Narrows, Sizes, Jobs, Plain};
+ghost use Rattle.shortening.specs.Call.{shorten-call};
+ghost use Rattle.paths.specs.Told.{judged, tells, Tells, Tells-file, Answers, Narrows, Sizes, FilesTold, Jobs, Plain};
 
 // What a call that is accepted returns; every refusal has a number of its own.
 const ACCEPTED: u64 = 0;
@@ -55,8 +56,8 @@ fn tell_file(o: Written, first: &mut u64, second: &mut u64) -> u64
     ensures { λ n. ⌜ Tells-file (written-said o) (tells n (now (first .exit)) (now (second .exit))) ⌝ }
 {
     match o {
-        Written::File(members, bytes) => {
-            *first = members as u64;
+        Written::File(count, bytes) => {
+            *first = count as u64;
             *second = bytes as u64;
             ACCEPTED
         }
@@ -119,7 +120,7 @@ pub fn write(members: Members, area: &mut [u8]) -> writing::Written
     writing::write(members, area)
 }
 
-// ---- check, narrowing, answers and the whole job, for C
+// ---- check, narrowing, shortening, answers and the whole job, for C
 
 // Does a register obey a sheet?
 #[no_mangle]
@@ -167,6 +168,19 @@ pub extern "C" fn paths_narrow_bytes(
         (tells n (now (first .exit)) (now (second .exit))) (now (work .exit)) ⌝ }
 {
     tell_file(narrow::narrowed_size(sheet, question, work), first, second)
+}
+
+// Shortens a question, and writes the file of the shortened one.
+#[no_mangle]
+pub extern "C" fn paths_shorten(
+    question: &[u8],
+    file: &mut [u8],
+    first: &mut u64,
+    second: &mut u64,
+) -> u64
+    ensures { λ n. ⌜ FilesTold (shorten-call (now (question .entry)) (now (file .entry))) (tells n (now (first .exit)) (now (second .exit))) (now (file .exit)) ⌝ }
+{
+    tell_file(shortening::shorten(question, file), first, second)
 }
 
 // The pairs of a question on a register.

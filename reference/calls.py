@@ -10,10 +10,11 @@ from dataclasses import dataclass
 from functools import wraps
 from typing import Iterator, Optional, Union
 
-from reference import meaning, narrowing
+from reference import meaning, narrowing, shortening
 from reference.files import (
     Refusal, Register, Sheet,
-    read_narrowed, read_question, read_register, read_sheet, write_narrowed,
+    question_bytes, read_narrowed, read_question, read_register, read_sheet,
+    write_narrowed,
 )
 
 NARROWING_WORK = 8192
@@ -21,8 +22,8 @@ NARROWING_WORK = 8192
 
 @dataclass(frozen=True)
 class Accepted:
-    """Members and bytes of the narrowed file, where the call makes one."""
-    members: Optional[int] = None
+    """Members of the narrowed file, or symbols of the question, and bytes, where the call makes a file."""
+    count: Optional[int] = None
     size: Optional[int] = None
 
 
@@ -110,6 +111,15 @@ def narrow_bytes(sheet: bytes, question: bytes, work: list) -> Outcome:
     with borrowed(work, NARROWING_WORK):
         members = narrowing.narrow(permitted, symbols)
     return Accepted(len(members), len(write_narrowed(members)))
+
+
+@outcome
+def shorten(question: bytes, file: bytearray) -> Outcome:
+    short = shortening.shorten(read_question(question))
+    made = question_bytes(short)
+    demand_room(file, len(made))
+    fill(file, made)
+    return Accepted(len(short), len(made))
 
 
 def answered(records: Register, words, work: list, answer: list) -> Outcome:

@@ -48,15 +48,15 @@ def random_sheet(rng: Random, kinds: int = 6, links: int = 3, triples: int = 14)
 
 
 def random_path(rng: Random, size: int, step: Callable[[], Step],
-                binary: Callable[[], Symbol]) -> list:
+                binary: Callable[[], Symbol], chains: float = 0.25) -> list:
     """A path of exactly `size` symbols in postfix order."""
     if size == 1:
         return [step()]
-    if size == 2 or rng.random() < 0.25:
-        return random_path(rng, size - 1, step, binary) + [Operator(CHAIN)]
+    if size == 2 or rng.random() < chains:
+        return random_path(rng, size - 1, step, binary, chains) + [Operator(CHAIN)]
     left = rng.randrange(1, size - 1)
-    return (random_path(rng, left, step, binary)
-            + random_path(rng, size - 1 - left, step, binary) + [binary()])
+    return (random_path(rng, left, step, binary, chains)
+            + random_path(rng, size - 1 - left, step, binary, chains) + [binary()])
 
 
 def random_step(rng: Random, links: int) -> Step:
@@ -67,6 +67,12 @@ def random_question(rng: Random, links: int, most: int = 9) -> list:
     """A question of up to `most` symbols over the links below `links`."""
     return random_path(rng, rng.randint(1, most), lambda: random_step(rng, links),
                        lambda: Operator(rng.choice(BINARY + (JOIN, UNION))))
+
+
+def piled_question(rng: Random, links: int, most: int = 9) -> list:
+    """A question with chains upon chains, and with joins and chains in the tests of branches."""
+    return random_path(rng, rng.randint(1, most), lambda: random_step(rng, links),
+                       lambda: Operator(rng.choice((JOIN, JOIN, BRANCH_RIGHT, BRANCH_LEFT) + BINARY)), 0.4)
 
 
 def random_set(rng: Random, kinds: int = 6) -> int:

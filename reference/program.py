@@ -43,7 +43,7 @@ def run(directory: str) -> str:
     if isinstance(result, Refused):
         return f"refused {result.number} in {result.file} at {result.place}\n"
     found = pairs(answer, len(read_register(files[2]).kinds))
-    lines = [f"members {result.members} pairs {len(found)}"]
+    lines = [f"members {result.count} pairs {len(found)}"]
     lines += [f"{s} {t}" for s, t in found]
     return "".join(line + "\n" for line in lines)
 

@@ -11,7 +11,7 @@ import sys
 from pathlib import Path
 from random import Random
 
-from reference import generate, meaning, narrowing
+from reference import generate, meaning, narrowing, shortening
 from reference.files import BRANCH_RIGHT, CHAIN, JOIN, JoinThrough, Operator, Refusal, Register, Sheet, Step, code
 
 SPECS = Path(__file__).resolve().parent.parent / "crates" / "agreement" / "specs"
@@ -22,6 +22,14 @@ use mathlib.Core.Option.{none, some}
 use Rattle.agreement.specs.Format.{Case, case, refusal, members}
 
 unfoldable pub table : List Case
+table =
+"""
+SHORT_HEAD = """-- What the reference program shortens. Written by tests/agreement.py.
+-- Assumes nothing.
+use mathlib.Core.List.{List, [], _∷_}
+use Rattle.agreement.specs.Format.{Shortening, shortening}
+
+unfoldable pub table : List Shortening
 table =
 """
 SMALL = [(5, 3, 10, 8), (5, 3, 12, 6), (4, 2, 8, 12), (6, 2, 9, 5)]
@@ -149,12 +157,23 @@ def line(job: generate.Job) -> str:
             f"({numbers(job.register.kinds)}) ({triples(job.register.links)}) ({outcome}) {breach} ({plain}) ({short})")
 
 
+def short_line(question: list) -> str:
+    return f"shortening ({numbers(map(code, question))}) ({numbers(map(code, shortening.shorten(question)))})"
+
+
+def table(head: str, lines) -> str:
+    return head + "    " + "\n    ∷ ".join([*lines, "[]"]) + "\n"
+
+
 def tables() -> dict:
     rng = Random(1)
     jobs = edge_jobs(rng) + [telling_job(rng) for _ in range(303)]
     rng.shuffle(jobs)
     parts = [jobs[i:i + 43] for i in range(0, len(jobs), 43)]
-    return {f"Table{i}.antt": HEAD + "    " + "\n    ∷ ".join([*map(line, part), "[]"]) + "\n" for i, part in enumerate(parts, 1)}
+    made = {f"Table{i}.antt": table(HEAD, map(line, part)) for i, part in enumerate(parts, 1)}
+    rng = Random(2)
+    questions = [generate.piled_question(rng, 3, 14) for _ in range(100)]
+    return {**made, "Shortened.antt": table(SHORT_HEAD, map(short_line, questions))}
 
 
 def main() -> None:

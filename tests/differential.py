@@ -6,7 +6,8 @@ runs the cases of the specification, each refusal of each file in each call, and
 folder of its own for each case, and has to print what reference/program.py prints. The library (an archive with the calls of
 include/paths.h, or a shared object) has to leave result, numbers and every word and byte of every area as reference/calls.py does; all
 areas are marked before each call, and the words and bytes past their ends too. Beside them are N / 16 narrowings whose bytes are asked
-for beforehand. `--program ""` or `--library ""` leaves that one out.
+for beforehand, and N / 32 questions that are shortened, each along single simplifications in a drawn order. `--program ""` or
+`--library ""` leaves that one out.
 
 The first cases that differ are printed, with their files in hex and both results, and the exit status is 1.
 """
@@ -25,7 +26,7 @@ from pathlib import Path
 from random import Random
 from typing import Iterator, NamedTuple, Optional
 
-from reference import calls, cases, files, generate, narrowing, program
+from reference import calls, cases, files, generate, narrowing, program, shortening
 from reference.files import Operator, Refusal, Register, Sheet, Step
 from tests.agreement import telling_job
 from tests.answers import SOURCES, marked, refused_cases
@@ -51,6 +52,7 @@ ENTRIES = {
     "check": Entry("paths_check", calls.check, ("sheet", "register"), ()),
     "narrow": Entry("paths_narrow", calls.narrow, ("sheet", "question"), ("work", "file")),
     "narrow_bytes": Entry("paths_narrow_bytes", calls.narrow_bytes, ("sheet", "question"), ("work",)),
+    "shorten": Entry("paths_shorten", calls.shorten, ("question",), ("file",)),
     "answer": Entry("paths_answer", calls.plain_answer, ("question", "register"), ("work", "answer")),
     "answer_narrowed": Entry("paths_answer_narrowed", calls.narrowed_answer, ("narrowed", "register"), ("work", "answer")),
     "job": Entry("paths_job", calls.whole_job, ("sheet", "question", "register"), ("work", "answer", "file")),
@@ -70,10 +72,10 @@ def fresh(name: str, length: int) -> array:
 
 
 def told(outcome: calls.Outcome) -> tuple:
-    """An outcome as the library tells it: 0, members and bytes; or number, place and file."""
+    """An outcome as the library tells it: 0, members or symbols, and bytes; or number, place and file."""
     if isinstance(outcome, calls.Refused):
         return outcome.number, outcome.place, 1 + SOURCES.index(outcome.file)
-    return 0, outcome.members or 0, outcome.size or 0
+    return 0, outcome.count or 0, outcome.size or 0
 
 
 def due(call: Call) -> tuple:
@@ -203,8 +205,16 @@ def needs(name: str, handed: tuple) -> dict:
     register = found.get("register")
     answer = 0 if register is None else calls.answer_words(register)
     work = max(calls.NARROWING_WORK if "sheet" in found else 0, 28 * answer)
-    members = members_of(found.get("sheet"), found.get("question"))
-    return {"work": work, "answer": answer, "file": len(cases.CASE_1_FILE if members is None else files.narrowed_bytes(members))}
+    return {"work": work, "answer": answer, "file": len(file_of(name, found) or cases.CASE_1_FILE)}
+
+
+def file_of(name: str, found: dict) -> Optional[bytes]:
+    """The file that a call writes, if it is not refused."""
+    question = found.get("question")
+    if name == "shorten":
+        return None if question is None else files.question_bytes(shortening.shorten(question))
+    members = members_of(found.get("sheet"), question)
+    return None if members is None else files.narrowed_bytes(members)
 
 
 def members_of(sheet: Optional[Sheet], question: Optional[list]) -> Optional[list]:
@@ -265,6 +275,17 @@ def foretold(sheet: bytes, question: bytes, work: int) -> Iterator:
     yield lent("narrow", (sheet, question), work=work, file=-1)
 
 
+def shortened(rng: Random, question: list) -> Iterator:
+    """The question, and each one on the way of single simplifications in a drawn order; the last one also in an area one byte short."""
+    ways = [shortening.tree(question)]
+    while ways:
+        path = rng.choice(ways)
+        handed = (files.question_bytes(shortening.postfix(path)),)
+        yield lent("shorten", handed)
+        ways = list(shortening.simplifications(path))
+    yield lent("shorten", handed, file=-1)
+
+
 def state_calls(rng: Random) -> Iterator:
     for sheet, question, register in state_jobs(rng):
         yield lent("check", (sheet, register))
@@ -323,6 +344,11 @@ def drawn_foretold(rng: Random) -> Iterator:
     return foretold(*drawn_files(rng, "narrow_bytes"), rng.choice([0, 0, 0, 0, 1, 3, 17, -1]))
 
 
+def drawn_shortened(rng: Random) -> Iterator:
+    yield loosely(rng, "shorten", drawn_files(rng, "shorten"))
+    yield from shortened(rng, generate.piled_question(rng, 64, rng.choice([6, 12, 32])))
+
+
 def drawn_run(rng: Random) -> Run:
     made: list = list(job_files(rng))
     if rng.random() < 0.1:
@@ -348,11 +374,13 @@ def library_calls(seed: int, count: int) -> Iterator:
     yield from (drawn_call(rng) for _ in range(count))
     for _ in range(count // 12):
         yield from drawn_foretold(rng)
+    for _ in range(count // 24):
+        yield from drawn_shortened(rng)
 
 
 FILE_NUMBERS = {"sheet": (1, 2, 3, 4, 5), "question": (1, 2, 3, 5, 6), "narrowed": (1, 2, 3, 4, 5, 6), "register": (1, 2, 3, 4, 5)}
-WORK_NUMBERS = {"check": (16,), "narrow": (11, 12, 13, 14, 15), "narrow_bytes": (11, 12, 13, 15), "answer": (14, 15), "answer_narrowed": (14, 15),
-                "job": (11, 12, 13, 14, 15, 16)}
+WORK_NUMBERS = {"check": (16,), "narrow": (11, 12, 13, 14, 15), "narrow_bytes": (11, 12, 13, 15), "shorten": (14,), "answer": (14, 15),
+                "answer_narrowed": (14, 15), "job": (11, 12, 13, 14, 15, 16)}
 RUN_NUMBERS = (11, 12, 13, 15, 16)  # the program lends enough for every file, and for every answer that has work words
 
 

@@ -54,7 +54,7 @@ def line(call: Call) -> str:
     outcome = calls.narrow(call.sheet, call.question, work, file)
     if isinstance(outcome, calls.Refused):
         return said("refused", outcome.number, 1 + SOURCES.index(outcome.file), outcome.place, digest(work), digest(file))
-    return said("file", outcome.members, outcome.size, digest(work), digest(file))
+    return said("file", outcome.count, outcome.size, digest(work), digest(file))
 
 
 # Calls; their areas are longer than needed by so many words and bytes.

@@ -5,12 +5,12 @@ from collections import Counter
 
 from reference import cases, files, generate, meaning, narrowing, program
 from reference.calls import (
-    Accepted, Refused, check, narrow, narrow_bytes, narrowed_answer, plain_answer, whole_job,
+    Accepted, Refused, check, narrow, narrow_bytes, narrowed_answer, plain_answer, shorten, whole_job,
 )
 from reference.files import (
     Register, Sheet, Step, question_bytes, register_bytes, sheet_bytes, write_narrowed,
 )
-from reference.tests.support import A, B, PLAIN_JOIN
+from reference.tests.support import A, B, CHAINED, PLAIN_JOIN
 
 SHEET = sheet_bytes(cases.SHEET)
 QUESTION = question_bytes(cases.CASE_11_QUESTION)
@@ -143,6 +143,39 @@ class NarrowBytes(CallTest):
         self.assertGreater(seen[None], 100)
         self.assertTrue({1, 2, 3, 5, 11, 15} <= set(seen), seen)
         self.assertNotIn(14, seen)
+
+
+class Shorten(CallTest):
+    LONG = question_bytes([A, B, CHAINED, CHAINED, CHAINED, PLAIN_JOIN])  # 30 bytes
+    SHORT = question_bytes([A, B, CHAINED, PLAIN_JOIN])  # 22 bytes
+
+    def test_exact_and_longer_areas(self):
+        for more in (0, 1, 9):
+            areas = Areas(file=22 + more)
+            self.assertEqual(shorten(self.LONG, areas.file), Accepted(4, 22))
+            self.areas_are(areas, 0, file=self.SHORT)
+
+    def test_one_byte_short(self):
+        for length in (21, 1, 0):
+            areas = Areas(file=length)
+            self.assertEqual(shorten(self.LONG, areas.file), Refused(14, "work", 22))
+            self.areas_are(areas, 0)
+
+    def test_the_file_stands_before_its_area(self):
+        areas = Areas(file=3)
+        self.assertEqual(shorten(b"", areas.file), Refused(5, "question", 0))
+        self.assertEqual(shorten(self.LONG[:-1], areas.file), Refused(1, "question", 26))
+        self.assertEqual(shorten(self.LONG + b"!", areas.file), Refused(5, "question", 30))
+        self.areas_are(areas, 0)
+
+    def test_a_second_pass_leaves_it_be(self):
+        rng = random.Random(64)
+        for _ in range(200):
+            question = question_bytes(generate.piled_question(rng, 3, 32))
+            first, second = Areas(file=164), Areas(file=164)
+            told = shorten(question, first.file)
+            self.assertEqual(shorten(bytes(first.file[:told.size]), second.file), told)
+            self.assertEqual(first.file, second.file)
 
 
 class Answers(CallTest):
@@ -283,7 +316,7 @@ class RandomCalls(CallTest):
                 answered = narrowed_answer(narrowed, register, made.work, made.answer)
                 self.assertEqual(answered, Accepted())
                 self.assertEqual((whole.file, whole.answer), (made.file, made.answer))
-                self.assertEqual(len(files.read_narrowed(narrowed)), outcome.members)
+                self.assertEqual(len(files.read_narrowed(narrowed)), outcome.count)
                 seen[None] += 1
             else:
                 self.areas_are(whole, 8192 if outcome.number > 10 else 0)

@@ -16,7 +16,7 @@ use Rattle.theory.specs.Merging.{same-shape?}
 use Rattle.theory.specs.Narrowing.{part-fault, narrow-symbols}
 use Rattle.theory.specs.Evaluation.{plain-answer, narrowed-answer}
 use Rattle.theory.specs.Words.{answer-words}
-use Rattle.agreement.specs.Format.{same?}
+use Rattle.agreement.specs.Format.{same?, shortened?}
 use Rattle.agreement.specs.Table1 as t1
 use Rattle.agreement.specs.Table2 as t2
 use Rattle.agreement.specs.Table3 as t3
@@ -25,6 +25,7 @@ use Rattle.agreement.specs.Table5 as t5
 use Rattle.agreement.specs.Table6 as t6
 use Rattle.agreement.specs.Table7 as t7
 use Rattle.agreement.specs.Table8 as t8
+use Rattle.agreement.specs.Shortened as short
 
 table-1 : every? same? t1.table ≡ true
 unfolding bitOf adjoin has singleton set-union closure? paths.same? same-edge? well-formed? sheet? permits? breach triple? reach meets-cyclic? of-closure same-shape? part-fault narrow-symbols plain-answer narrowed-answer answer-words same? t1.table ℕ-discrete
@@ -61,3 +62,8 @@ table-8 = refl
 -- each case of each table
 pub agree : every? (every? same?) (t1.table ∷ t2.table ∷ t3.table ∷ t4.table ∷ t5.table ∷ t6.table ∷ t7.table ∷ t8.table ∷ []) ≡ true
 agree = rw (table-1, table-2, table-3, table-4, table-5, table-6, table-7, table-8)
+
+-- each question that was shortened
+pub agree-short : every? shortened? short.table ≡ true
+unfolding shortened? short.table
+agree-short = refl

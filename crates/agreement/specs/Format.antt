@@ -5,8 +5,9 @@ use mathlib.Core.List.{List, [], _∷_, map}
 use mathlib.Core.Option.{Option, none, some}
 use Prim.Native.Nat.{ℕ, _+_, _-_, _/_, _%_}
 use lib.Dec.{eqb, ltb}
-use Rattle.theory.specs.PathExpr.{forward, reverse, any, through, union, conjunction, branch-right, branch-left, PathExpr, Symbol, s-step, s-join, s-op, s-closure, postfix, code}
+use Rattle.theory.specs.PathExpr.{forward, reverse, any, through, union, conjunction, branch-right, branch-left, PathExpr, Symbol, s-step, s-join, s-op, s-closure, postfix, code, codes}
 use Rattle.theory.specs.Postfix.{path-of}
+use Rattle.theory.specs.Simplification.{normal-form}
 use Rattle.theory.specs.Register.{Edge, edge, Register, records, well-formed?}
 use Rattle.theory.specs.Sheet.{Sheet, sheet?, breach}
 use Rattle.theory.specs.Merging.{Member}
@@ -64,6 +65,14 @@ case K E permitted question kinds links outcome place plain short = record {
   narrowed-words = short;
 }
 
+-- a question, and the codes of what it is shortened to
+pub record Shortening : Type 0 where
+  pub question : List Symbol
+  pub short : List ℕ
+
+abbrev pub shortening : List ℕ → List ℕ → Shortening
+shortening question short = record { question = map symbol-of question; short = short }
+
 -- ---- the definitions give the same
 abbrev numbers? : List ℕ → List ℕ → Bool
 numbers? [] [] = true
@@ -102,3 +111,10 @@ same? c =
     && narrowed-same? c (narrow-symbols (c .sheet) (c .question)) (c .outcome)
     && place? (breach (c .sheet) (c .register)) (c .breach-place)
     && plain-same? c (path-of (c .question))
+
+abbrev short-same? : List ℕ → Option PathExpr → Bool
+short-same? short none = false
+short-same? short (some p) = numbers? (codes (normal-form p)) short
+
+unfoldable pub shortened? : Shortening → Bool
+shortened? c = short-same? (c .short) (path-of (c .question))

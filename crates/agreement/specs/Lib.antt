@@ -7,3 +7,4 @@ pub mod Table5
 pub mod Table6
 pub mod Table7
 pub mod Table8
+pub mod Shortened

@@ -1,4 +1,4 @@
--- `paths::paths_shorten` meets its contract.
+-- `paths::paths_shorten` meets its contract: what shortening yields is what `tell_file` tells.
 -- Assumes nothing.
 use borrow.Author.Needs.{needs}
 use Rattle.paths.proofs.paths_shorten.Statement.{statement}

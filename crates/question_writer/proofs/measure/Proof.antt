@@ -1,4 +1,4 @@
--- `question_writer::measure` meets its contract.
+-- `question_writer::measure` meets its contract: the bytes counted, and those of the symbols to come, are always those of the file (`Counting`).
 -- Assumes nothing.
 use Rattle.question_writer.proofs.Measuring.{Counting, counting-start, counting-next, counting-end}
 use lib.ListN.{length}

@@ -1,4 +1,4 @@
--- `question_writer::put_count` meets its contract.
+-- `question_writer::put_count` meets its contract: head and body, one after the other, are the field.
 -- Assumes nothing.
 use Rattle.fields.specs.Table.{rows, tag-length, field-size}
 use Rattle.bytes.proofs.Along.{wrote-more}

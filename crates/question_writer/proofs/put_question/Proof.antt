@@ -1,4 +1,4 @@
--- `question_writer::put_question` meets its contract.
+-- `question_writer::put_question` meets its contract: the head and the symbols, one after the other, are the file; symbols that are lent sets of 0 have none.
 -- Assumes nothing.
 use native.Mathlib.Omega.{arith}
 use Rattle.question_writer.proofs.Putting.{head-room, symbols-room, question-put}

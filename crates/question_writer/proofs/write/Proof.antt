@@ -1,4 +1,4 @@
--- `question_writer::write` meets its contract.
+-- `question_writer::write` meets its contract: 14 where the area is shorter than the bytes counted, else the file: the two cases of `file-in`.
 -- Assumes nothing.
 use mathlib.Core.Path.{refl}
 use Rattle.fields.proofs.Filing.{file-short, file-put}

@@ -1,4 +1,4 @@
--- `shortening::first` meets its contract.
+-- `shortening::first` meets its contract: each way through its tests is a case of `first-place`.
 -- Assumes nothing.
 use borrow.Author.Tests.{eq-eqb, ne-eqb}
 use Rattle.shortening.specs.Pass.{first-place}

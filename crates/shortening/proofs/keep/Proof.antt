@@ -1,4 +1,4 @@
--- `shortening::keep` meets its contract.
+-- `shortening::keep` meets its contract: each way through its tests is a case of `kept`, which is at most 1.
 -- Assumes nothing.
 use mathlib.Core.Path.{refl}
 use native.Mathlib.Omega.{arith}

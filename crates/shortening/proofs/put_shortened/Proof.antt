@@ -1,4 +1,4 @@
--- `shortening::put_shortened` meets its contract.
+-- `shortening::put_shortened` meets its contract: the codes that the pass leaves are those whose file is written.
 -- Assumes nothing.
 use Rattle.shortening.proofs.Whole.{puts}
 use borrow.Author.Needs.{needs}

@@ -1,4 +1,4 @@
--- `shortening::second` meets its contract.
+-- `shortening::second` meets its contract: each way through its test is a case of `second-place`.
 -- Assumes nothing.
 use borrow.Author.Tests.{eq-eqb, ne-eqb}
 use Rattle.shortening.specs.Pass.{second-place}

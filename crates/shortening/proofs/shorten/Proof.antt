@@ -1,4 +1,4 @@
--- `shortening::shorten` meets its contract.
+-- `shortening::shorten` meets its contract: the question's refusal, or the file of its shortened codes, is what `shorten-call` says once the file is read.
 -- Assumes nothing.
 use Rattle.question.proofs.Told.{refused-question, told-question}
 use Rattle.shortening.proofs.Whole.{asked, shortened, question-refused}

@@ -1,4 +1,4 @@
--- `shortening::shorten_codes` meets its contract.
+-- `shortening::shorten_codes` meets its contract: `Pass` holds at the head of the loop, a turn keeps it (`pass-top`), and where no code is left the output is that of the normal form (`pass-end`).
 -- Assumes nothing.
 use native.Mathlib.Omega.{arith}
 use Rattle.theory.specs.PathExpr.{PathExpr}

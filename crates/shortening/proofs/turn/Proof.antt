@@ -1,4 +1,4 @@
--- `shortening::turn` meets its contract.
+-- `shortening::turn` meets its contract: each way through its tests is a case of `turned`.
 -- Assumes nothing.
 use borrow.Author.Tests.{eq-eqb, ne-eqb}
 use Rattle.shortening.specs.Pass.{turned}

@@ -1,46 +1,75 @@
--- A shortened question has the plain answers of the question; so what narrowing makes of it has, on a register that obeys.
+-- A shortened question has the plain answers of the question; so what narrowing makes of it agrees with the question.
 -- Assumes nothing.
 use mathlib.Core.Path.{_≡_, sym, ap, _∙_, subst}
 use mathlib.Core.List.{List}
-use Prim.Native.Nat.{ℕ, _<_}
+use mathlib.Core.Option.{some}
+use Prim.Native.Nat.{ℕ}
 use lib.Dec.{T}
 use lib.ListN.{getD}
+use Rattle.bits.specs.Bit.{bitOf}
+use Rattle.theory.specs.PathExpr.{PathExpr}
+use Rattle.theory.specs.Postfix.{path-of}
 use Rattle.theory.specs.Register.{Register}
-use Rattle.theory.specs.Sheet.{Sheet, conforms?}
+use Rattle.theory.specs.Demand3.{Demand3}
+use Rattle.theory.proofs.Demand3.{same-question}
 use Rattle.fields.specs.Answer.{got}
 use Rattle.fields.specs.Call.{Size}
-use Rattle.fields.specs.Reading.{read}
-use Rattle.sheet.specs.Form.{sheet-form}
-use Rattle.answer.specs.Calls.{answer-need, plain-call}
+use Rattle.question.specs.Form.{question-symbols}
+use Rattle.answer.specs.Calls.{members-of, plain-call}
+use Rattle.answer.specs.Calls as answer
 use Rattle.answer.proofs.SamePairs as SamePairs
 use Rattle.shortening.specs.Shortens as shortening
+use Rattle.shortening.specs.Shortens.{Shortens}
 use Rattle.shortening.proofs.Shortens.{shortens}
-use Rattle.paths.specs.Agreement.{Took, file-written, Answers, plain-word, narrowed-word}
+use Rattle.paths.specs.Agreement.{Took, file-written, Answers, Agrees}
 use Rattle.paths.specs.Shortening.{AnswersAlike}
 use Rattle.paths.proofs.Agreement.{agreement}
 
-module _ (question short : List ℕ) (alike : (register work answer : List ℕ) → plain-call short register work answer ≡ plain-call question register work answer)
-    (sheet work area : List ℕ) (z : Size) (took : Took sheet short work area z) (S : Sheet) (reads : read sheet-form sheet ≡ got S)
-    {register work₁ answer₁ work₂ answer₂ : List ℕ} {r : Register} (a : Answers question (file-written sheet short work area z) register work₁ answer₁ work₂ answer₂ r)
-    (obeys : T (conforms? S r)) where
-  same : plain-call short register work₁ answer₁ ≡ plain-call question register work₁ answer₁
-  same = alike register work₁ answer₁
+module _ {question short : List ℕ} {z : Size} (h : Shortens question short z) where
+  plain-same : (register work answer : List ℕ) → plain-call short register work answer ≡ plain-call question register work answer
+  plain-same = SamePairs.same-answer
+      (record { codes = h .short-codes; reads = h .file-reads; path = h .short-path }) (record { codes = h .codes; reads = h .question-reads; path = h .path }) (h .same-pairs)
 
-  of-short : Answers short (file-written sheet short work area z) register work₁ answer₁ work₂ answer₂ r
-  of-short = record { reads = a .reads; plain = ap (λ x. x .outcome) same ∙ a .plain; narrowed = a .narrowed }
+  module _ (sheet work area : List ℕ) (w : Size) (took : Took sheet short work area w) where
+    abbrev file : List ℕ
+    file = file-written sheet short work area w
 
-  narrowed-alike : (k : ℕ) → k < answer-need r → narrowed-word (file-written sheet short work area z) register work₂ answer₂ k ≡ plain-word question register work₁ answer₁ k
-  narrowed-alike k h =
-      let g = agreement sheet short work area z took in
-      let e : got S ≡ got (g .S) = sym reads ∙ g .sheet-reads in
-      let s : S ≡ g .S = cc in
-      g .equal of-short (subst (λ (x : Sheet). T (conforms? x r)) s obeys) k h ∙ ap (λ x. getD (x .answer) k 0) same
+    abbrev g : Agrees sheet short file w
+    g = agreement sheet short work area w took
+
+    -- the path that narrowing read
+    read-path : g .q ≡ h .q
+    read-path =
+        let e : got (h .short-codes) ≡ got (g .codes) = sym (h .file-reads) ∙ g .question-reads in
+        let c : h .short-codes ≡ g .codes = cc in
+        let s : some (g .q) ≡ some (h .q) = sym (g .path) ∙ ap (λ (cs : List ℕ). path-of (question-symbols cs)) (sym c) ∙ h .short-path in
+        cc
+
+    of-short : {register work₁ answer₁ work₂ answer₂ : List ℕ} {r : Register} → Answers question file register work₁ answer₁ work₂ answer₂ r → Answers short file register work₁ answer₁ work₂ answer₂ r
+    of-short {register} {work₁} {answer₁} a = record { reads = a .reads; plain = ap (λ (x : answer.Result). x .outcome) (plain-same register work₁ answer₁) ∙ a .plain; narrowed = a .narrowed }
+
+    narrowed-same : Agrees sheet question file w
+    narrowed-same =
+        record {
+          S = g .S;
+          sheet-reads = g .sheet-reads;
+          codes = h .codes;
+          question-reads = h .question-reads;
+          q = h .p;
+          path = h .path;
+          flats = g .flats;
+          file-reads = g .file-reads;
+          members = g .members;
+          bytes = g .bytes;
+          meaning = same-question (h .same-pairs) (subst (λ (x : PathExpr). Demand3 (g .S) x (members-of (g .flats))) read-path (g .meaning));
+          no-idle = g .no-idle;
+          equal = λ {register} {work = work₁} {answer = answer₁} {work′} {answer′} {r} a obeys k l.
+              g .equal (of-short a) obeys k l ∙ ap (λ (x : answer.Result). getD (x .answer) k 0) (plain-same register work₁ answer₁);
+          subset = λ {register} {work = work₁} {answer = answer₁} {work′} {answer′} {r} a k j l b.
+              subst (λ (x : answer.Result). T (bitOf (getD (x .answer) k 0) j)) (plain-same register work₁ answer₁) (g .subset (of-short a) k j l b);
+        }
 
 pub answers-alike : (question area : List ℕ) (z : Size) → shortening.Took question area z → AnswersAlike question (shortening.file-written question area z)
 answers-alike question area z t =
     let h = shortens question area z t in
-    let plain = SamePairs.same-answer
-    (record { codes = h .short-codes; reads = h .file-reads; path = h .short-path })
-    (record { codes = h .codes; reads = h .question-reads; path = h .path })
-    (h .same-pairs) in
-    record { plain = plain; narrowed = λ sheet work file w took S reads a obeys. narrowed-alike question (shortening.file-written question area z) plain sheet work file w took S reads a obeys }
+    record { plain = plain-same h; narrowed = narrowed-same h }

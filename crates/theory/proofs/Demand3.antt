@@ -118,3 +118,27 @@ pub demand3-symbols : (S : Sheet) → T (sheet? S) → (ss : List Symbol) (q : P
     → (ms : List Member) → narrow-symbols S ss ≡ narrowed ms → Demand3 S q ms
 demand3-symbols S ok ss q read plain ms e =
     demand3 S ok q plain ms (narrow-path S q ss read ∙ e)
+
+-- ---- of a question with the same pairs on every register
+witness-same : {S : Sheet} {p q : PathExpr} {P : ℕ → ℕ → Type 0} → ((r : Register) (s t : ℕ) → Holds r p s t → Holds r q s t) → Witness S p P → Witness S q P
+witness-same f w = record {
+  register = w .register;
+  well-formed = w .well-formed;
+  conforms = w .conforms;
+  from = w .from;
+  to = w .to;
+  holds = f (w .register) (w .from) (w .to) (w .holds);
+  kinds = w .kinds;
+}
+
+pub same-question : {S : Sheet} {p q : PathExpr} {ms : List Member} → ((r : Register) (s t : ℕ) → Holds r p s t ↔ Holds r q s t) → Demand3 S p ms → Demand3 S q ms
+same-question {S} {p} {q} {ms} f d =
+    let there : (r : Register) (s t : ℕ) → Holds r p s t → Holds r q s t = λ r s t. f r s t .0 in
+    let back : (r : Register) (s t : ℕ) → Holds r q s t → Holds r p s t = λ r s t. f r s t .1 in
+    record {
+      sound = λ r s t a. there r s t (d .sound r s t a);
+      complete = λ r c s t h. d .complete r c s t (back r s t h);
+      from-ends = λ k. (λ m. witness-same there (d .from-ends k .0 m), λ w. d .from-ends k .1 (witness-same back w));
+      to-ends = λ k. (λ m. witness-same there (d .to-ends k .0 m), λ w. d .to-ends k .1 (witness-same back w));
+      no-members = (λ e w. d .no-members .0 e (witness-same back w), λ n. d .no-members .1 (λ w. n (witness-same there w)));
+    }

@@ -163,40 +163,32 @@ flat : {R : ℕ → ℕ → Type 0} {s t : ℕ} → TransitiveClosure (λ a b. T
 flat (single h) = h
 flat (extend c h) = closure-append (flat c) h
 
-keeps : {p q : PathExpr} → Simplifies p q → Under p q
-keeps closure-closure = record { holds = λ r s t h. flat h }
-keeps closure-right = record { holds = λ r s t h. (h .0, first-pair (h .1 .1)) }
-keeps closure-left = record { holds = λ r s t h. (h .0, first-pair (h .1 .1)) }
-keeps join-right = record { holds = λ r s t h. (h .0, (h .1 .1 .0, (h .1 .1 .1, (h .1 .0, h .1 .1 .2)))) }
-keeps join-left = record { holds = λ r s t h. (h .0, (h .1 .1 .0, (h .1 .1 .1, (h .1 .0, h .1 .1 .2)))) }
-keeps (in-join-first k) = join-under passing-refl (keeps k) under-refl
-keeps (in-join-second k) = join-under passing-refl under-refl (keeps k)
-keeps (in-op-first k) = op-under (keeps k) under-refl
-keeps (in-op-second k) = op-under under-refl (keeps k)
-keeps (in-closure k) = closure-under (keeps k)
+-- each holds what the other holds
+record Same (p q : PathExpr) : Type 0 where
+  there : Under p q
+  back : Under q p
 
-adds-none : {p q : PathExpr} → Simplifies p q → Under q p
-adds-none closure-closure = record { holds = λ r s t h. single h }
-adds-none closure-right = record { holds = λ r s t h. (h .0, (h .1 .0, single (h .1 .1))) }
-adds-none closure-left = record { holds = λ r s t h. (h .0, (h .1 .0, single (h .1 .1))) }
-adds-none join-right = record { holds = λ r s t h. (h .0, (h .1 .1 .1 .0, (h .1 .0, h .1 .1 .0, h .1 .1 .1 .1, tt))) }
-adds-none join-left = record { holds = λ r s t h. (h .0, (h .1 .1 .1 .0, (h .1 .0, h .1 .1 .0, h .1 .1 .1 .1, tt))) }
-adds-none (in-join-first k) = join-under passing-refl (adds-none k) under-refl
-adds-none (in-join-second k) = join-under passing-refl under-refl (adds-none k)
-adds-none (in-op-first k) = op-under (adds-none k) under-refl
-adds-none (in-op-second k) = op-under under-refl (adds-none k)
-adds-none (in-closure k) = closure-under (adds-none k)
+abbrev same : {p q : PathExpr} → ((r : Register) (s t : ℕ) → Holds r p s t → Holds r q s t) → ((r : Register) (s t : ℕ) → Holds r q s t → Holds r p s t) → Same p q
+same f g = record { there = record { holds = f }; back = record { holds = g } }
 
-keeps-all : {p q : PathExpr} → Reduces p q → Under p q
-keeps-all done = under-refl
-keeps-all (next s l) = under-trans (keeps s) (keeps-all l)
+keeps : {p q : PathExpr} → Simplifies p q → Same p q
+keeps closure-closure = same (λ r s t h. flat h) (λ r s t h. single h)
+keeps closure-right = same (λ r s t h. (h .0, first-pair (h .1 .1))) (λ r s t h. (h .0, (h .1 .0, single (h .1 .1))))
+keeps closure-left = same (λ r s t h. (h .0, first-pair (h .1 .1))) (λ r s t h. (h .0, (h .1 .0, single (h .1 .1))))
+keeps join-right = same (λ r s t h. (h .0, (h .1 .1 .0, (h .1 .1 .1, (h .1 .0, h .1 .1 .2))))) (λ r s t h. (h .0, (h .1 .1 .1 .0, (h .1 .0, h .1 .1 .0, h .1 .1 .1 .1, tt))))
+keeps join-left = same (λ r s t h. (h .0, (h .1 .1 .0, (h .1 .1 .1, (h .1 .0, h .1 .1 .2))))) (λ r s t h. (h .0, (h .1 .1 .1 .0, (h .1 .0, h .1 .1 .0, h .1 .1 .1 .1, tt))))
+keeps (in-join-first k) = let e = keeps k in record { there = join-under passing-refl (e .there) under-refl; back = join-under passing-refl (e .back) under-refl }
+keeps (in-join-second k) = let e = keeps k in record { there = join-under passing-refl under-refl (e .there); back = join-under passing-refl under-refl (e .back) }
+keeps (in-op-first k) = let e = keeps k in record { there = op-under (e .there) under-refl; back = op-under (e .back) under-refl }
+keeps (in-op-second k) = let e = keeps k in record { there = op-under under-refl (e .there); back = op-under under-refl (e .back) }
+keeps (in-closure k) = let e = keeps k in record { there = closure-under (e .there); back = closure-under (e .back) }
 
-adds-none-all : {p q : PathExpr} → Reduces p q → Under q p
-adds-none-all done = under-refl
-adds-none-all (next s l) = under-trans (adds-none-all l) (adds-none s)
+keeps-all : {p q : PathExpr} → Reduces p q → Same p q
+keeps-all done = record { there = under-refl; back = under-refl }
+keeps-all (next k l) = record { there = under-trans (keeps k .there) (keeps-all l .there); back = under-trans (keeps-all l .back) (keeps k .back) }
 
 pub same-pairs : (r : Register) (p : PathExpr) (s t : ℕ) → Holds r (normal-form p) s t ↔ Holds r p s t
-same-pairs r p s t = (adds-none-all (reaches p) .holds r s t, keeps-all (reaches p) .holds r s t)
+same-pairs r p s t = let e = keeps-all (reaches p) in (e .back .holds r s t, e .there .holds r s t)
 
 -- ---- it is a question's path where the path is: no sets, and the same links
 same-plain : {p q : PathExpr} → Simplifies p q → plain? p ≡ plain? q

@@ -1,6 +1,6 @@
-/* The cases of the specification, 1 to 13, and those of shortening, through libpaths.a: the file that is written, the answers, each refusal with its place and
- * file, and every element of every area. Prints a line for each case, and at the end 'N passed, M failed'; ends with 0 if none failed.
- * Files and areas lie in blocks of exactly their lengths, so that a memory checker sees a step outside one. */
+/* The cases of the specification, 1 to 13, and those of shortening, through libpaths.a: the file that is written, the answers, each
+ * refusal with its place and file, and every element of every area. Prints a line for each case, and at the end 'N passed, M failed';
+ * ends with 0 if none failed. Files and areas lie in blocks of exactly their lengths, so that a memory checker sees a step outside one. */
 #include <stdbool.h>
 #include <stdio.h>
 #include <stdlib.h>
@@ -293,9 +293,6 @@ static void narrow(const File *sheet, const File *question, size_t work_length, 
     free(work.at);
 }
 
-/* paths_answer and paths_answer_narrowed */
-typedef uint64_t Answering(const uint8_t *, size_t, const uint8_t *, size_t, uint64_t *, size_t, uint64_t *, size_t, uint64_t *, uint64_t *);
-
 static void shorten(const File *question, size_t room, Told due, const File *written)
 {
     Bytes q = lent(question), file = marked_bytes(room);
@@ -306,6 +303,9 @@ static void shorten(const File *question, size_t room, Told due, const File *wri
     free(q.at);
     free(file.at);
 }
+
+/* paths_answer and paths_answer_narrowed */
+typedef uint64_t Answering(const uint8_t *, size_t, const uint8_t *, size_t, uint64_t *, size_t, uint64_t *, size_t, uint64_t *, uint64_t *);
 
 static size_t records_of(const File *reg)
 {

@@ -27,7 +27,7 @@ use Rattle.symbols.specs.declared.Stack.{Stack}
 use Rattle.symbols.specs.Symbols.{Numbered, numbered, arity, due-symbols, number-symbol, Runs}
 use Rattle.symbols.specs.Writing.{symbol-tag, symbol-body, symbols-bytes}
 use Rattle.symbols.proofs.Symbols.{push-got, push-anywhere}
-use Rattle.symbols.proofs.Numbers.{symbol-of, held-postfix, numbered-symbols, length-postfix}
+use Rattle.symbols.proofs.Numbers.{symbol-of, held-postfix, numbered-symbols, length-codes}
 use Rattle.symbols.proofs.Bytes.{symbol-short, symbol-reads}
 use Rattle.symbols.proofs.Counting.{read-runs}
 use Rattle.question.specs.Form.{head, within, question-form, due, judge, head-of, fresh, question-symbols}
@@ -120,7 +120,7 @@ module _ (p : PathExpr) (g : T (plain? p)) (h : T (links? 64 p)) where
 
   pub read-bytes : size p ≤ 32 → read question-form (question-bytes (codes p)) ≡ got (codes p)
   read-bytes few =
-      let n : length (codes p) ≡ size p = length-map ss code ∙ length-postfix p in
+      let n = length-codes p in
       let runs = read-runs ss [] p (held-postfix p h (plain-sets p g)) (single (read-paths ss []) p (path-of-postfix p)) in
       let z : length ss ≡ length (codes p) = sym (length-map ss code) in
       read-codes (codes p) (omega (arith, n, size-pos p)) (omega (arith, n))

@@ -13,6 +13,11 @@ ghost use Rattle.fields.specs.Reading.{read as read-file};
 ghost use Rattle.question.specs.Form.{question-form};
 ghost use Rattle.question.specs.Said.{Reads, due-of, judged, Ready, turn-said};
 
+// The most symbols that a question has: as its head's number, and as a length.
+const MOST: u8 = 32;
+
+pub const MOST_SYMBOLS: usize = MOST as usize;
+
 // The number of symbols, or why the file is refused.
 pub enum Outcome {
     Accepted(usize),
@@ -22,7 +27,7 @@ pub enum Outcome {
 // The outcome, and the codes with 0 after them (all 0 where the file is refused).
 pub struct Question {
     pub outcome: Outcome,
-    pub codes: [u8; 32],
+    pub codes: [u8; MOST_SYMBOLS],
 }
 
 // Where the reading stands: at the head, or within the path.
@@ -61,7 +66,7 @@ fn head(at: usize, b: &[u8]) -> Turn
     if n < 1 {
         return Turn::Stop(Refusal::OutOfRange(at));
     }
-    if 32 < n {
+    if MOST < n {
         return Turn::Stop(Refusal::OutOfRange(at));
     }
     let q = Stack { left: n, depth: 0 };
@@ -99,7 +104,7 @@ fn refused(r: Refusal) -> Question
     ensures { λ x. ⌜ (x .outcome ≡ Outcome.Refused r) × (x .codes ≡ replicate 32 0) ⌝ }
 {
     let outcome = Outcome::Refused(r);
-    let codes = [0u8; 32];
+    let codes = [0u8; MOST_SYMBOLS];
     Question { outcome, codes }
 }
 
@@ -107,7 +112,7 @@ fn refused(r: Refusal) -> Question
 pub fn read(s: &[u8]) -> Question
     ensures { λ r. ⌜ Reads (read-file question-form (now (s .entry))) (r .outcome) (r .codes) ⌝ }
 {
-    let mut codes = [0u8; 32];
+    let mut codes = [0u8; MOST_SYMBOLS];
     let mut st = Standing::Head;
     let mut at = 0;
     let mut count = 0;

@@ -46,7 +46,7 @@ fn put_question(codes: &[u8], out: &mut [u8]) -> usize
     ensures { λ r. ⌜ (now (out .exit) ≡ sets (now (out .entry)) 0 (question-bytes (now (codes .entry)))) × (r ≡ length (question-bytes (now (codes .entry)))) ⌝ }
 {
     let n = codes.len() as u8;
-    let no_sets = [0u64; 32];
+    let no_sets = [0u64; question::MOST_SYMBOLS];
     let a = put_count(out, n);
     bytes::put_symbols(out, a, codes, &no_sets, 0, n)
 }

@@ -13,28 +13,31 @@ use Rattle.theory.specs.Simplification.{normal-form}
 use Rattle.theory.proofs.Walks.{size-pos}
 use Rattle.symbols.specs.Symbols.{arity}
 use Rattle.symbols.proofs.Numbers.{length-codes}
-use Rattle.shortening.specs.Pass.{turned, kept, first-place, second-place, FirstCodes}
-use Rattle.shortening.proofs.Pending.{elsewhere, number, Pend, pend, before, after, last, Stacked, bottom, upon, turn-of}
+use Rattle.shortening.specs.declared.Context.{Context}
+use Rattle.shortening.specs.declared.Context.the-variants.{Elsewhere, Closure, Test}
+use Rattle.shortening.specs.Pass.{turned, closure-kept, kept, first-context, second-context, FirstCodes}
+use Rattle.shortening.proofs.Pending.{Pend, pend, before, after, last, Stacked, bottom, upon, pushed, turn-of}
 
--- ---- i codes are left; the output begins at the start, the stack of places ends at the depth
-pub record Room (qs out places : List ℕ) (depth start i : ℕ) : Type 0 where
+-- ---- i codes are left; the output begins at the start, the stack of contexts ends at the depth
+pub record Room (qs out : List ℕ) (contexts : List Context) (depth start i : ℕ) : Type 0 where
   pub out-size : length out ≡ 32
-  pub places-size : length places ≡ 33
+  pub contexts-size : length contexts ≡ 33
   pub within : i ≤ length qs
   pub room : i ≤ start
   pub start-in : start ≤ 32
   pub deep : depth + i ≤ 33
 
-pub record Pass (qs : List ℕ) (p : PathExpr) (out places : List ℕ) (depth start i : ℕ) : Type 0 where
+-- the codes that are left are those of the paths to come, and with what these become the output is that of the normal form
+pub record Pass (qs : List ℕ) (p : PathExpr) (out : List ℕ) (contexts : List Context) (depth start i : ℕ) : Type 0 where
   pub pending : List Pend
   pub left : take i qs ≡ before pending
   pub whole : after pending (drop start out) ≡ codes (normal-form p)
-  pub stacked : Stacked places depth pending
-  pub fits : Room qs out places depth start i
+  pub stacked : Stacked contexts depth pending
+  pub fits : Room qs out contexts depth start i
 
-pub pass-start : (qs : List ℕ) (count : ℕ) (p : PathExpr) → FirstCodes qs count p → Pass qs p (replicate 32 0) (replicate 33 0) 1 32 count
+pub pass-start : (qs : List ℕ) (count : ℕ) (p : PathExpr) → FirstCodes qs count p → Pass qs p (replicate 32 0) (replicate 33 Elsewhere) 1 32 count
 pass-start qs count p h =
-    let x = pend elsewhere p (h .plain) (h .links) in
+    let x = pend Elsewhere p (h .plain, h .links) in
     record {
       pending = x ∷ [];
       left = sym (h .are);
@@ -42,7 +45,7 @@ pass-start qs count p h =
       stacked = upon x refl bottom;
       fits = record {
         out-size = length-replicate {A = ℕ} 32 0;
-        places-size = length-replicate {A = ℕ} 33 0;
+        contexts-size = length-replicate {A = Context} 33 Elsewhere;
         within = h .within;
         room = h .few;
         start-in = omega arith;
@@ -71,14 +74,18 @@ put out start c (suc zero) h l n =
     ∙ ap (λ (u : List ℕ). c ∷ u) (drop-set-lt start out m c (omega arith))
 put out start c (suc (suc n)) h l k = absurd (omega arith)
 
-kept-small : (k c : ℕ) → kept k c ≤ 1
+kept-small : (k : Context) (c : ℕ) → kept k c ≤ 1
 unfolding kept
-kept-small k c = go (eqb c 133) (eqb k 0)
+kept-small k c = by-code (eqb c 133) k
   where
-    go : (a b : Bool) → cond a (cond b 1 0) 1 ≤ 1
-    go true true = omega arith
-    go true false = omega arith
-    go false b = omega arith
+    by-code : (b : Bool) (k : Context) → cond b (closure-kept k) 1 ≤ 1
+    by-code true Elsewhere = omega arith
+    by-code true Closure = omega arith
+    by-code true Test = omega arith
+    by-code false k = omega arith
+
+pub kept-few : {n : ℕ} (k : Context) (c : ℕ) → n ≡ kept k c → n ≤ 1
+kept-few k c e = omega (arith, e, kept-small k c)
 
 pub arity-small : (c : ℕ) → arity c ≤ 2
 unfolding arity
@@ -89,22 +96,21 @@ arity-small c = go (ltb c 128) (eqb c 133)
     go false true = omega arith
     go false false = omega arith
 
-module _ (qs : List ℕ) (p : PathExpr) (out places : List ℕ) (start i : ℕ) (more : 0 < i) where
-  -- what holds after a turn, at a place k on the stack's top d, and with c for the code
-  abbrev Next : ℕ → ℕ → ℕ → Type 0
-  Next d k c = Pass qs p (set out (start - 1) c) (set (set places d (first-place k c)) (d + 1) (second-place c)) (d + arity c) (start - kept k c) (i - 1)
+module _ (qs : List ℕ) (p : PathExpr) (out : List ℕ) (contexts : List Context) (start i : ℕ) (more : 0 < i) where
+  -- what holds after a turn: of the path on top, above d others, in context k, with c for its last code
+  abbrev Next : ℕ → Context → ℕ → Type 0
+  Next d k c = Pass qs p (set out (start - 1) c) (pushed contexts d k c) (d + arity c) (start - kept k c) (i - 1)
 
   abbrev Turned : ℕ → Type 0
-  Turned d = Next d (getD places d 0) (turned (getD places d 0) (getD qs (i - 1) 0))
+  Turned d = let k = getD contexts d Elsewhere in Next d k (turned k (getD qs (i - 1) 0))
 
-  room-next : {d : ℕ} (k c : ℕ) → Room qs out places (suc d) start i
-      → Room qs (set out (start - 1) c) (set (set places d (first-place k c)) (d + 1) (second-place c)) (d + arity c) (start - kept k c) (i - 1)
+  room-next : {d : ℕ} (k : Context) (c : ℕ) → Room qs out contexts (suc d) start i → Room qs (set out (start - 1) c) (pushed contexts d k c) (d + arity c) (start - kept k c) (i - 1)
   room-next {d} k c r =
       let n = kept-small k c in
       let m = arity-small c in
       record {
         out-size = length-set out (start - 1) c ∙ r .out-size;
-        places-size = length-set (set places d (first-place k c)) (d + 1) (second-place c) ∙ length-set places d (first-place k c) ∙ r .places-size;
+        contexts-size = length-set (set contexts d (first-context k c)) (d + 1) (second-context c) ∙ length-set contexts d (first-context k c) ∙ r .contexts-size;
         within = omega (arith, r .within);
         room = omega (arith, r .room);
         start-in = omega (arith, r .start-in);
@@ -112,36 +118,34 @@ module _ (qs : List ℕ) (p : PathExpr) (out places : List ℕ) (start i : ℕ) 
       }
 
   -- x is on top
-  on-top : (d : ℕ) (x : Pend) (rest : List Pend) → getD places d 0 ≡ number (x .place) → Stacked places d rest → take i qs ≡ before (x ∷ rest)
-      → after (x ∷ rest) (drop start out) ≡ codes (normal-form p) → Room qs out places (suc d) start i → Turned d
+  on-top : (d : ℕ) (x : Pend) (rest : List Pend) → getD contexts d Elsewhere ≡ x .context → Stacked contexts d rest → take i qs ≡ before (x ∷ rest)
+      → after (x ∷ rest) (drop start out) ≡ codes (normal-form p) → Room qs out contexts (suc d) start i → Turned d
   on-top d x rest e s l w r =
-      let k = number (x .place) in
+      let k = x .context in
       let j = i - 1 in
       let z : suc j ≡ i = omega arith in
-      let t = turn-of (x .place) (x .path) rest (x .plain) (x .links) in
+      let t = turn-of k (x .path) rest (x .askable) in
       let (u, v) = snoc-same (take j qs) (before (t .next)) (getD qs j 0) (last (x .path)) (sym (take-suc qs j 0 (omega (arith, r .within))) ∙ ap (λ (m : ℕ). take m qs) z ∙ l ∙ t .lefts) in
       let c = turned k (last (x .path)) in
       let next : Next d k c = record {
         pending = t .next;
         left = u;
         whole = ap (after (t .next)) (put out start c (kept k c) (omega (arith, r .room)) (omega (arith, r .start-in, r .out-size)) (kept-small k c)) ∙ sym (t .becomes (drop start out)) ∙ w;
-        stacked =
-            subst (λ (h : ℕ). Stacked (set (set places d (first-place k c)) h (second-place c)) (d + arity c) (t .next)) (let q : suc d ≡ d + 1 = omega arith in q)
-            (t .stacks places d (omega (arith, r .places-size, r .deep)) s);
+        stacked = t .stacks contexts d (omega (arith, r .contexts-size, r .deep)) s;
         fits = room-next k c r;
       } in
-      subst (λ (h : ℕ). Next d h (turned h (getD qs j 0))) (sym e) (subst (λ (h : ℕ). Next d k (turned k h)) (sym v) next)
+      subst (λ (h : Context). Next d h (turned h (getD qs j 0))) (sym e) (subst (λ (h : ℕ). Next d k (turned k h)) (sym v) next)
 
   -- while codes are left there is an operand to come
   pub record Top (depth : ℕ) : Type 0 where
     pub some : 0 < depth
     pub next : Turned (depth - 1)
 
-  by-stack : {depth : ℕ} {xs : List Pend} → Stacked places depth xs → take i qs ≡ before xs → after xs (drop start out) ≡ codes (normal-form p) → Room qs out places depth start i → Top depth
+  by-stack : {depth : ℕ} {xs : List Pend} → Stacked contexts depth xs → take i qs ≡ before xs → after xs (drop start out) ≡ codes (normal-form p) → Room qs out contexts depth start i → Top depth
   by-stack bottom l w r = absurd (omega (arith, ap length l, length-take-le i qs (r .within)))
   by-stack (upon {d} {xs} x e s) l w r = record { some = omega arith; next = subst Turned (let z : d ≡ suc d - 1 = omega arith in z) (on-top d x xs e s l w r) }
 
-  pub pass-top : {depth : ℕ} → Pass qs p out places depth start i → Top depth
+  pub pass-top : {depth : ℕ} → Pass qs p out contexts depth start i → Top depth
   pass-top h = by-stack (h .stacked) (h .left) (h .whole) (h .fits)
 
 -- ---- no codes are left
@@ -149,8 +153,8 @@ nothing : (xs : List Pend) → before xs ≡ [] → xs ≡ []
 nothing [] e = refl
 nothing (x ∷ xs) e = absurd (omega (arith, ap length e, length-append (before xs) (codes (x .path)), length-codes (x .path), size-pos (x .path)))
 
-pub pass-end : {qs : List ℕ} {p : PathExpr} {out places : List ℕ} {depth start i : ℕ} → Pass qs p out places depth start i → i ≤ 0 → drop start out ≡ codes (normal-form p)
-pass-end {qs} {p} {out} {places} {depth} {start} {i} h l =
+pub pass-end : {qs : List ℕ} {p : PathExpr} {out : List ℕ} {contexts : List Context} {depth start i : ℕ} → Pass qs p out contexts depth start i → i ≤ 0 → drop start out ≡ codes (normal-form p)
+pass-end {qs} {p} {out} {contexts} {depth} {start} {i} h l =
     let z : i ≡ 0 = omega arith in
     let e = nothing (h .pending) (sym (h .left) ∙ ap (λ (n : ℕ). take n qs) z) in
     ap (λ (xs : List Pend). after xs (drop start out)) (sym e) ∙ h .whole

@@ -1,5 +1,5 @@
 -- What the code does at a symbol, when it goes over a question's codes from the last to the first: an operator comes before its operands, the second one first,
--- so what becomes of an operand is known by the place where it stands: 0, or 1 right under a closure, or 2 as a branch's test.
+-- so what becomes of an operand is known by where it stands.
 -- Nothing that is handed on rests on this: specs/Call.antt has the result.
 -- Assumes nothing.
 use mathlib.Core.Path.{_≡_}
@@ -9,23 +9,38 @@ use Prim.Native.Nat.{ℕ, _≤_}
 use lib.Dec.{T, eqb}
 use lib.ListN.{length, take, drop}
 use Rattle.theory.specs.PathExpr.{PathExpr, codes, plain?, links?}
+use Rattle.shortening.specs.declared.Context.{Context}
+use Rattle.shortening.specs.declared.Context.the-variants.{Elsewhere, Closure, Test}
 use Rattle.shortening.specs.declared.Shortened.{Shortened}
 use Rattle.shortening.specs.Call.{shortened-codes}
 
--- the code of a symbol at a place k: as a test a join is a branch right
-unfoldable pub turned : ℕ → ℕ → ℕ
-turned k c = cond (eqb k 2) (cond (eqb c 128) 131 c) c
+-- the code that a symbol becomes: as a test a join is a branch right
+abbrev pub turned : Context → ℕ → ℕ
+turned Elsewhere c = c
+turned Closure c = c
+turned Test c = cond (eqb c 128) 131 c
 
--- how many codes are left of it: a closure goes, right under a closure and as a test
-unfoldable pub kept : ℕ → ℕ → ℕ
-kept k c = cond (eqb c 133) (cond (eqb k 0) 1 0) 1
+-- how many codes are left of a closure, which goes right under a closure and as a test; and of any symbol
+abbrev pub closure-kept : Context → ℕ
+closure-kept Elsewhere = 1
+closure-kept Closure = 0
+closure-kept Test = 0
 
--- the place of its first operand, and of its second
-unfoldable pub first-place : ℕ → ℕ → ℕ
-first-place k c = cond (eqb c 132) 2 (cond (eqb c 133) (cond (eqb k 0) 1 k) 0)
+unfoldable pub kept : Context → ℕ → ℕ
+kept k c = cond (eqb c 133) (closure-kept k) 1
 
-unfoldable pub second-place : ℕ → ℕ
-second-place c = cond (eqb c 131) 2 0
+-- where a closure's operand stands, if the closure goes where it stood itself
+abbrev pub closure-context : Context → Context
+closure-context Elsewhere = Closure
+closure-context Closure = Closure
+closure-context Test = Test
+
+-- where the first operand of any symbol stands, and the second
+unfoldable pub first-context : Context → ℕ → Context
+first-context k c = cond (eqb c 132) Test (cond (eqb c 133) (closure-context k) Elsewhere)
+
+unfoldable pub second-context : ℕ → Context
+second-context c = cond (eqb c 131) Test Elsewhere
 
 -- the first codes are those of a question's path
 pub record FirstCodes (qs : List ℕ) (count : ℕ) (p : PathExpr) : Type 0 where

@@ -2,95 +2,104 @@
 use fields::Source;
 use fields::Written;
 ghost use mathlib.Core.Path.{_≡_};
-ghost use Prim.Native.Nat.{_≤_};
 ghost use lib.ListN.{take};
 ghost use Rattle.fields.specs.Said.{Files};
 ghost use Rattle.shortening.specs.Call.{shortened-in, shorten-call};
-ghost use Rattle.shortening.specs.Pass.{turned, kept, first-place, second-place, OfQuestion, Leaves};
+ghost use Rattle.shortening.specs.Pass.{turned, kept, first-context, second-context, OfQuestion, Leaves};
 
 // Where an operand stands: right under a closure, as a branch's test, or elsewhere.
-const ELSEWHERE: u8 = 0;
-
-const CLOSED: u8 = 1;
-
-const TESTED: u8 = 2;
+pub enum Context {
+    Elsewhere,
+    Closure,
+    Test,
+}
 
 // As a test a join is a branch right.
-fn turn(place: u8, code: u8) -> u8
-    ensures { λ r. ⌜ r ≡ turned place code ⌝ }
+fn turn(context: Context, code: u8) -> u8
+    ensures { λ r. ⌜ r ≡ turned context code ⌝ }
 {
-    if place == TESTED {
-        if code == symbols::JOIN {
-            return symbols::BRANCH_RIGHT;
+    match context {
+        Context::Elsewhere => code,
+        Context::Closure => code,
+        Context::Test => {
+            if code == symbols::JOIN {
+                return symbols::BRANCH_RIGHT;
+            }
+            code
         }
     }
-    code
 }
 
 // How many codes are left of one: a closure goes, right under a closure and as a test.
-fn keep(place: u8, code: u8) -> usize
-    ensures { λ r. ⌜ (r ≡ kept place code) × (r ≤ 1) ⌝ }
+fn keep(context: Context, code: u8) -> usize
+    ensures { λ r. ⌜ r ≡ kept context code ⌝ }
 {
-    if code == symbols::CLOSURE {
-        if place != ELSEWHERE {
-            return 0;
-        }
+    if code != symbols::CLOSURE {
+        return 1;
     }
-    1
+    match context {
+        Context::Elsewhere => 1,
+        Context::Closure => 0,
+        Context::Test => 0,
+    }
 }
 
 // Where the first operand stands; under a closure that goes, where the closure stood.
-fn first(place: u8, code: u8) -> u8
-    ensures { λ r. ⌜ r ≡ first-place place code ⌝ }
+fn first_context(context: Context, code: u8) -> Context
+    ensures { λ r. ⌜ r ≡ first-context context code ⌝ }
 {
     if code == symbols::BRANCH_LEFT {
-        return TESTED;
+        return Context::Test;
     }
-    if code == symbols::CLOSURE {
-        if place == ELSEWHERE {
-            return CLOSED;
-        }
-        return place;
+    if code != symbols::CLOSURE {
+        return Context::Elsewhere;
     }
-    ELSEWHERE
+    match context {
+        Context::Elsewhere => Context::Closure,
+        Context::Closure => Context::Closure,
+        Context::Test => Context::Test,
+    }
 }
 
 // Where the second operand stands.
-fn second(code: u8) -> u8
-    ensures { λ r. ⌜ r ≡ second-place code ⌝ }
+fn second_context(code: u8) -> Context
+    ensures { λ r. ⌜ r ≡ second-context code ⌝ }
 {
     if code == symbols::BRANCH_RIGHT {
-        return TESTED;
+        return Context::Test;
     }
-    ELSEWHERE
+    Context::Elsewhere
 }
 
 // Codes at the end of an array, from a start on.
 pub struct Shortened {
-    pub codes: [u8; 32],
+    pub codes: [u8; question::MOST_SYMBOLS],
     pub start: usize,
 }
+
+// The operands that are still to come are at most as many as the codes; one place more spares a test.
+const STACK: usize = question::MOST_SYMBOLS + 1;
 
 // The codes of a question, shortened: from the last to the first, with a stack of where the operands stand that are still to come.
 fn shorten_codes(codes: &[u8], count: usize) -> Shortened
     requires { ⌜ OfQuestion (now codes) count ⌝ }
     ensures { λ r. ⌜ Leaves (take count (now (codes .entry))) r ⌝ }
 {
-    let mut out = [0u8; 32];
-    let mut places = [ELSEWHERE; 33];
+    let mut out = [0u8; question::MOST_SYMBOLS];
+    let mut contexts = [Context::Elsewhere; STACK];
     let mut depth = 1;
-    let mut start = 32;
+    let mut start = question::MOST_SYMBOLS;
     let mut i = count;
     while 0 < i {
         i -= 1;
         depth -= 1;
-        let place = places[depth];
-        let code = turn(place, codes[i]);
-        places[depth] = first(place, code);
-        places[depth + 1] = second(code);
+        let context = contexts[depth];
+        let code = turn(context, codes[i]);
+        contexts[depth] = first_context(context, code);
+        contexts[depth + 1] = second_context(code);
         depth += symbols::operands(code) as usize;
         out[start - 1] = code;
-        start -= keep(place, code);
+        start -= keep(context, code);
     }
     Shortened { codes: out, start }
 }

@@ -4,7 +4,6 @@ use Rattle.question_writer.proofs.Measuring.{Counting, counting-start, 
 use lib.ListN.{length}
 use borrow.Author.Needs.{needs}
 use Prim.Native.Nat.{_-_}
-use native.Mathlib.Omega.{arith}
 use Rattle.question_writer.proofs.measure.Statement.{statement}
 use Rattle.question_writer.proofs.measure.Tie as tie
 
@@ -24,13 +23,13 @@ symbol-size-requires : tie.Need-symbol-size-requires Inv-loop μ-loop
 symbol-size-requires c κs = search needs
 
 add-n : tie.Need-add-n Inv-loop μ-loop
-add-n c = omega (arith, c .before .before .before .loop .inv .small, c .before .before .before .loop .inv .few, c .before .before .loop-test .taken, c .symbol-size .ensures .1)
+add-n c = search needs
 
 add-i : tie.Need-add-i Inv-loop μ-loop
-add-i c = omega (arith, c .before .before .before .loop .inv .few, c .before .before .loop-test .taken)
+add-i c = search needs
 
 loop-less : tie.Need-loop-less Inv-loop μ-loop
-loop-less c = omega (arith, c .before .before .loop-test .taken)
+loop-less c = search needs
 
 loop-again : tie.Need-loop-again Inv-loop μ-loop
 loop-again c = counting-next _ (c .before .before .before .loop .inv) (c .before .before .loop-test .taken) (c .symbol-size .ensures)

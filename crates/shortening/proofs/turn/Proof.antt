@@ -1,21 +1,30 @@
--- `shortening::turn` meets its contract: each way through its tests is a case of `turned`.
+-- `shortening::turn` meets its contract: each way through its arms is a case of `turned`.
 -- Assumes nothing.
+use borrow.Author.Needs.{needs}
 use borrow.Author.Tests.{eq-eqb, ne-eqb}
-use Rattle.shortening.specs.Pass.{turned}
 use Rattle.shortening.proofs.turn.Statement.{statement}
 use Rattle.shortening.proofs.turn.Tie as tie
 
+enum-told : tie.Need-enum-told
+enum-told c = search needs
+
+enum-told-2 : tie.Need-enum-told-2
+enum-told-2 c = search needs
+
+enum-told-3 : tie.Need-enum-told-3
+enum-told-3 c = search needs
+
 returns : tie.Need-returns
-unfolding turned
-returns c = simp (eq-eqb _ _ (c .if2 .taken), eq-eqb _ _ (c .before .if1 .taken))
+returns c = simp (c .before .enum-told3 .given .1, eq-eqb _ _ (c .if1 .taken))
 
 returns-2 : tie.Need-returns-2
-unfolding turned
-returns-2 c = simp (ne-eqb _ _ (c .if2 .left), eq-eqb _ _ (c .before .if1 .taken))
+returns-2 c = search needs
 
 returns-3 : tie.Need-returns-3
-unfolding turned
-returns-3 c = simp (ne-eqb _ _ (c .if1 .left))
+returns-3 c = search needs
+
+returns-4 : tie.Need-returns-4
+returns-4 c = simp (c .before .enum-told3 .given .1, ne-eqb _ _ (c .if1 .left))
 
 pub turn-spec : {M : Type 1} → statement M
-turn-spec = tie.close (tie.spec returns returns-2 returns-3)
+turn-spec = tie.close (tie.spec enum-told enum-told-2 enum-told-3 returns returns-2 returns-3 returns-4)

@@ -6,8 +6,8 @@ runs the cases of the specification, each refusal of each file in each call, and
 folder of its own for each case, and has to print what reference/program.py prints. The library (an archive with the calls of
 include/paths.h, or a shared object) has to leave result, numbers and every word and byte of every area as reference/calls.py does; all
 areas are marked before each call, and the words and bytes past their ends too. Beside them are N / 16 narrowings whose bytes are asked
-for beforehand, and N / 32 questions that are shortened, each along single simplifications in a drawn order. `--program ""` or
-`--library ""` leaves that one out.
+for beforehand, and N / 32 questions that single simplifications in a drawn order lead from: each question on the way has to be shortened
+to the one at its end. `--program ""` or `--library ""` leaves that one out.
 
 The first cases that differ are printed, with their files in hex and both results, and the exit status is 1.
 """
@@ -60,10 +60,11 @@ ENTRIES = {
 
 
 class Call(NamedTuple):
-    """The name of a call, its files, and how long its areas are."""
+    """The name of a call, its files, and how long its areas are; and the file that it writes, where another way leads to it."""
     name: str
     files: tuple
     areas: tuple
+    written: bytes = b""
 
 
 def fresh(name: str, length: int) -> array:
@@ -87,6 +88,8 @@ def due(call: Call) -> tuple:
     outcome = entry.call(*call.files, *lent)
     for length, area, after in zip(call.areas, areas, lent):
         area[:length] = array(area.typecode, after)
+    if call.written:
+        areas[-1][:len(call.written)] = array("B", call.written)
     return told(outcome), areas
 
 
@@ -276,14 +279,14 @@ def foretold(sheet: bytes, question: bytes, work: int) -> Iterator:
 
 
 def shortened(rng: Random, question: list) -> Iterator:
-    """The question, and each one on the way of single simplifications in a drawn order; the last one also in an area one byte short."""
-    ways = [shortening.tree(question)]
-    while ways:
-        path = rng.choice(ways)
-        handed = (files.question_bytes(shortening.postfix(path)),)
-        yield lent("shorten", handed)
-        ways = list(shortening.simplifications(path))
-    yield lent("shorten", handed, file=-1)
+    """Single simplifications in a drawn order: each question on the way is shortened to the last one; this one also in an area one byte short."""
+    way = [shortening.tree(question)]
+    while fitting := list(shortening.simplifications(way[-1])):
+        way.append(rng.choice(fitting))
+    questions = [files.question_bytes(shortening.postfix(path)) for path in way]
+    for each in questions:
+        yield lent("shorten", (each,))._replace(written=questions[-1])
+    yield lent("shorten", (questions[-1],), file=-1)
 
 
 def state_calls(rng: Random) -> Iterator:

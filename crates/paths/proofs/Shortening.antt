@@ -18,8 +18,7 @@ use Rattle.question.specs.Form.{question-symbols}
 use Rattle.answer.specs.Calls.{members-of, plain-call}
 use Rattle.answer.specs.Calls as answer
 use Rattle.answer.proofs.SamePairs as SamePairs
-use Rattle.shortening.specs.Shortens as shortening
-use Rattle.shortening.specs.Shortens.{Shortens}
+use Rattle.shortening.specs.Shortens.{ShortenTook, short-file, Shortens}
 use Rattle.shortening.proofs.Shortens.{shortens}
 use Rattle.paths.specs.Agreement.{Took, file-written, Answers, Agrees}
 use Rattle.paths.specs.Shortening.{AnswersAlike}
@@ -69,7 +68,7 @@ module _ {question short : List ℕ} {z : Size} (h : Shortens question short z) 
               subst (λ (x : answer.Result). T (bitOf (getD (x .answer) k 0) j)) (plain-same register work₁ answer₁) (g .subset (of-short a) k j l b);
         }
 
-pub answers-alike : (question area : List ℕ) (z : Size) → shortening.Took question area z → AnswersAlike question (shortening.file-written question area z)
+pub answers-alike : (question area : List ℕ) (z : Size) → ShortenTook question area z → AnswersAlike question (short-file question area z)
 answers-alike question area z t =
     let h = shortens question area z t in
     record { plain = plain-same h; narrowed = narrowed-same h }

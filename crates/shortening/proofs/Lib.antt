@@ -2,7 +2,7 @@
 pub mod Pending
 pub mod Pass
 -- the call
-pub mod Whole
+pub mod Call
 pub mod Cases
 -- what is promised of it
 pub mod Shortens

@@ -32,8 +32,7 @@ use Rattle.question.proofs.Forth.{read-bytes, codes-path}
 use Rattle.question.proofs.Back.{bytes-read}
 use Rattle.question_writer.proofs.Measuring.{question-length}
 use Rattle.shortening.specs.Call.{codes-of, shortened-codes, shortened-in, shorten-call}
-use Rattle.shortening.specs.Shortens as specs·Shortens
-use Rattle.shortening.specs.Shortens.{Took, Shortens}
+use Rattle.shortening.specs.Shortens.{ShortenTook, short-file, Shortens}
 
 -- ---- the bytes of a path's symbols: 5 of a step, 4 of any other
 abbrev bytes : List Symbol → ℕ
@@ -122,13 +121,13 @@ module _ {cs : List ℕ} {p : PathExpr} (a : Asks cs p) where
 
 -- ---- a call that was accepted
 module _ (question area : List ℕ) (z : Size) where
-  by-read : (a : Answer (List ℕ)) → read question-form question ≡ a → Took question area z
+  by-read : (a : Answer (List ℕ)) → read question-form question ≡ a → ShortenTook question area z
       → (cs : List ℕ) × (read question-form question ≡ got cs) × Filed (length (shortened-codes cs)) (question-bytes (shortened-codes cs)) area (shorten-call question area .file) z
   unfolding shorten-call shortened-in
   by-read (refused n p) e t = not-accepted source.Question n p z (rw e at t)
   by-read (got cs) e t = (cs, e, rw e (filed (length (shortened-codes cs)) (question-bytes (shortened-codes cs)) area z (rw e at t)))
 
-  pub shortens : Took question area z → Shortens question (specs·Shortens.file-written question area z) z
+  pub shortens : ShortenTook question area z → Shortens question (short-file question area z) z
   unfolding shorten-call shortened-in
   shortens t =
       let (cs, e, f) = by-read (read question-form question) refl t in
@@ -160,7 +159,7 @@ module _ (question area : List ℕ) (z : Size) where
 
 -- an area as long as the question's file is long enough
 pub enough : (question area : List ℕ) → Bytes question → (cs : List ℕ) → read question-form question ≡ got cs → length question ≤ length area
-    → (z : Size) × Took question area z
+    → (z : Size) × ShortenTook question area z
 unfolding shorten-call shortened-in
 enough question area h cs e l =
     let (p, a) = accepted-question question cs e in

@@ -20,12 +20,12 @@ use Rattle.question.specs.Form.{question-form, question-symbols}
 use Rattle.shortening.specs.Call.{shorten-call}
 
 -- shortening took the question, and told of a file of so many symbols and bytes
-abbrev pub Took : List ℕ → List ℕ → Size → Type 0
-Took question area z = shorten-call question area .outcome ≡ accepts z
+abbrev pub ShortenTook : List ℕ → List ℕ → Size → Type 0
+ShortenTook question area z = shorten-call question area .outcome ≡ accepts z
 
 -- the file that it wrote: so many bytes of the area that was lent
-abbrev pub file-written : List ℕ → List ℕ → Size → List ℕ
-file-written question area z = take (z .bytes) (shorten-call question area .file)
+abbrev pub short-file : List ℕ → List ℕ → Size → List ℕ
+short-file question area z = take (z .bytes) (shorten-call question area .file)
 
 pub record Shortens (question file : List ℕ) (z : Size) : Type 0 where
   -- the question as read

@@ -1,6 +1,6 @@
 -- `shortening::put_shortened` meets its contract: the codes that the pass leaves are those whose file is written.
 -- Assumes nothing.
-use Rattle.shortening.proofs.Whole.{puts}
+use Rattle.shortening.proofs.Call.{puts}
 use borrow.Author.Needs.{needs}
 use Rattle.shortening.proofs.put_shortened.Statement.{statement}
 use Rattle.shortening.proofs.put_shortened.Tie as tie

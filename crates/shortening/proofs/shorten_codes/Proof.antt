@@ -3,7 +3,7 @@
 use native.Mathlib.Omega.{arith}
 use Rattle.shortening.specs.Pass.{OfQuestion}
 use Rattle.shortening.proofs.Pass.{Pass, pass-start, pass-top, pass-end, kept-few, arity-small}
-use Rattle.shortening.proofs.Whole.{leaves}
+use Rattle.shortening.proofs.Call.{leaves}
 use borrow.Author.Needs.{needs}
 use Rattle.shortening.proofs.shorten_codes.Statement.{statement}
 use Rattle.shortening.proofs.shorten_codes.Tie as tie

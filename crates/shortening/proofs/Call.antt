@@ -1,4 +1,4 @@
--- From the codes that are left to the file, and from the question's file to its codes.
+-- The call, put together: from the codes that are left to the file, and from the question's file to its codes.
 -- Assumes nothing.
 use mathlib.Core.Path.{_≡_, sym, ap, _∙_, subst}
 use mathlib.Core.List.{List}

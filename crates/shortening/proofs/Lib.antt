@@ -1,4 +1,5 @@
 -- the pass over the codes
+pub mod Contexts
 pub mod Pending
 pub mod Pass
 -- the call

@@ -18,6 +18,7 @@ use Rattle.symbols.specs.Symbols.{arity}
 use Rattle.shortening.specs.declared.Context.{Context}
 use Rattle.shortening.specs.declared.Context.the-variants.{Elsewhere, Closure, Test}
 use Rattle.shortening.specs.Pass.{turned, kept, closure-context, first-context, second-context}
+use Rattle.shortening.proofs.Contexts.{turned-other, kept-other}
 
 -- ---- where an operand stands, and what becomes of its normal form there
 abbrev bare : PathExpr → PathExpr
@@ -176,21 +177,11 @@ module _ (k : Context) (whole : PathExpr) (rest : List Pend) (l c : ℕ) where
       }
 
 -- ---- by the symbol
--- a code that is no join's is left as it is, and one that is no closure's is kept
-turned-other : (k : Context) (c : ℕ) → (c ≡ 128 → ⊥) → turned k c ≡ c
-turned-other Elsewhere c h = refl
-turned-other Closure c h = refl
-turned-other Test c h = rw (ne-eqb c 128 h)
-
-kept-other : (k : Context) (c : ℕ) → (c ≡ 133 → ⊥) → kept k c ≡ 1
-unfolding kept
-kept-other k c h = rw (ne-eqb c 133 h)
-
 step-turn : (k : Context) (d : Direction) (l : ℕ) (rest : List Pend) → step-code d l < 128 → Turn k (step d l) rest (step-code d l) (step-code d l)
 unfolding arity
 step-turn k d l rest h =
     let c = step-code d l in
-    no-operand k (step d l) rest c c refl (ap codes (placed-step k d l)) (kept-other k c (λ z. omega arith)) (rw (lt-ltb c 128 h))
+    no-operand k (step d l) rest c c refl (ap codes (placed-step k d l)) (sym (kept-other k (λ z. omega arith))) (rw (lt-ltb c 128 h))
 
 join-turn : (k : Context) (p q : PathExpr) (rest : List Pend) → Askable p → Askable q → Turn k (join any p q) rest 128 (turned k 128)
 unfolding kept arity first-context second-context
@@ -217,7 +208,7 @@ op-turn k o p q rest g h =
     let t = placed (second-context c) (normal-form q) in
     let e : becoming k (op o p q) ≡ codes (op o s t) = ap (λ (x : PathExpr). codes (placed k x)) (operated-op k o (normal-form p) (normal-form q)) ∙ ap codes (placed-op k o s t) in
     two-operands k (op o p q) rest c c p q g h (codes-two p q (s-op o)) (e ∙ codes-two s t (s-op o))
-    (kept-other k c (λ z. omega arith)) (rw (le-ltb c 128 (omega arith), ne-eqb c 133 (λ z. omega arith)))
+    (sym (kept-other k (λ z. omega arith))) (rw (le-ltb c 128 (omega arith), ne-eqb c 133 (λ z. omega arith)))
 
 closure-becomes : (k : Context) (s : PathExpr) → codes (placed k (closed s)) ≡ codes (placed (closure-context k) s) ++ take (kept k 133) (133 ∷ [])
 unfolding kept
@@ -238,7 +229,7 @@ both-askable p q (g, h) = ((and-left (plain? p) (plain? q) g, and-left (links? 6
 
 -- only a join's code becomes another
 same-code : {k : Context} {p : PathExpr} {rest : List Pend} {c : ℕ} → (c ≡ 128 → ⊥) → Turn k p rest c c → Turn k p rest c (turned k c)
-same-code {k} {p} {rest} {c} h t = subst (λ (x : ℕ). Turn k p rest c x) (sym (turned-other k c h)) t
+same-code {k} {p} {rest} {c} h t = subst (λ (x : ℕ). Turn k p rest c x) (turned-other k h) t
 
 pub turn-of : (k : Context) (p : PathExpr) (rest : List Pend) → Askable p → Turn k p rest (last p) (turned k (last p))
 turn-of k (step d l) rest g = let m = small-code d l (ltb→lt l 64 (g .1)) in same-code (λ e. omega arith) (step-turn k d l rest m)

@@ -75,10 +75,12 @@ loop-less c = search needs
 
 loop-again : tie.Need-loop-again Inv-loop μ-loop
 loop-again c =
-    let v = c .before .before .before .before .before .before .before .before .loop .inv in (
-      v .0,
-      rw (c .before .before .before .first-context .ensures, c .before .before .second-context .ensures, c .before .operands .ensures, c .keep .ensures, c .before .before .before .before .turn .ensures)
-          (pass-top _ _ _ _ _ _ (c .before .before .before .before .before .before .before .loop-test .taken) (v .1) .next),
+    let turned = c .before .before .before .before in
+    let l = turned .before .before .before in
+    let (q, h) = l .before .loop .inv in (
+      q,
+      rw (c .before .before .before .first-context .ensures, c .before .before .second-context .ensures, c .before .operands .ensures, c .keep .ensures, turned .turn .ensures)
+          (pass-top _ _ _ _ _ _ (l .loop-test .taken) h .next),
     )
 
 returns : tie.Need-returns Inv-loop μ-loop

@@ -29,7 +29,7 @@ closure-kept Test = 0
 unfoldable pub kept : Context → ℕ → ℕ
 kept k c = cond (eqb c 133) (closure-kept k) 1
 
--- where a closure's operand stands, if the closure goes where it stood itself
+-- where a closure's operand stands: right under it, or, if the closure goes, where it stood itself
 abbrev pub closure-context : Context → Context
 closure-context Elsewhere = Closure
 closure-context Closure = Closure

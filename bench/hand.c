@@ -117,33 +117,98 @@ INLINE void branch_left(uint64_t *p, const uint64_t *q, size_t n, size_t words)
             memcpy(p + s * words, q + s * words, words * sizeof *p);
 }
 
-/* One round of Warshall's, over the rows that are not empty. */
-INLINE void close_through(uint64_t *const *rows, size_t count, const uint64_t *through, size_t k, size_t words)
+/* ---- closures */
+
+/* The first bit that a row and both masks have, or 64 times the words. */
+INLINE size_t first(const uint64_t *row, const uint64_t *a, const uint64_t *b, size_t words)
 {
-    uint64_t row[MOST_WORDS];
-    memcpy(row, through, words * sizeof *row);
-    for (size_t i = 0; i < count; i++)
-        if (has_bit(rows[i], k))
-            unite(rows[i], row, words);
+    uint64_t all = 0;
+    for (size_t j = 0; j < words; j++)
+        all |= row[j] & a[j] & b[j];
+    if (all == 0)
+        return 64 * words;
+    for (size_t i = 0;; i++)
+        if (row[i] & a[i] & b[i])
+            return 64 * i + (size_t)__builtin_ctzll(row[i] & a[i] & b[i]);
 }
 
-/* A closure adds neither a source nor a target, so only a record that is both is passed through. */
+INLINE void exclude(uint64_t *restrict from, const uint64_t *restrict row, size_t words)
+{
+    for (size_t j = 0; j < words; j++)
+        from[j] &= ~row[j];
+}
+
+static void clear_bit(uint64_t *row, size_t t)
+{
+    row[t / 64] &= ~((uint64_t)1 << t % 64);
+}
+
+/* Rows that are not empty; of these the ones that are not the closure's yet, and the ones that are. */
+typedef struct {
+    uint64_t live[MOST_WORDS], pending[MOST_WORDS], finished[MOST_WORDS];
+} Marks;
+
+/* The row takes in a finished row that it has, and then the others of its word at once; what they have is not gone through. */
+INLINE void take_finished(uint64_t *row, uint64_t *left, const uint64_t *relation, const Marks *marks, size_t k, size_t words)
+{
+    size_t i = k / 64;
+    unite(row, relation + k * words, words);
+    exclude(left, relation + k * words, words);
+    clear_bit(left, k);
+    uint64_t rest = row[i] & left[i] & marks->finished[i];
+    if (rest == 0)
+        return;
+    uint64_t all[MOST_WORDS] = {0};
+    for (uint64_t v = rest; v != 0; v &= v - 1)
+        unite(all, relation + (64 * i + (size_t)__builtin_ctzll(v)) * words, words);
+    unite(row, all, words);
+    exclude(left, all, words);
+    left[i] &= ~rest;
+}
+
+/* Row s becomes the closure's. */
+INLINE void finish(uint64_t *relation, Marks *marks, size_t s, size_t words)
+{
+    uint64_t row[MOST_WORDS], left[MOST_WORDS];
+    memcpy(row, relation + s * words, words * sizeof *row);
+    memcpy(left, marks->live, words * sizeof *left);
+    for (;;) {
+        size_t k = first(row, left, marks->finished, words);
+        if (k < 64 * words) {
+            take_finished(row, left, relation, marks, k, words);
+            continue;
+        }
+        k = first(row, left, left, words);
+        if (k == 64 * words)
+            break;
+        unite(row, relation + k * words, words);
+        clear_bit(left, k);
+    }
+    memcpy(relation + s * words, row, words * sizeof *row);
+    clear_bit(marks->pending, s);
+    set_bit(marks->finished, s);
+}
+
+/* Rows are finished as a depth-first search leaves them, so that most find finished ones to take in. */
 INLINE void closure(uint64_t *relation, size_t n, size_t words)
 {
-    uint64_t targets[MOST_WORDS] = {0};
-    uint64_t *rows[MOST_RECORDS];
-    size_t count = 0;
-    for (size_t s = 0; s < n; s++) {
-        uint64_t *row = relation + s * words;
-        if (any(row, words)) {
-            rows[count++] = row;
-            unite(targets, row, words);
+    Marks marks = {0};
+    uint64_t unseen[MOST_WORDS];
+    size_t stack[MOST_RECORDS], depth = 0;
+    for (size_t s = 0; s < n; s++)
+        marks.live[s / 64] |= (uint64_t)any(relation + s * words, words) << s % 64;
+    memcpy(marks.pending, marks.live, words * sizeof *unseen);
+    memcpy(unseen, marks.live, words * sizeof *unseen);
+    for (;;) {
+        size_t k = first(depth == 0 ? unseen : relation + stack[depth - 1] * words, unseen, unseen, words);
+        if (k < 64 * words) {
+            clear_bit(unseen, k);
+            stack[depth++] = k;
+        } else if (depth == 0) {
+            return;
+        } else {
+            finish(relation, &marks, stack[--depth], words);
         }
-    }
-    for (size_t i = 0; i < count; i++) {
-        size_t k = (size_t)(rows[i] - relation) / words;
-        if (has_bit(targets, k))
-            close_through(rows, count, rows[i], k, words);
     }
 }
 

@@ -1,15 +1,15 @@
 -- The laws of a bit, over any width.
 -- Assumes nothing.
 use mathlib.Core.Path.{_≡_, refl, sym, ap, _∙_}
-use mathlib.Core.Bool.{true, false, _&&_, _||_, true≢false, false≢true}
+use mathlib.Core.Bool.{true, false, _&&_, _||_, not, true≢false, false≢true}
 use Prim.Native.Nat.{ℕ, zero, suc, _+_, _*_, _/_, _%_, _^_, _<_, _≤_, _-_}
 use native.Mathlib.Nat.{zero-div, div-one, pow-suc, one-mul, div-eq-of-lt, lt-of-lt-of-le}
 use native.Mathlib.Omega.{arith}
 use native.Mathlib.Numerals.{one-add}
 use lib.Dec.{eqb, eqb·suc-zero, eqb·zero-suc, eqb·suc-suc}
-use lib.Bits.{bitOr, bitAnd, or-shr, or-mod, and-shr, and-mod, shifted-half, shifted-even}
+use lib.Bits.{bitOr, bitAnd, bitXor, or-shr, or-mod, and-shr, and-mod, xor-shr, xor-mod, shifted-half, shifted-even}
 use lib.Pow.{pow-pos, pow-mono, shl-exact, shr-shr}
-use Rattle.bits.specs.Bit.{bitOf, withBit}
+use Rattle.bits.specs.Bit.{bitOf, withBit, without}
 
 -- what holds of 0 and of 1 holds of each digit
 pub digit-ind : (P : ℕ → Type 0) → P 0 → P 1 → (n : ℕ) → n < 2 → P n
@@ -102,6 +102,17 @@ bit-and a b k = rw (and-shr, and-mod (a / 2 ^ k) (b / 2 ^ k) 1) (and-digit (a / 
 pub bit-with : (x j k : ℕ) → bitOf (withBit x j) k ≡ bitOf x k || eqb k j
 unfolding withBit
 bit-with x j k = rw (bit-or, bit-pow)
+
+without-digit : (a b : ℕ) → a < 2 → b < 2 → eqb (bitAnd a (bitXor a b)) 1 ≡ eqb a 1 && not (eqb b 1)
+without-digit a b ha hb =
+    digit-ind (λ (n : ℕ). eqb (bitAnd n (bitXor n b)) 1 ≡ eqb n 1 && not (eqb b 1)) refl
+    (digit-ind (λ (n : ℕ). eqb (bitAnd 1 (bitXor 1 n)) 1 ≡ not (eqb n 1)) refl refl b hb) a ha
+
+pub bit-without : (a b k : ℕ) → bitOf (without a b) k ≡ bitOf a k && not (bitOf b k)
+unfolding bitOf without
+bit-without a b k =
+    rw (and-shr, xor-shr, and-mod (a / 2 ^ k) (bitXor (a / 2 ^ k) (b / 2 ^ k)) 1, xor-mod (a / 2 ^ k) (b / 2 ^ k) 1)
+    (without-digit (a / 2 ^ k % 2) (b / 2 ^ k % 2) (digit (a / 2 ^ k)) (digit (b / 2 ^ k)))
 
 eq-digit : (a b : ℕ) → a < 2 → b < 2 → eqb a 1 ≡ eqb b 1 → a ≡ b
 eq-digit a b ha hb =

@@ -1,7 +1,7 @@
-// A word as a set of bits: test, set, lowest. The union of two words is `|` itself.
+// A word as a set of bits: test, set, clear, lowest. The union of two words is `|` itself.
 ghost use mathlib.Core.Path.{_≡_};
-ghost use Prim.Native.Nat.{_<_};
-ghost use Rattle.bits.specs.Bit.{bitOf, withBit, Lowest};
+ghost use Prim.Native.Nat.{_^_, _<_};
+ghost use Rattle.bits.specs.Bit.{bitOf, withBit, without, Lowest};
 
 // Bit k of w.
 pub fn bit(w: u64, k: usize) -> bool
@@ -17,6 +17,14 @@ pub fn with_bit(w: u64, k: usize) -> u64
     ensures { λ r. ⌜ r ≡ withBit w k ⌝ }
 {
     w | (1 << k)
+}
+
+// w without bit k.
+pub fn without_bit(w: u64, k: usize) -> u64
+    requires { ⌜ k < 64 ⌝ }
+    ensures { λ r. ⌜ r ≡ without w (2 ^ k) ⌝ }
+{
+    w & (w ^ (1 << k))
 }
 
 // The number of the lowest bit that is set.

@@ -28,18 +28,6 @@ fn wide(k: Kind) -> usize
     k.0 as usize
 }
 
-// How many of the records from g on a word has: 64, or all that are left.
-fn in_word(n: usize, g: usize) -> usize
-    requires { ⌜ g ≤ n ⌝ }
-    ensures { λ m. ⌜ (m ≤ 64) × (g + m ≤ n) × (m < 64 → g + m ≡ n) ⌝ }
-{
-    let m = n - g;
-    if m < 64 {
-        return m;
-    }
-    64
-}
-
 // The word of a mask for the m records from g on: those whose kind is in the set. No test of a kind is a branch.
 fn kind_word(register: &[u8], g: usize, m: usize, set: u64) -> u64
     requires { ⌜ Accepted (now register) × (g + m ≤ records (register-in (now register))) × (m ≤ 64) ⌝ }
@@ -60,7 +48,7 @@ pub fn kind_mask(mask: &mut [u64], register: &[u8], n: usize, w: usize, set: u64
 {
     for i in 0..w {
         let g = 64 * i;
-        mask[i] = kind_word(register, g, in_word(n, g), set);
+        mask[i] = kind_word(register, g, rows::in_word(n, g), set);
     }
 }
 
@@ -203,7 +191,7 @@ fn apply(
     }
     let a = b - z;
     if closes(number) {
-        relation::closure(work, a, n, w);
+        transitive_closure::closure(work, a, n, w);
         return b;
     }
     combine(work, a - z, a, n, w, register, number, set);

@@ -153,7 +153,7 @@ words-more {rs} xs ms d q w i p b =
         ∙ ap (λ (x : Bool). some? (by-row xs ms d q w t) (range (64 * i)) || x) (some-same (λ j. by-row xs ms d q w t (64 * i + j)) (by-word t) 64 (same t))
 
 -- ---- from zeros, and back into the row at d: a clean row has no bit of n or more
-row-blank : (m t : ℕ) → t / 64 < m → row-bit (replicate m 0) 0 t ≡ false
+pub row-blank : (m t : ℕ) → t / 64 < m → row-bit (replicate m 0) 0 t ≡ false
 unfolding row-bit
 row-blank m t h = ap (λ (x : ℕ). bitOf x (t % 64)) (getD-replicate m (0 + t / 64) 0 0 (omega arith)) ∙ bit-zero (t % 64)
 

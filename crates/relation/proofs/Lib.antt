@@ -10,7 +10,3 @@ pub mod Pair
 pub mod Joining
 -- branches
 pub mod Branches
--- the rows that are not empty
-pub mod Listing
--- the transitive closure
-pub mod Closing

@@ -32,7 +32,3 @@ taken rs xs q w g v p t = row-bit rs 0 t || some? (λ i. bitOf v i && pair-at xs
 -- row r and the rows z of the relation at q, for each z below k that the row at d and the mask have
 unfoldable pub taken-row : List ℕ → List ℕ → List ℕ → ℕ → ℕ → ℕ → ℕ → ℕ → Bool
 taken-row rs xs ms d q w k t = row-bit rs 0 t || some? (λ z. row-bit xs d z && (pair-at xs q w z t && row-bit ms 0 z)) (range k)
-
--- one round of Warshall's: f, and the pairs that lead through k
-abbrev pub through : ℕ → (ℕ → ℕ → Bool) → ℕ → ℕ → Bool
-through k f s t = f s t || (f s k && f k t)

@@ -7,12 +7,10 @@ ghost use lib.Dec.{eqb};
 ghost use lib.ListN.{length};
 ghost use Rattle.bits.specs.Bit.{bitOf};
 ghost use Rattle.theory.specs.Lists.{some?, range};
-ghost use Rattle.theory.specs.TransitiveClosure.{look, closure?};
 ghost use Rattle.theory.specs.PathExpr.{union, conjunction, branch-right, branch-left};
 ghost use Rattle.theory.specs.Evaluation.{join?, op?};
-ghost use Rattle.rows.specs.Row.{row-bit, Row, mask-of};
-ghost use Rattle.relation.specs.Pairs.{pair-at, Made, Clean, CleanRow, taken, taken-row, through};
-ghost use Rattle.relation.specs.Sources.{Sources};
+ghost use Rattle.rows.specs.Row.{row-bit, Row, mask-of, Word};
+ghost use Rattle.relation.specs.Pairs.{pair-at, Made, Clean, CleanRow, taken, taken-row};
 
 // The relation at b has the pair (s, t) too.
 pub fn set_pair(work: &mut [u64], b: usize, n: usize, w: usize, s: usize, t: usize)
@@ -23,7 +21,7 @@ pub fn set_pair(work: &mut [u64], b: usize, n: usize, w: usize, s: usize, t: usi
 }
 
 // The row takes in row g + i of the relation at q, for each bit i of v.
-fn take_word(row: &mut [u64], work: &[u64], q: usize, n: usize, w: usize, g: usize, v: u64)
+pub fn take_word(row: &mut [u64], work: &[u64], q: usize, n: usize, w: usize, g: usize, v: u64)
     requires { ⌜ (w ≤ length (now row)) × (q + n * w ≤ length (now work)) × ((i : ℕ) → bitOf v i ≡ true → g + i < n) ⌝ }
     ensures { λ _. ⌜ Row 0 w (taken (now (row .entry)) (now (work .entry)) q w g v 64) (now (row .entry)) (now (row .exit)) ⌝ }
 {
@@ -110,15 +108,31 @@ pub fn intersection(work: &mut [u64], p: usize, q: usize, n: usize, w: usize)
     }
 }
 
-// The mask becomes the records from which a pair of the relation at q leads.
-fn sources(mask: &mut [u64], work: &[u64], q: usize, n: usize, w: usize)
+// The word of a mask for the m records from g on: those from which a pair of the relation at q leads.
+fn source_word(work: &[u64], q: usize, n: usize, w: usize, g: usize, m: usize) -> u64
+    requires { ⌜ (q + n * w ≤ length (now work)) × (n ≤ 64 * w) × Clean (now work) q n w × (g + m ≤ n) × (m ≤ 64) ⌝ }
+    ensures { λ v. ⌜ Word (λ i. some? (pair-at (now (work .entry)) q w (g + i)) (range n)) m v ⌝ }
+{
+    let mut v = 0;
+    for i in 0..m {
+        if rows::any(work, q + (g + i) * w, w) {
+            v = bits::with_bit(v, i);
+        }
+    }
+    v
+}
+
+// The mask becomes the records from which a pair of the relation at q leads, word by word; g is the first record of word i, or n where all
+// records are done.
+pub fn sources(mask: &mut [u64], work: &[u64], q: usize, n: usize, w: usize)
     requires { ⌜ (w ≤ length (now mask)) × (q + n * w ≤ length (now work)) × (n ≤ 64 * w) × Clean (now work) q n w ⌝ }
     ensures { λ _. ⌜ Row 0 w (mask-of (λ t. some? (pair-at (now (work .entry)) q w t) (range n)) n) (now (mask .entry)) (now (mask .exit)) ⌝ }
 {
-    rows::clear(mask, 0, w);
-    for t in 0..n {
-        let b = rows::any(work, q + t * w, w);
-        rows::set_if(mask, t, b);
+    let mut g = 0;
+    for i in 0..w {
+        let m = rows::in_word(n, g);
+        mask[i] = source_word(work, q, n, w, g, m);
+        g = g + m;
     }
 }
 
@@ -168,85 +182,6 @@ pub fn branch_left(work: &mut [u64], p: usize, q: usize, n: usize, w: usize)
 {
     for s in 0..n {
         branch_row(work, p + s * w, q + s * w, n, w);
-    }
-}
-
-// Where the row at d has k, it takes in row k, which lies in `row`.
-fn close_row(work: &mut [u64], d: usize, w: usize, k: usize, row: &[u64])
-    requires { ⌜ (d + w ≤ length (now work)) × (w ≤ length (now row)) × (k / 64 < w) ⌝ }
-    ensures { λ _. ⌜ Row d w (λ t. row-bit (now (work .entry)) d t || (row-bit (now (work .entry)) d k && row-bit (now (row .entry)) 0 t)) (now (work .entry)) (now (work .exit)) ⌝ }
-{
-    if rows::has(work, d, k) {
-        rows::unite(work, d, row, 0, w);
-    }
-}
-
-fn close_rows(
-    work: &mut [u64],
-    b: usize,
-    n: usize,
-    w: usize,
-    k: usize,
-    row: &[u64],
-    list: &[usize],
-    count: usize,
-)
-    requires { ⌜ (b + n * w ≤ length (now work)) × (n ≤ 64 * w) × (k < n) × (w ≤ length (now row)) × (count ≤ length (now list)) ⌝ }
-    requires { ⌜ ((t : ℕ) → t / 64 < w → row-bit (now row) 0 t ≡ pair-at (now work) b w k t) × Sources (now list) count (now work) b n w ⌝ }
-    ensures { λ _. ⌜ Made b n w (through k (pair-at (now (work .entry)) b w)) (now (work .entry)) (now (work .exit)) ⌝ }
-{
-    for i in 0..count {
-        close_row(work, b + list[i] * w, w, k, row);
-    }
-}
-
-// One round of Warshall's. An empty row k adds nothing; another is copied first, so that no word of it lies where the round writes. An
-// empty row takes nothing in, so that only the rows in the list are looked at.
-fn close_through(
-    work: &mut [u64],
-    b: usize,
-    n: usize,
-    w: usize,
-    k: usize,
-    list: &[usize],
-    count: usize,
-)
-    requires { ⌜ (b + n * w ≤ length (now work)) × (n ≤ 64 * w) × (k < n) × (w ≤ 16) × (count ≤ length (now list)) × Sources (now list) count (now work) b n w ⌝ }
-    ensures { λ _. ⌜ Made b n w (through k (pair-at (now (work .entry)) b w)) (now (work .entry)) (now (work .exit)) ⌝ }
-{
-    let d = b + k * w;
-    if rows::any(work, d, w) {
-        let mut row = [0u64; 16];
-        rows::copy(&mut row, 0, work, d, w);
-        close_rows(work, b, n, w, k, &row, list, count);
-    }
-}
-
-// The list becomes the rows of the relation at b that are not empty; their number.
-fn occupied(list: &mut [usize], work: &[u64], b: usize, n: usize, w: usize) -> usize
-    requires { ⌜ (b + n * w ≤ length (now work)) × (n ≤ length (now list)) ⌝ }
-    ensures { λ c. ⌜ (c ≤ n) × (length (now (list .exit)) ≡ length (now (list .entry))) × Sources (now (list .exit)) c (now (work .entry)) b n w ⌝ }
-{
-    let mut count = 0;
-    for s in 0..n {
-        if rows::any(work, b + s * w, w) {
-            list[count] = s;
-            count = count + 1;
-        }
-    }
-    count
-}
-
-// The relation at b becomes its transitive closure. A round adds a pair only to a row that has one, so that the rows with one are listed
-// once.
-pub fn closure(work: &mut [u64], b: usize, n: usize, w: usize)
-    requires { ⌜ (b + n * w ≤ length (now work)) × (n ≤ 64 * w) × (w ≤ 16) × Clean (now work) b n w ⌝ }
-    ensures { λ _. ⌜ Made b n w (look (closure? n (pair-at (now (work .entry)) b w))) (now (work .entry)) (now (work .exit)) ⌝ }
-{
-    let mut list = [0usize; 1024];
-    let count = occupied(&mut list, work, b, n, w);
-    for k in 0..n {
-        close_through(work, b, n, w, k, &list, count);
     }
 }
 

@@ -8,5 +8,7 @@ pub mod Ranges
 pub mod Rows
 -- the union of a row's words
 pub mod Folded
+-- the first bit of a row
+pub mod Leasts
 -- rows made of a test
 pub mod Masks

@@ -4,7 +4,7 @@ use mathlib.Core.Path.{_≡_, refl, sym, ap, ap₂, _∙_}
 use mathlib.Core.Bool.{Bool, true, false, _&&_, _||_, or-false}
 use mathlib.Core.List.{List}
 use mathlib.Core.Logic.{⊎-elim}
-use Prim.Native.Nat.{ℕ, _+_, _*_, _/_, _%_, _≤_, _<_}
+use Prim.Native.Nat.{ℕ, _+_, _*_, _/_, _%_, _^_, _≤_, _<_}
 use native.Mathlib.Nat.{zero-add, eq-or-lt-of-le}
 use native.Mathlib.Omega.{arith}
 use lib.Bits.{bitOr}
@@ -12,8 +12,8 @@ use lib.Dec.{eqb, ltb}
 use lib.ListN.{length, getD, set}
 use lib.Seq.{getD-set-same, getD-set-other}
 use borrow.Author.Tests.{lt-ltb, le-ltb, eq-eqb, ne-eqb}
-use Rattle.bits.specs.Bit.{bitOf}
-use Rattle.bits.proofs.Bits.{bit-zero, bit-or}
+use Rattle.bits.specs.Bit.{bitOf, withBit}
+use Rattle.bits.proofs.Bits.{bit-zero, bit-or, bit-pow}
 use Rattle.rows.specs.Kept.{Wrote}
 use Rattle.rows.specs.Row.{row-bit, Row, Put, mask-of, Word}
 use Rattle.rows.proofs.Words.{kept-refl, kept-trans, kept-set, le-or-lt}
@@ -69,6 +69,15 @@ pub word-more : {f : ℕ → Bool} {t v : ℕ} (x : ℕ) → Word f t v → ((j 
 unfolding mask-of
 word-more {f} {t} {v} x p e = record { bit = λ j. bit-or v x j ∙ ap₂ _||_ (p .bit j) (e j) ∙ next-below f t j }
 
+-- bit t passes, or not
+pub word-yes : {f : ℕ → Bool} {t v : ℕ} → Word f t v → f t ≡ true → Word f (t + 1) (withBit v t)
+unfolding withBit
+word-yes {t = t} p e = word-more (2 ^ t) p (λ j. rw e (bit-pow t j))
+
+pub word-no : {f : ℕ → Bool} {t v : ℕ} → Word f t v → f t ≡ false → Word f (t + 1) v
+unfolding mask-of
+word-no {f} {t} p e = record { bit = λ j. p .bit j ∙ sym (or-false (ltb j t && f j)) ∙ rw e at (next-below f t j) }
+
 -- no word yet of a row
 pub mask-start : (f : ℕ → Bool) (n : ℕ) (xs : List ℕ) → Row 0 0 (mask-of f n) xs xs
 mask-start f n xs = record { kept = kept-refl 0 (0 + 0) xs; bit = λ t h. absurd (omega arith) }
@@ -105,3 +114,29 @@ mask-word {n} {i} {m} {v} f p q l last h = row-word v p h (λ j k. q .bit j ∙ 
         (λ (g : m ≤ j). le-ltb j m g ∙ sym (le-ltb (64 * i + j) n (omega (arith, last (omega arith)))))
         (λ (g : j < m). lt-ltb j m g ∙ sym (lt-ltb (64 * i + j) n (omega arith)))
         (le-or-lt m j)
+
+-- g is the first number of word i, or n where all numbers are in the words before it
+pub record Begins (n i g : ℕ) : Type 0 where
+  pub most : g ≤ n
+  pub within : g ≤ 64 * i
+  pub full : g < n → g ≡ 64 * i
+
+pub begins-none : (n : ℕ) → Begins n 0 0
+begins-none n = record { most = omega arith; within = omega arith; full = λ h. refl }
+
+pub begins-more : {n i g m : ℕ} → Begins n i g → m ≤ 64 → g + m ≤ n → (m < 64 → g + m ≡ n) → Begins n (i + 1) (g + m)
+begins-more {n} {i} {g} {m} b k l last =
+    record {
+      most = l;
+      within = omega (arith, b .within);
+      full = λ h. ⊎-elim (λ (z : 64 ≤ m). omega (arith, b .full (omega arith))) (λ (z : m < 64). absurd (omega (arith, last z))) (le-or-lt 64 m);
+    }
+
+-- the numbers from g on make word i
+pub mask-from : {n i g m v : ℕ} {xs ys : List ℕ} (f : ℕ → Bool) → Row 0 i (mask-of f n) xs ys → Begins n i g → Word (λ j. f (g + j)) m v → g + m ≤ n → (m < 64 → g + m ≡ n)
+    → i < length ys → Row 0 (i + 1) (mask-of f n) xs (set ys i v)
+mask-from {n} {i} {g} {m} {v} {xs} {ys} f p b q l last h =
+    ⊎-elim
+    (λ (e : g ≡ n). row-word v p h (λ j k. q .bit j ∙ mask-past (λ j. f (g + j)) m j (omega arith) ∙ sym (mask-past f n (64 * i + j) (omega (arith, b .within)))))
+    (λ (k : g < n). let e = b .full k in mask-word f p (rw e at q) (rw e at l) (rw e at last) h)
+    (eq-or-lt-of-le (b .most))

@@ -1,7 +1,7 @@
 -- Rows of bits: what a loop over words says of the bits, and changes of a row one after another.
 -- Assumes nothing.
 use mathlib.Core.Path.{_≡_, refl, sym, ap, _∙_}
-use mathlib.Core.Bool.{Bool, true, false, _&&_, _||_, or-false}
+use mathlib.Core.Bool.{Bool, true, false, _&&_, _||_, not, and-true, or-false}
 use mathlib.Core.List.{List}
 use mathlib.Core.Logic.{_⊎_, inl, inr, ⊎-elim}
 use Prim.Native.Nat.{ℕ, _+_, _*_, _/_, _%_, _^_, _≤_, _<_}
@@ -12,8 +12,8 @@ use lib.Dec.{eqb}
 use lib.ListN.{length, getD, set}
 use lib.Seq.{getD-set-same, getD-set-other}
 use borrow.Author.Tests.{eq-eqb, ne-eqb}
-use Rattle.bits.specs.Bit.{bitOf, withBit}
-use Rattle.bits.proofs.Bits.{bit-zero, bit-or, bit-and, bit-with, some-bit}
+use Rattle.bits.specs.Bit.{bitOf, withBit, without}
+use Rattle.bits.proofs.Bits.{bit-zero, bit-or, bit-and, bit-pow, bit-with, bit-without, some-bit}
 use Rattle.theory.specs.Lists.{some?, range}
 use Rattle.rows.specs.Kept.{Kept, Wrote}
 use Rattle.rows.specs.Row.{row-bit, Row, Put}
@@ -59,6 +59,10 @@ module _ {d w : ℕ} {xs ys : List ℕ} (rs : List ℕ) (s : ℕ) where
   unfolding row-bit
   row-and p = record { kept = p .kept; bit = λ t h. ap (λ (x : ℕ). bitOf x (t % 64)) (p .word (t / 64) h) ∙ bit-and (getD xs (d + t / 64) 0) (getD rs (s + t / 64) 0) (t % 64) }
 
+  pub row-without : Wrote d w (λ j. without (getD xs (d + j) 0) (getD rs (s + j) 0)) xs ys → Row d w (λ t. row-bit xs d t && not (row-bit rs s t)) xs ys
+  unfolding row-bit
+  row-without p = record { kept = p .kept; bit = λ t h. ap (λ (x : ℕ). bitOf x (t % 64)) (p .word (t / 64) h) ∙ bit-without (getD xs (d + t / 64) 0) (getD rs (s + t / 64) 0) (t % 64) }
+
   pub row-masked : (ms : List ℕ) → Wrote d w (λ j. bitOr (getD xs (d + j) 0) (bitAnd (getD rs (s + j) 0) (getD ms j 0))) xs ys
       → Row d w (λ t. row-bit xs d t || (row-bit rs s t && row-bit ms 0 t)) xs ys
   unfolding row-bit
@@ -78,17 +82,26 @@ eq-or-ne a b = ⊎-elim (λ l. ⊎-elim inl (λ m. inr (omega arith)) (eq-or-lt-
 eqb-same : (a b c d : ℕ) → (a ≡ b → c ≡ d) → (c ≡ d → a ≡ b) → eqb a b ≡ eqb c d
 eqb-same a b c d f g = ⊎-elim (λ e. eq-eqb a b e ∙ sym (eq-eqb c d (f e))) (λ n. ne-eqb a b n ∙ sym (ne-eqb c d (λ e. n (g e)))) (eq-or-ne a b)
 
--- word t / 64 of the row at d has bit t % 64 too
-pub put-bit : (xs : List ℕ) (d t v : ℕ) → d + t / 64 < length xs → v ≡ withBit (getD xs (d + t / 64) 0) (t % 64) → Put d t (λ j. row-bit xs d j || eqb j t) xs (set xs (d + t / 64) v)
+-- word t / 64 of the row at d changes in bit t % 64 alone
+put-word : (xs : List ℕ) (d t v : ℕ) (h : Bool → Bool → Bool) → ((x : Bool) → h x false ≡ x) → d + t / 64 < length xs
+    → ((j : ℕ) → bitOf v j ≡ h (bitOf (getD xs (d + t / 64) 0) j) (eqb j (t % 64))) → Put d t (λ j. h (row-bit xs d j) (eqb j t)) xs (set xs (d + t / 64) v)
 unfolding row-bit
-put-bit xs d t v l e w h =
+put-word xs d t v h z l e w k =
     record {
       kept = kept-in (kept-set xs (d + t / 64) v) (omega arith) (omega arith);
-      bit = λ j k. ⊎-elim
-          (λ q. rw (q, getD-set-same xs (d + t / 64) v 0 l, eqb-same j t (j % 64) (t % 64) (λ p. ap (λ (x : ℕ). x % 64) p) (λ p. omega arith), e) (bit-with (getD xs (d + t / 64) 0) (t % 64) (j % 64)))
-          (λ n. rw (getD-set-other xs (d + t / 64) (d + j / 64) v 0 (λ p. n (omega arith)), ne-eqb j t (λ p. n (ap (λ (x : ℕ). x / 64) p))) (sym (or-false _)))
+      bit = λ j m. ⊎-elim
+          (λ q. rw (q, getD-set-same xs (d + t / 64) v 0 l, eqb-same j t (j % 64) (t % 64) (λ p. ap (λ (x : ℕ). x % 64) p) (λ p. omega arith)) (e (j % 64)))
+          (λ n. rw (getD-set-other xs (d + t / 64) (d + j / 64) v 0 (λ p. n (omega arith)), ne-eqb j t (λ p. n (ap (λ (x : ℕ). x / 64) p))) (sym (z _)))
           (eq-or-ne (j / 64) (t / 64));
     }
+
+-- it is set
+pub put-bit : (xs : List ℕ) (d t v : ℕ) → d + t / 64 < length xs → v ≡ withBit (getD xs (d + t / 64) 0) (t % 64) → Put d t (λ j. row-bit xs d j || eqb j t) xs (set xs (d + t / 64) v)
+put-bit xs d t v l e = put-word xs d t v _||_ or-false l (λ j. rw e (bit-with (getD xs (d + t / 64) 0) (t % 64) j))
+
+-- it is cleared
+pub put-none : (xs : List ℕ) (d t v : ℕ) → d + t / 64 < length xs → v ≡ without (getD xs (d + t / 64) 0) (2 ^ (t % 64)) → Put d t (λ j. row-bit xs d j && not (eqb j t)) xs (set xs (d + t / 64) v)
+put-none xs d t v l e = put-word xs d t v (λ x y. x && not y) and-true l (λ j. rw (e, bit-without (getD xs (d + t / 64) 0) (2 ^ (t % 64)) j, bit-pow (t % 64) j))
 
 pub put-yes : {b : Bool} {xs ys : List ℕ} (t : ℕ) → Put 0 t (λ j. row-bit xs 0 j || eqb j t) xs ys → b ≡ true → Put 0 t (λ j. row-bit xs 0 j || (b && eqb j t)) xs ys
 put-yes t p e w h = rw e (p w h)
@@ -96,16 +109,15 @@ put-yes t p e w h = rw e (p w h)
 pub put-no : {b : Bool} (t : ℕ) (xs : List ℕ) → b ≡ false → Put 0 t (λ j. row-bit xs 0 j || (b && eqb j t)) xs xs
 put-no t xs e w h = rw e (row-is (row-same 0 w xs) (λ j l. sym (or-false (row-bit xs 0 j))))
 
--- ---- whether a row has a bit: no, if its words are 0; yes, if one is not
-pub row-none : (xs : List ℕ) (r w : ℕ) → ((j : ℕ) → j < w → getD xs (r + j) 0 ≡ 0) → some? (row-bit xs r) (range (64 * w)) ≡ false
-unfolding row-bit
-row-none xs r w e = some-none _ (64 * w) (λ t h. ap (λ (x : ℕ). bitOf x (t % 64)) (e (t / 64) (omega arith)) ∙ bit-zero (t % 64))
+-- ---- whether a row has a bit, where word i of it is g i: no, if its words are 0; yes, if one is not
+module _ (f : ℕ → Bool) (g : ℕ → ℕ) (w : ℕ) (bits : (t : ℕ) → t / 64 < w → f t ≡ bitOf (g (t / 64)) (t % 64)) where
+  pub row-none : ((j : ℕ) → j < w → g j ≡ 0) → some? f (range (64 * w)) ≡ false
+  row-none e = some-none f (64 * w) (λ t h. bits t (omega arith) ∙ ap (λ (x : ℕ). bitOf x (t % 64)) (e (t / 64) (omega arith)) ∙ bit-zero (t % 64))
 
-pub row-some : (xs : List ℕ) (r w j : ℕ) → j < w → getD xs (r + j) 0 < 2 ^ 64 → (getD xs (r + j) 0 ≡ 0 → ⊥) → some? (row-bit xs r) (range (64 * w)) ≡ true
-unfolding row-bit
-row-some xs r w j h l n =
-    let b = some-bit 64 (getD xs (r + j) 0) l n in
-    let lt = b .1 in
-    let d : (64 * j + b .0) / 64 ≡ j = omega arith in
-    let m : (64 * j + b .0) % 64 ≡ b .0 = omega arith in
-    some-one _ (64 * w) (64 * j + b .0) (omega arith) (rw (d, m) (b .2))
+  pub row-some : (j : ℕ) → j < w → g j < 2 ^ 64 → (g j ≡ 0 → ⊥) → some? f (range (64 * w)) ≡ true
+  row-some j h l n =
+      let b = some-bit 64 (g j) l n in
+      let lt = b .1 in
+      let d : (64 * j + b .0) / 64 ≡ j = omega arith in
+      let m : (64 * j + b .0) % 64 ≡ b .0 = omega arith in
+      some-one f (64 * w) (64 * j + b .0) (omega arith) (bits (64 * j + b .0) (omega arith) ∙ rw (d, m) (b .2))

@@ -1,9 +1,9 @@
 -- A row of bits in a list of words.
 -- Assumes nothing.
 use mathlib.Core.Path.{_≡_}
-use mathlib.Core.Bool.{Bool, _&&_}
+use mathlib.Core.Bool.{Bool, true, false, _&&_}
 use mathlib.Core.List.{List}
-use Prim.Native.Nat.{ℕ, _+_, _/_, _%_, _<_}
+use Prim.Native.Nat.{ℕ, _+_, _/_, _%_, _<_, _≤_}
 use lib.Dec.{ltb}
 use lib.ListN.{getD}
 use Rattle.bits.specs.Bit.{bitOf}
@@ -29,3 +29,13 @@ mask-of f n j = ltb j n && f j
 -- v is the word of those bits
 pub record Word (f : ℕ → Bool) (n v : ℕ) : Type 0 where
   pub bit : (j : ℕ) → bitOf v j ≡ mask-of f n j
+
+-- bit t, where the row at r and both masks have it
+abbrev pub common : List ℕ → ℕ → List ℕ → List ℕ → ℕ → Bool
+common xs r ps qs t = row-bit xs r t && (row-bit ps 0 t && row-bit qs 0 t)
+
+-- k is the least number below m that passes a test, or m where none does
+pub record Least (f : ℕ → Bool) (m k : ℕ) : Type 0 where
+  pub most : k ≤ m
+  pub here : k < m → f k ≡ true
+  pub below : (j : ℕ) → j < k → f j ≡ false

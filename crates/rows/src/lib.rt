@@ -1,12 +1,12 @@
 // Rows of bits in words that are lent: bit t of the row at word r is bit t mod 64 of word r + t div 64.
 ghost use mathlib.Core.Path.{_≡_};
-ghost use mathlib.Core.Bool.{_&&_, _||_};
+ghost use mathlib.Core.Bool.{_&&_, _||_, not};
 ghost use Prim.Native.Nat.{ℕ, _+_, _*_, _/_, _<_, _≤_};
 ghost use lib.Dec.{eqb};
 ghost use lib.ListN.{length};
 ghost use Rattle.theory.specs.Lists.{some?, range};
 ghost use Rattle.rows.specs.Kept.{Wrote};
-ghost use Rattle.rows.specs.Row.{row-bit, Row, Put};
+ghost use Rattle.rows.specs.Row.{row-bit, Row, Put, common, Least};
 
 // Bit t of the row at r.
 pub fn has(words: &[u64], r: usize, t: usize) -> bool
@@ -23,6 +23,15 @@ pub fn set(words: &mut [u64], d: usize, t: usize)
 {
     let a = d + t / 64;
     words[a] = bits::with_bit(words[a], t % 64);
+}
+
+// The row at d loses bit t.
+pub fn unset(words: &mut [u64], d: usize, t: usize)
+    requires { ⌜ d + t / 64 < length (now words) ⌝ }
+    ensures { λ _. ⌜ Put d t (λ j. row-bit (now (words .entry)) d j && not (eqb j t)) (now (words .entry)) (now (words .exit)) ⌝ }
+{
+    let a = d + t / 64;
+    words[a] = bits::without_bit(words[a], t % 64);
 }
 
 // The row at the start has bit t too, where b is true.
@@ -45,6 +54,18 @@ pub fn clear(words: &mut [u64], d: usize, n: usize)
     }
 }
 
+// How many of the numbers from g on, below n, a word has: 64, or all that are left.
+pub fn in_word(n: usize, g: usize) -> usize
+    requires { ⌜ g ≤ n ⌝ }
+    ensures { λ m. ⌜ (m ≤ 64) × (g + m ≤ n) × (m < 64 → g + m ≡ n) ⌝ }
+{
+    let m = n - g;
+    if m < 64 {
+        return m;
+    }
+    64
+}
+
 // As `any`, by a loop: the union of the words, so that no turn hangs on the one before it.
 fn any_words(words: &[u64], r: usize, n: usize) -> bool
     requires { ⌜ r + n ≤ length (now words) ⌝ }
@@ -57,15 +78,72 @@ fn any_words(words: &[u64], r: usize, n: usize) -> bool
     v != 0
 }
 
-// Whether the row of n words at r has a bit. Of constant length at 16 words, as `copy`.
+// Whether the row of n words at r has a bit. Of constant length where `copy` is.
 pub fn any(words: &[u64], r: usize, n: usize) -> bool
     requires { ⌜ r + n ≤ length (now words) ⌝ }
     ensures { λ a. ⌜ a ≡ some? (row-bit (now (words .entry)) r) (range (64 * n)) ⌝ }
 {
-    if n == 16 {
-        return any_words(words, r, 16);
+    match n {
+        1 => any_words(words, r, 1),
+        2 => any_words(words, r, 2),
+        4 => any_words(words, r, 4),
+        8 => any_words(words, r, 8),
+        16 => any_words(words, r, 16),
+        _ => any_words(words, r, n),
     }
-    any_words(words, r, n)
+}
+
+// As `meets`, by a loop.
+fn meets_words(words: &[u64], r: usize, a: &[u64], b: &[u64], n: usize) -> bool
+    requires { ⌜ (r + n ≤ length (now words)) × (n ≤ length (now a)) × (n ≤ length (now b)) ⌝ }
+    ensures { λ m. ⌜ m ≡ some? (common (now (words .entry)) r (now (a .entry)) (now (b .entry))) (range (64 * n)) ⌝ }
+{
+    let mut v = 0;
+    for j in 0..n {
+        v = v | (words[r + j] & (a[j] & b[j]));
+    }
+    v != 0
+}
+
+// Whether the row of n words at r and both masks have a bit in common. Of constant length where `copy` is.
+fn meets(words: &[u64], r: usize, a: &[u64], b: &[u64], n: usize) -> bool
+    requires { ⌜ (r + n ≤ length (now words)) × (n ≤ length (now a)) × (n ≤ length (now b)) ⌝ }
+    ensures { λ m. ⌜ m ≡ some? (common (now (words .entry)) r (now (a .entry)) (now (b .entry))) (range (64 * n)) ⌝ }
+{
+    match n {
+        1 => meets_words(words, r, a, b, 1),
+        2 => meets_words(words, r, a, b, 2),
+        4 => meets_words(words, r, a, b, 4),
+        8 => meets_words(words, r, a, b, 8),
+        16 => meets_words(words, r, a, b, 16),
+        _ => meets_words(words, r, a, b, n),
+    }
+}
+
+// As `first`, word by word up to the first that has a bit.
+fn first_by_word(words: &[u64], r: usize, a: &[u64], b: &[u64], n: usize) -> usize
+    requires { ⌜ (r + n ≤ length (now words)) × (n ≤ length (now a)) × (n ≤ length (now b)) × (n ≤ 16) ⌝ }
+    ensures { λ k. ⌜ Least (common (now (words .entry)) r (now (a .entry)) (now (b .entry))) (64 * n) k ⌝ }
+{
+    for i in 0..n {
+        let v = words[r + i] & (a[i] & b[i]);
+        if v != 0 {
+            return 64 * i + bits::lowest(v);
+        }
+    }
+    64 * n
+}
+
+// The first bit that the row of n words at r and both masks have; 64 n where there is none. That there is none is told by a loop that is
+// made wide, without a branch for each word.
+pub fn first(words: &[u64], r: usize, a: &[u64], b: &[u64], n: usize) -> usize
+    requires { ⌜ (r + n ≤ length (now words)) × (n ≤ length (now a)) × (n ≤ length (now b)) × (n ≤ 16) ⌝ }
+    ensures { λ k. ⌜ Least (common (now (words .entry)) r (now (a .entry)) (now (b .entry))) (64 * n) k ⌝ }
+{
+    if meets(words, r, a, b, n) {
+        return first_by_word(words, r, a, b, n);
+    }
+    64 * n
 }
 
 // As `copy`, by a loop.
@@ -78,16 +156,19 @@ fn copy_words(to: &mut [u64], d: usize, from: &[u64], s: usize, n: usize)
     }
 }
 
-// The row of n words at d becomes the one at s. A row of 16 words, that of the largest registers, is worth a loop of constant length.
+// The row of n words at d becomes the one at s. Rows of 1, 2, 4, 8 and 16 words are worth a loop of constant length.
 pub fn copy(to: &mut [u64], d: usize, from: &[u64], s: usize, n: usize)
     requires { ⌜ (d + n ≤ length (now to)) × (s + n ≤ length (now from)) ⌝ }
     ensures { λ _. ⌜ Row d n (row-bit (now (from .entry)) s) (now (to .entry)) (now (to .exit)) ⌝ }
 {
-    if n == 16 {
-        copy_words(to, d, from, s, 16);
-        return;
+    match n {
+        1 => copy_words(to, d, from, s, 1),
+        2 => copy_words(to, d, from, s, 2),
+        4 => copy_words(to, d, from, s, 4),
+        8 => copy_words(to, d, from, s, 8),
+        16 => copy_words(to, d, from, s, 16),
+        _ => copy_words(to, d, from, s, n),
     }
-    copy_words(to, d, from, s, n);
 }
 
 // As `unite`, by a loop.
@@ -100,16 +181,19 @@ fn unite_words(to: &mut [u64], d: usize, from: &[u64], s: usize, n: usize)
     }
 }
 
-// The row of n words at d takes in the bits of the one at s. Of constant length at 16 words, as `copy`.
+// The row of n words at d takes in the bits of the one at s. Of constant length where `copy` is.
 pub fn unite(to: &mut [u64], d: usize, from: &[u64], s: usize, n: usize)
     requires { ⌜ (d + n ≤ length (now to)) × (s + n ≤ length (now from)) ⌝ }
     ensures { λ _. ⌜ Row d n (λ t. row-bit (now (to .entry)) d t || row-bit (now (from .entry)) s t) (now (to .entry)) (now (to .exit)) ⌝ }
 {
-    if n == 16 {
-        unite_words(to, d, from, s, 16);
-        return;
+    match n {
+        1 => unite_words(to, d, from, s, 1),
+        2 => unite_words(to, d, from, s, 2),
+        4 => unite_words(to, d, from, s, 4),
+        8 => unite_words(to, d, from, s, 8),
+        16 => unite_words(to, d, from, s, 16),
+        _ => unite_words(to, d, from, s, n),
     }
-    unite_words(to, d, from, s, n);
 }
 
 // As `restrict`, by a loop.
@@ -122,16 +206,45 @@ fn restrict_words(to: &mut [u64], d: usize, from: &[u64], s: usize, n: usize)
     }
 }
 
-// The row of n words at d loses the bits that the one at s lacks. Of constant length at 16 words, as `copy`.
+// The row of n words at d loses the bits that the one at s lacks. Of constant length where `copy` is.
 pub fn restrict(to: &mut [u64], d: usize, from: &[u64], s: usize, n: usize)
     requires { ⌜ (d + n ≤ length (now to)) × (s + n ≤ length (now from)) ⌝ }
     ensures { λ _. ⌜ Row d n (λ t. row-bit (now (to .entry)) d t && row-bit (now (from .entry)) s t) (now (to .entry)) (now (to .exit)) ⌝ }
 {
-    if n == 16 {
-        restrict_words(to, d, from, s, 16);
-        return;
+    match n {
+        1 => restrict_words(to, d, from, s, 1),
+        2 => restrict_words(to, d, from, s, 2),
+        4 => restrict_words(to, d, from, s, 4),
+        8 => restrict_words(to, d, from, s, 8),
+        16 => restrict_words(to, d, from, s, 16),
+        _ => restrict_words(to, d, from, s, n),
     }
-    restrict_words(to, d, from, s, n);
+}
+
+// As `exclude`, by a loop.
+fn exclude_words(to: &mut [u64], d: usize, from: &[u64], s: usize, n: usize)
+    requires { ⌜ (d + n ≤ length (now to)) × (s + n ≤ length (now from)) ⌝ }
+    ensures { λ _. ⌜ Row d n (λ t. row-bit (now (to .entry)) d t && not (row-bit (now (from .entry)) s t)) (now (to .entry)) (now (to .exit)) ⌝ }
+{
+    for j in 0..n {
+        let x = to[d + j];
+        to[d + j] = x & (x ^ from[s + j]);
+    }
+}
+
+// The row of n words at d loses the bits of the one at s. Of constant length where `copy` is.
+pub fn exclude(to: &mut [u64], d: usize, from: &[u64], s: usize, n: usize)
+    requires { ⌜ (d + n ≤ length (now to)) × (s + n ≤ length (now from)) ⌝ }
+    ensures { λ _. ⌜ Row d n (λ t. row-bit (now (to .entry)) d t && not (row-bit (now (from .entry)) s t)) (now (to .entry)) (now (to .exit)) ⌝ }
+{
+    match n {
+        1 => exclude_words(to, d, from, s, 1),
+        2 => exclude_words(to, d, from, s, 2),
+        4 => exclude_words(to, d, from, s, 4),
+        8 => exclude_words(to, d, from, s, 8),
+        16 => exclude_words(to, d, from, s, 16),
+        _ => exclude_words(to, d, from, s, n),
+    }
 }
 
 // As `unite_masked`, by a loop.
@@ -144,14 +257,17 @@ fn unite_masked_words(to: &mut [u64], d: usize, from: &[u64], s: usize, mask: &[
     }
 }
 
-// The row of n words at d takes in those bits of the one at s that the mask has. Of constant length at 16 words, as `copy`.
+// The row of n words at d takes in those bits of the one at s that the mask has. Of constant length where `copy` is.
 pub fn unite_masked(to: &mut [u64], d: usize, from: &[u64], s: usize, mask: &[u64], n: usize)
     requires { ⌜ (d + n ≤ length (now to)) × (s + n ≤ length (now from)) × (n ≤ length (now mask)) ⌝ }
     ensures { λ _. ⌜ Row d n (λ t. row-bit (now (to .entry)) d t || (row-bit (now (from .entry)) s t && row-bit (now (mask .entry)) 0 t)) (now (to .entry)) (now (to .exit)) ⌝ }
 {
-    if n == 16 {
-        unite_masked_words(to, d, from, s, mask, 16);
-        return;
+    match n {
+        1 => unite_masked_words(to, d, from, s, mask, 1),
+        2 => unite_masked_words(to, d, from, s, mask, 2),
+        4 => unite_masked_words(to, d, from, s, mask, 4),
+        8 => unite_masked_words(to, d, from, s, mask, 8),
+        16 => unite_masked_words(to, d, from, s, mask, 16),
+        _ => unite_masked_words(to, d, from, s, mask, n),
     }
-    unite_masked_words(to, d, from, s, mask, n);
 }

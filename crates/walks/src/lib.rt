@@ -55,7 +55,7 @@ pub fn graph(words: &[u64], question: &[u8], s: usize, e: usize, work: &mut [u64
 {
     let mut mask = [0u64; 1];
     edges(words, question, s, e, work);
-    relation::closure(work, 0, 64, 1);
+    transitive_closure::closure(work, 0, 64, 1);
     cyclic(&mut mask, work);
     double(work);
     relation::join(work, 0, 64, 64, 1, &mask);

@@ -16,7 +16,7 @@ use Rattle.evaluation.proofs.apply.Lts as lts
 use Rattle.evaluation.proofs.closes.Reads as closes-reads
 use Rattle.evaluation.proofs.combine.Reads as combine-reads
 use Rattle.evaluation.proofs.step.Reads as step-reads
-use Rattle.relation.proofs.closure.Reads as closure-reads
+use Rattle.transitive_closure.proofs.closure.Reads as closure-reads
 
 mul-z : tie.Need-mul-z
 mul-z c = omega (arith, small (c .before .before .pre .0))

@@ -14,8 +14,8 @@ use Rattle.evaluation.proofs.kind_mask.Statement.{statement}
 use Rattle.evaluation.proofs.kind_mask.Tie as tie
 use Rattle.evaluation.proofs.kind_mask.Reads as reads
 use Rattle.evaluation.proofs.kind_mask.Lts as lts
-use Rattle.evaluation.proofs.in_word.Reads as in-word-reads
 use Rattle.evaluation.proofs.kind_word.Reads as kind-word-reads
+use Rattle.rows.proofs.in_word.Reads as in-word-reads
 
 abbrev Inv-loop : tie.InvT-loop
 Inv-loop mask₀ register n w set i₀ mask i = (i ≤ w) × Row 0 i (mask-of (λ t. has set (kind (register-in register) t)) n) mask₀ mask

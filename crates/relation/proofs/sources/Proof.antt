@@ -1,67 +1,63 @@
--- `relation::sources` meets its contract.
+-- `relation::sources` meets its contract: each turn makes one word of the mask, up to the last record and then of none.
 -- Assumes nothing.
-use Rattle.rows.proofs.Rows.{row-zero, row-now, row-then}
-use Rattle.relation.proofs.Clean.{clean-some}
-use Rattle.relation.proofs.Making.{row-le}
 use Rattle.relation.specs.Pairs.{pair-at}
-use Rattle.rows.proofs.Masks.{mask-none, mask-more}
+use Rattle.rows.proofs.Masks.{mask-start, Begins, begins-none, begins-more, mask-from}
 use Rattle.rows.specs.Row.{Row, mask-of}
 use Rattle.theory.specs.Lists.{some?, range}
-use mathlib.Core.Bool.{Bool}
-use mathlib.Core.Path.{_≡_, _∙_}
+use mathlib.Core.Path.{_≡_}
 use borrow.Author.Needs.{needs}
-use Prim.Native.Nat.{ℕ, _-_, _≤_}
+use Prim.Native.Nat.{_-_, _≤_}
 use native.Mathlib.Omega.{arith}
 use Rattle.relation.proofs.sources.Statement.{statement}
 use Rattle.relation.proofs.sources.Tie as tie
 use Rattle.relation.proofs.sources.Reads as reads
 use Rattle.relation.proofs.sources.Lts as lts
-use Rattle.rows.proofs.any.Reads as any-reads
-use Rattle.rows.proofs.clear.Reads as clear-reads
-use Rattle.rows.proofs.set_if.Reads as set-if-reads
+use Rattle.relation.proofs.source_word.Reads as source-word-reads
+use Rattle.rows.proofs.in_word.Reads as in-word-reads
 
 abbrev Inv-loop : tie.InvT-loop
-Inv-loop mask₀ work q n w t₀ mask t = (t ≤ n) × Row 0 w (mask-of (λ i. some? (pair-at work q w i) (range n)) t) mask₀ mask
+Inv-loop mask₀ work q n w g₀ i₀ mask g i = (i ≤ w) × Begins n i g × Row 0 i (mask-of (λ t. some? (pair-at work q w t) (range n)) n) mask₀ mask
 
 abbrev μ-loop : tie.MeasureT-loop
-μ-loop mask₀ work q n w t₀ mask t = n - t
-
-clear-requires : tie.Need-clear-requires Inv-loop μ-loop
-clear-requires c κs = search needs
+μ-loop mask₀ work q n w g₀ i₀ mask g i = w - i
 
 loop-holds : tie.Need-loop-holds Inv-loop μ-loop
-loop-holds c = (omega arith, row-now (mask-none _ (c .before .before .clear .ensures)))
+loop-holds c = (omega arith, begins-none _, mask-start _ _ _)
 
-mul-any : tie.Need-mul-any Inv-loop μ-loop
-mul-any c = omega (arith, row-le (c .before .before .before .before .before .before .before .before .args .w) (c .loop-test .taken))
+in-word-requires : tie.Need-in-word-requires Inv-loop μ-loop
+in-word-requires c κs = c .before .loop .inv .1 .most
 
-add-any : tie.Need-add-any Inv-loop μ-loop
-add-any c = omega (arith, row-le (c .before .before .before .before .before .before .before .before .args .w) (c .loop-test .taken))
+source-word-requires : tie.Need-source-word-requires Inv-loop μ-loop
+source-word-requires c κs =
+    let r = c .before .before .before .before .before .pre in
+    (r .1, r .2, r .3, c .in-word .ensures .1, c .in-word .ensures .0)
 
-any-requires : tie.Need-any-requires Inv-loop μ-loop
-any-requires c κs = omega (arith, row-le (c .before .before .before .before .before .before .before .before .args .w) (c .loop-test .taken))
+mul-mask : tie.Need-mul-mask Inv-loop μ-loop
+mul-mask c = search needs
 
-set-if-requires : tie.Need-set-if-requires Inv-loop μ-loop
-set-if-requires c κs = search needs
+slice-write-mask : tie.Need-slice-write-mask Inv-loop μ-loop
+slice-write-mask c = omega (arith, c .before .before .before .loop .inv .2 .kept .len)
 
-add-t : tie.Need-add-t Inv-loop μ-loop
-add-t c = search needs
+add-g : tie.Need-add-g Inv-loop μ-loop
+add-g c = search needs
+
+add-i : tie.Need-add-i Inv-loop μ-loop
+add-i c = search needs
 
 loop-less : tie.Need-loop-less Inv-loop μ-loop
 loop-less c = search needs
 
 loop-again : tie.Need-loop-again Inv-loop μ-loop
 loop-again c =
-    let a = c .before .before .before .before .before .before .before .before .before .before .before .before .before .args in
-    let l = c .before .before .before .before .before .before .loop in
-    let f : ℕ → Bool = λ i. some? (pair-at (a .work .now) (a .q) (a .w) i) (range (a .n)) in
-    (omega arith, mask-more f (l .t) _ (l .inv .1) (c .before .before .before .before .any .ensures ∙ clean-some _ _ _ _ (c .before .before .before .before .before .before .before .before .before .before .before .before .before .pre .3 (l .t) (omega arith)) (omega arith)) (c .before .before .set-if .ensures) (omega arith))
+    let v = c .before .before .before .loop .inv in
+    let m = c .before .in-word .ensures in
+    (omega arith, begins-more (v .1) (m .0) (m .1) (m .2), mask-from _ (v .2) (v .1) (c .source-word .ensures) (m .1) (m .2) (omega (arith, v .2 .kept .len)))
 
 same-length : tie.Need-same-length Inv-loop μ-loop
 same-length c = search needs
 
 returns : tie.Need-returns Inv-loop μ-loop
-returns c = let e : c .before .loop .t ≡ c .before .before .before .before .before .before .before .before .args .n = omega arith in rw e at (row-then (row-zero (c .before .before .before .before .clear .ensures)) (c .before .loop .inv .1))
+returns c = let e : c .before .loop .i ≡ c .before .before .before .before .args .w = omega arith in rw e at (c .before .loop .inv .2)
 
 pub sources-spec : {M : Type 1} → statement M
 sources-spec =
@@ -69,13 +65,13 @@ sources-spec =
     (tie.spec
     Inv-loop
     μ-loop
-    clear-requires
     loop-holds
-    mul-any
-    add-any
-    any-requires
-    set-if-requires
-    add-t
+    in-word-requires
+    source-word-requires
+    mul-mask
+    slice-write-mask
+    add-g
+    add-i
     loop-less
     loop-again
     same-length

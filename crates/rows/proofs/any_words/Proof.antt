@@ -1,6 +1,6 @@
 -- `rows::any_words` meets its contract.
 -- Assumes nothing.
-use Rattle.rows.proofs.Folded.{Folded, folded-none, folded-more, folded-any}
+use Rattle.rows.proofs.Folded.{Folded, row-words, folded-none, folded-more, folded-any}
 use borrow.Author.Needs.{needs}
 use Prim.Native.Nat.{_+_, _-_, _≤_}
 use native.Mathlib.Omega.{arith}
@@ -10,13 +10,13 @@ use Rattle.rows.proofs.any_words.Reads as reads
 use Rattle.rows.proofs.any_words.Lts as lts
 
 abbrev Inv-loop : tie.InvT-loop
-Inv-loop words r n v₀ j₀ v j = (j ≤ n) × Folded words r j v
+Inv-loop words r n v₀ j₀ v j = (j ≤ n) × Folded (row-words words r) j v
 
 abbrev μ-loop : tie.MeasureT-loop
 μ-loop words r n v₀ j₀ v j = n - j
 
 loop-holds : tie.Need-loop-holds Inv-loop μ-loop
-loop-holds c = (omega arith, folded-none _ _)
+loop-holds c = (omega arith, folded-none _)
 
 add-v : tie.Need-add-v Inv-loop μ-loop
 add-v c = search needs
@@ -34,7 +34,7 @@ loop-less : tie.Need-loop-less Inv-loop μ-loop
 loop-less c = search needs
 
 loop-again : tie.Need-loop-again Inv-loop μ-loop
-loop-again c = let l = c .before .before in (omega arith, folded-more (l .loop .inv .1) (omega (arith, c .shared-slice-known .given (l .before .args .r + l .loop .j))))
+loop-again c = let l = c .before .before in let a = l .before .args in (omega arith, folded-more (row-words (a .words .now) (a .r)) _ _ (l .loop .inv .1) (omega (arith, c .shared-slice-known .given (a .r + l .loop .j))))
 
 returns : tie.Need-returns Inv-loop μ-loop
 returns c = folded-any _ _ (c .before .before .args .n) (c .before .loop .inv .1) (omega arith)

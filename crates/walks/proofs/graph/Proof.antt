@@ -6,7 +6,7 @@ use Rattle.walks.proofs.graph.Statement.{statement}
 use Rattle.walks.proofs.graph.Tie as tie
 use Rattle.walks.proofs.graph.Reads as reads
 use Rattle.walks.proofs.graph.Lts as lts
-use Rattle.relation.proofs.closure.Reads as closure-reads
+use Rattle.transitive_closure.proofs.closure.Reads as closure-reads
 use Rattle.relation.proofs.join.Reads as join-reads
 use Rattle.walks.proofs.cyclic.Reads as cyclic-reads
 use Rattle.walks.proofs.double.Reads as double-reads

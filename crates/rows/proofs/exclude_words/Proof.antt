@@ -1,0 +1,92 @@
+-- `rows::exclude_words` meets its contract: each word that was written has lost the bits of the other.
+-- Assumes nothing.
+use mathlib.Core.Path.{refl, ap₂}
+use lib.ListN.{getD}
+use Rattle.bits.specs.Bit.{without}
+use Rattle.rows.proofs.Rows.{row-without}
+use Rattle.rows.proofs.Words.{wrote-none, wrote-more, wrote-all, unwritten}
+use Rattle.rows.specs.Kept.{Wrote}
+use borrow.Author.Needs.{needs}
+use Prim.Native.Nat.{ℕ, _+_, _-_, _*_, _≤_, _<_}
+use native.Mathlib.Omega.{arith}
+use Rattle.rows.proofs.exclude_words.Statement.{statement}
+use Rattle.rows.proofs.exclude_words.Tie as tie
+use Rattle.rows.proofs.exclude_words.Reads as reads
+use Rattle.rows.proofs.exclude_words.Lts as lts
+
+abbrev Inv-loop : tie.InvT-loop
+Inv-loop to₀ d from s n j₀ to j = (j ≤ n) × Wrote d j (λ i. without (getD to₀ (d + i) 0) (getD from (s + i) 0)) to₀ to
+
+abbrev μ-loop : tie.MeasureT-loop
+μ-loop to₀ d from s n j₀ to j = n - j
+
+loop-holds : tie.Need-loop-holds Inv-loop μ-loop
+loop-holds c = (omega arith, wrote-none _ _ _)
+
+add-x : tie.Need-add-x Inv-loop μ-loop
+add-x c = search needs
+
+mul-x : tie.Need-mul-x Inv-loop μ-loop
+mul-x c = search needs
+
+slice-read-x : tie.Need-slice-read-x Inv-loop μ-loop
+slice-read-x c = search needs
+
+add-to : tie.Need-add-to Inv-loop μ-loop
+add-to c = search needs
+
+mul-to : tie.Need-mul-to Inv-loop μ-loop
+mul-to c = search needs
+
+shared-slice-read-to : tie.Need-shared-slice-read-to Inv-loop μ-loop
+shared-slice-read-to c = search needs
+
+add-to-2 : tie.Need-add-to-2 Inv-loop μ-loop
+add-to-2 c = search needs
+
+mul-to-2 : tie.Need-mul-to-2 Inv-loop μ-loop
+mul-to-2 c = search needs
+
+slice-write-to : tie.Need-slice-write-to Inv-loop μ-loop
+slice-write-to c = search needs
+
+add-j : tie.Need-add-j Inv-loop μ-loop
+add-j c = search needs
+
+loop-less : tie.Need-loop-less Inv-loop μ-loop
+loop-less c = search needs
+
+loop-again : tie.Need-loop-again Inv-loop μ-loop
+unfolding without
+loop-again c =
+    let l = c .before .before .before in
+    let a = l .before .args in
+    (omega arith, wrote-more (l .loop .inv .1) (omega arith) (ap₂ without (unwritten (a .d) (a .n) (l .loop .inv .1) (λ h. omega arith) (omega arith)) refl))
+
+same-length : tie.Need-same-length Inv-loop μ-loop
+same-length c = search needs
+
+returns : tie.Need-returns Inv-loop μ-loop
+returns c = row-without _ _ (wrote-all (c .before .loop .inv .1) (omega arith))
+
+pub exclude-words-spec : {M : Type 1} → statement M
+exclude-words-spec =
+    tie.close
+    (tie.spec
+    Inv-loop
+    μ-loop
+    loop-holds
+    add-x
+    mul-x
+    slice-read-x
+    add-to
+    mul-to
+    shared-slice-read-to
+    add-to-2
+    mul-to-2
+    slice-write-to
+    add-j
+    loop-less
+    loop-again
+    same-length
+    returns)

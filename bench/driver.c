@@ -2,10 +2,11 @@
  *
  *     driver FOLDER RUNS
  *
- * reads FOLDER/list. A line `answer N NAME` asks question-NAME on register-N by sheet; a line `narrow NAME` narrows narrow-NAME.question
- * by narrow-NAME.sheet. Each timing of a line is taken in turn, RUNS times over (11 times where it takes long), so that all of them meet
- * the same disturbances, and the times of one round can be compared; before each timed run the same call runs untimed (WARM_RUNS times,
- * never where it takes long), so that caches are as that call leaves them, and the work words are zero, as each call leaves them.
+ * reads FOLDER/list. A line `answer N NAME` asks question-NAME on register-N by sheet; a line `closure N NAME` asks
+ * closure-NAME.question on closure-NAME-N, by no sheet; a line `narrow NAME` narrows narrow-NAME.question by narrow-NAME.sheet. Each
+ * timing of a line is taken in turn, RUNS times over (11 times where it takes long), so that all of them meet the same disturbances, and
+ * the times of one round can be compared; before each timed run the same call runs untimed (WARM_RUNS times, never where it takes long),
+ * so that caches are as that call leaves them, and the work words are zero, as each call leaves them.
  * Prints a line for each timing, `answer,N,name,peer,call,` and its times in microseconds, round by round, with blanks between; and for each
  * question `size,N,name,members,pairs,` and both numbers. Exits with 1 where two peers differ. */
 #include "paths.h"
@@ -86,6 +87,7 @@ static void library_job(void)
         name##_ask(question.at, question.length, answer);                                                                             \
     }
 
+static void warshall_plain_call(void) { warshall_plain(question.at, question.length, reg.at, reg.length, work, answer); }
 HAND_CALLS(c)
 #ifdef WITH_RUST
 HAND_CALLS(rust)
@@ -133,6 +135,16 @@ static Timing answers[] = {
     {"sqlite", "ask", sqlite_ask_call, GIVES_ANSWER, {0}, 0},
 #endif
     {"library", "job again", library_job, GIVES_BOTH, {0}, 0}, /* the same timing once more: its difference is the machine's noise */
+};
+
+static Timing closures[] = {
+    {"-", "clear", clear_answer_work, GIVES_NOTHING, {0}, 0},
+    {"library", "plain", library_plain, GIVES_ANSWER, {0}, 0},
+    {"c", "plain", c_plain_call, GIVES_ANSWER, {0}, 0},
+#ifdef WITH_RUST
+    {"rust", "plain", rust_plain_call, GIVES_ANSWER, {0}, 0},
+#endif
+    {"warshall", "plain", warshall_plain_call, GIVES_ANSWER, {0}, 0},
 };
 
 static Timing narrowings[] = {
@@ -217,6 +229,17 @@ static void narrow_first(void)
     narrowed.length = written;
 }
 
+/* Takes the library's pairs as what is due; how many they are. */
+static size_t answer_first(void)
+{
+    size_t pairs = 0;
+    library_plain();
+    memcpy(due_answer, answer, sizeof due_answer);
+    for (size_t i = 0; i < PATHS_ANSWER_WORDS(records); i++)
+        pairs += __builtin_popcountll(answer[i]);
+    return pairs;
+}
+
 static void answer_line(const char *folder, const char *size, const char *name, size_t runs)
 {
     load(&sheet, folder, "%s", "sheet");
@@ -224,13 +247,23 @@ static void answer_line(const char *folder, const char *size, const char *name, 
     load(&question, folder, "question-%s", name);
     records = strtoul(size, NULL, 10);
     narrow_first();
-    size_t members = first, pairs = 0;
-    library_plain();
-    memcpy(due_answer, answer, sizeof due_answer);
-    for (size_t i = 0; i < PATHS_ANSWER_WORDS(records); i++)
-        pairs += __builtin_popcountll(answer[i]);
-    printf("size,%zu,%s,members,pairs,%zu %zu\n", records, name, members, pairs);
+    size_t members = first;
+    printf("size,%zu,%s,members,pairs,%zu %zu\n", records, name, members, answer_first());
     measure(answers, sizeof answers / sizeof answers[0], runs, "answer", name);
+}
+
+/* Its timings are told as those of closure-NAME, since a question may have the same name. */
+static void closure_line(const char *folder, const char *size, const char *name, size_t runs)
+{
+    char full[80], file_name[160];
+    snprintf(full, sizeof full, "closure-%s", name);
+    snprintf(file_name, sizeof file_name, "%s-%s", full, size);
+    load(&reg, folder, "%s", file_name);
+    load(&question, folder, "%s.question", full);
+    records = strtoul(size, NULL, 10);
+    due_bytes = 0;
+    answer_first();
+    measure(closures, sizeof closures / sizeof closures[0], runs, "closure", full);
 }
 
 static void narrow_line(const char *folder, const char *name, size_t runs)
@@ -262,7 +295,9 @@ int main(int count, char **words)
 #endif
     while (fgets(line, sizeof line, list)) {
         int fields = sscanf(line, "%15s %63s %63s", what, x, y);
-        if (fields == 3)
+        if (fields == 3 && strcmp(what, "closure") == 0)
+            closure_line(words[1], x, y, runs);
+        else if (fields == 3)
             answer_line(words[1], x, y, runs);
         else if (fields == 2)
             narrow_line(words[1], x, runs);

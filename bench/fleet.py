@@ -1,16 +1,19 @@
-"""The bench's inputs: a fleet's sheet, registers of several sizes that obey it, and questions from sparse steps to dense closures.
+"""The bench's inputs: a fleet's sheet, registers of several sizes that obey it, and questions from sparse steps to dense closures; and
+registers of one kind and one link, of several forms, for closures alone.
 
     python3 -m bench.fleet FOLDER
 
-writes them as files into the folder: `sheet`, `register-N` for each size, `question-NAME` for each question, `narrow-NAME.sheet` and
-`narrow-NAME.question` for each narrowing that is timed alone, and `list`, which names what is measured, a line each.
+writes them as files into the folder: `sheet`, `register-N` for each size, `question-NAME` for each question, `closure-NAME-N` and
+`closure-NAME.question` for each closure, `narrow-NAME.sheet` and `narrow-NAME.question` for each narrowing that is timed alone, and `list`,
+which names what is measured, a line each.
 """
 from __future__ import annotations
 
 import sys
+from itertools import combinations
 from pathlib import Path
 from random import Random
-from typing import NamedTuple
+from typing import Callable, NamedTuple
 
 from reference import cases
 from reference.files import (
@@ -18,7 +21,7 @@ from reference.files import (
     Operator, Register, Sheet, Step, question_bytes, register_bytes, sheet_bytes,
 )
 
-SIZES = (64, 256, 512, 1024)
+SIZES = (64, 128, 256, 512, 1024)
 LINKS = 4096
 
 CAB, METER, CARD, SHOP, FLEET, DISTRICT, REGION, BOARD, PART, BATCH = range(10)
@@ -129,6 +132,47 @@ QUESTIONS = (
 )
 
 
+# Closures that are timed alone.
+
+class Closure(NamedTuple):
+    """A relation's name, its links over so many records, and the question that closes it."""
+    name: str
+    links: Callable[[int, Random], list]
+    symbols: list
+
+
+def drawn(records: int, rng: Random) -> list:
+    return [divmod(pair, records) for pair in rng.sample(range(records ** 2), 4 * records)]
+
+
+def drawn_upwards(records: int, rng: Random) -> list:
+    return rng.sample(list(combinations(range(records), 2)), 4 * records)
+
+
+HUBS = 16
+
+
+def hubs(records: int, rng: Random) -> list:
+    """A dense relation has more pairs than a register has links. So each record has two of 16 hubs, and two records that share one are a
+    pair: about a quarter of all."""
+    return [(s, hub) for s in range(records) for hub in rng.sample(range(HUBS), 2)]
+
+
+CLOSURES = (
+    Closure("ring", lambda n, rng: [(s, (s + 1) % n) for s in range(n)], chain(step(0))),
+    Closure("chain", lambda n, rng: [(s, s + 1) for s in range(n - 1)], chain(step(0))),
+    Closure("random", drawn, chain(step(0))),
+    Closure("dense", hubs, chain(joined(step(0), reverse(0)))),
+    Closure("acyclic", drawn_upwards, chain(step(0))),
+)
+
+
+def closure_register(closure: Closure, records: int) -> Register:
+    links = closure.links(records, Random(records))
+    assert len(links) <= LINKS
+    return Register([0] * records, sorted((s, 0, t) for s, t in links))
+
+
 # Narrowings that are timed alone: those of the specification's cases, and the slowest that were found.
 
 class Narrowing(NamedTuple):
@@ -188,10 +232,15 @@ def main(folder: str) -> None:
         (room / f"register-{records}").write_bytes(register_bytes(register(records)))
     for question in QUESTIONS:
         (room / f"question-{question.name}").write_bytes(question_bytes(question.symbols))
+    for closure in CLOSURES:
+        (room / f"closure-{closure.name}.question").write_bytes(question_bytes(closure.symbols))
+        for records in SIZES:
+            (room / f"closure-{closure.name}-{records}").write_bytes(register_bytes(closure_register(closure, records)))
     for narrowing in NARROWINGS:
         (room / f"narrow-{narrowing.name}.sheet").write_bytes(sheet_bytes(narrowing.sheet))
         (room / f"narrow-{narrowing.name}.question").write_bytes(question_bytes(narrowing.symbols))
     lines = [f"answer {records} {question.name}" for records in SIZES for question in QUESTIONS]
+    lines += [f"closure {records} {closure.name}" for closure in CLOSURES for records in SIZES]
     lines += [f"narrow {narrowing.name}" for narrowing in NARROWINGS]
     (room / "list").write_text("".join(line + "\n" for line in lines))
 

@@ -9,6 +9,7 @@
 enum { JOIN = 128, UNION, BOTH, BRANCH_RIGHT, BRANCH_LEFT, CHAIN };
 enum { HEAD_TAG = 0x41, MEMBER_TAG = 0x42, STEP_TAG = 0x43, OPERATOR_TAG = 0x44, THROUGH_TAG = 0x45 };
 enum { MOST_RECORDS = 1024, MOST_WORDS = 16, MOST_KINDS = 64, MOST_LINKS = 64, MOST_CODES = 32, MOST_TRIPLES = 128, MOST_SYMBOLS = 48 };
+enum { STACK = MOST_SYMBOLS / 2, MOST_HELD = 4 }; /* relations of the work words: a path's stack, and past it the steps that are held */
 
 static size_t load16(const uint8_t *at)
 {
@@ -45,6 +46,12 @@ static unsigned kind_of(const Register *r, size_t record)
 /* Inlined where the width of a row is a constant, so that the loops over its words are unrolled. */
 #define INLINE static inline __attribute__((always_inline))
 
+/* A row is cleared by a copy of this one: to clear so few words gcc takes a string instruction, which is slow to start. */
+static const uint64_t empty[MOST_WORDS];
+
+/* Rows are united two words at a time: left to itself, gcc takes a local row apart into single words, more than it has registers for. */
+typedef uint64_t Pair __attribute__((vector_size(16), aligned(8), may_alias));
+
 static void set_bit(uint64_t *row, size_t t)
 {
     row[t / 64] |= (uint64_t)1 << t % 64;
@@ -65,8 +72,10 @@ INLINE bool any(const uint64_t *row, size_t words)
 
 INLINE void unite(uint64_t *restrict to, const uint64_t *restrict from, size_t words)
 {
-    for (size_t j = 0; j < words; j++)
-        to[j] |= from[j];
+    for (size_t j = 0; j + 1 < words; j += 2)
+        *(Pair *)(to + j) |= *(const Pair *)(from + j);
+    if (words % 2 == 1)
+        to[words - 1] |= from[words - 1];
 }
 
 INLINE void restrict_to(uint64_t *restrict to, const uint64_t *restrict mask, size_t words)
@@ -85,20 +94,22 @@ INLINE void step(const Register *r, bool reverse, unsigned name, uint64_t *relat
         }
 }
 
-/* The row that is made is copied from an empty one: to clear so few words gcc takes a string instruction, which is slow to start. */
+/* The row becomes the rows of q for its bits in the mask, united. */
+INLINE void join_row(uint64_t *row, const uint64_t *q, size_t words, const uint64_t *mask)
+{
+    uint64_t made[MOST_WORDS];
+    memcpy(made, empty, words * sizeof *made);
+    for (size_t i = 0; i < words; i++)
+        for (uint64_t left = row[i] & mask[i]; left != 0; left &= left - 1)
+            unite(made, q + (64 * i + (size_t)__builtin_ctzll(left)) * words, words);
+    memcpy(row, made, words * sizeof *made);
+}
+
 INLINE void join(uint64_t *p, const uint64_t *q, size_t n, size_t words, const uint64_t *mask)
 {
-    static const uint64_t empty[MOST_WORDS];
-    for (size_t s = 0; s < n; s++, p += words) {
-        if (!any(p, words))
-            continue;
-        uint64_t row[MOST_WORDS];
-        memcpy(row, empty, words * sizeof *row);
-        for (size_t i = 0; i < words; i++)
-            for (uint64_t left = p[i] & mask[i]; left != 0; left &= left - 1)
-                unite(row, q + (64 * i + (size_t)__builtin_ctzll(left)) * words, words);
-        memcpy(p, row, words * sizeof *row);
-    }
+    for (size_t s = 0; s < n; s++)
+        if (any(p + s * words, words))
+            join_row(p + s * words, q, words, mask);
 }
 
 INLINE void branch_right(uint64_t *p, const uint64_t *q, size_t n, size_t words)
@@ -143,9 +154,9 @@ static void clear_bit(uint64_t *row, size_t t)
     row[t / 64] &= ~((uint64_t)1 << t % 64);
 }
 
-/* Rows that are not empty; of these the ones that are not the closure's yet, and the ones that are. */
+/* Rows that are not empty; of these the ones that are the closure's already. */
 typedef struct {
-    uint64_t live[MOST_WORDS], pending[MOST_WORDS], finished[MOST_WORDS];
+    uint64_t live[MOST_WORDS], finished[MOST_WORDS];
 } Marks;
 
 /* The row takes in a finished row that it has, and then the others of its word at once; what they have is not gone through. */
@@ -158,7 +169,8 @@ INLINE void take_finished(uint64_t *row, uint64_t *left, const uint64_t *relatio
     uint64_t rest = row[i] & left[i] & marks->finished[i];
     if (rest == 0)
         return;
-    uint64_t all[MOST_WORDS] = {0};
+    uint64_t all[MOST_WORDS];
+    memcpy(all, empty, words * sizeof *all);
     for (uint64_t v = rest; v != 0; v &= v - 1)
         unite(all, relation + (64 * i + (size_t)__builtin_ctzll(v)) * words, words);
     unite(row, all, words);
@@ -185,7 +197,6 @@ INLINE void finish(uint64_t *relation, Marks *marks, size_t s, size_t words)
         clear_bit(left, k);
     }
     memcpy(relation + s * words, row, words * sizeof *row);
-    clear_bit(marks->pending, s);
     set_bit(marks->finished, s);
 }
 
@@ -197,7 +208,6 @@ INLINE void closure(uint64_t *relation, size_t n, size_t words)
     size_t stack[MOST_RECORDS], depth = 0;
     for (size_t s = 0; s < n; s++)
         marks.live[s / 64] |= (uint64_t)any(relation + s * words, words) << s % 64;
-    memcpy(marks.pending, marks.live, words * sizeof *unseen);
     memcpy(unseen, marks.live, words * sizeof *unseen);
     for (;;) {
         size_t k = first(depth == 0 ? unseen : relation + stack[depth - 1] * words, unseen, unseen, words);
@@ -212,6 +222,38 @@ INLINE void closure(uint64_t *relation, size_t n, size_t words)
     }
 }
 
+/* ---- closures by Warshall's way, which is a peer of its own */
+
+/* One round, over the rows that are not empty. */
+INLINE void close_through(uint64_t *const *rows, size_t count, const uint64_t *through, size_t k, size_t words)
+{
+    uint64_t row[MOST_WORDS];
+    memcpy(row, through, words * sizeof *row);
+    for (size_t i = 0; i < count; i++)
+        if (has_bit(rows[i], k))
+            unite(rows[i], row, words);
+}
+
+/* A closure adds neither a source nor a target, so only a record that is both is passed through. */
+INLINE void warshall(uint64_t *relation, size_t n, size_t words)
+{
+    uint64_t targets[MOST_WORDS] = {0};
+    uint64_t *rows[MOST_RECORDS];
+    size_t count = 0;
+    for (size_t s = 0; s < n; s++) {
+        uint64_t *row = relation + s * words;
+        if (any(row, words)) {
+            rows[count++] = row;
+            unite(targets, row, words);
+        }
+    }
+    for (size_t i = 0; i < count; i++) {
+        size_t k = (size_t)(rows[i] - relation) / words;
+        if (has_bit(targets, k))
+            close_through(rows, count, rows[i], k, words);
+    }
+}
+
 /* ---- the records of each kind */
 
 typedef struct {
@@ -219,19 +261,19 @@ typedef struct {
     uint64_t records[MOST_KINDS * MOST_WORDS];
 } Kinds;
 
-static void read_kinds(const Register *r, Kinds *kinds)
+INLINE void read_kinds(const Register *r, Kinds *kinds, size_t words)
 {
     kinds->present = 0;
-    memset(kinds->records, 0, MOST_KINDS * r->words * sizeof *kinds->records);
+    memset(kinds->records, 0, MOST_KINDS * words * sizeof *kinds->records);
     for (size_t t = 0; t < r->records; t++) {
         kinds->present |= (uint64_t)1 << kind_of(r, t);
-        set_bit(kinds->records + kind_of(r, t) * r->words, t);
+        set_bit(kinds->records + kind_of(r, t) * words, t);
     }
 }
 
-static void kind_mask(const Kinds *kinds, uint64_t set, size_t words, uint64_t *mask)
+INLINE void kind_mask(const Kinds *kinds, uint64_t set, size_t words, uint64_t *mask)
 {
-    memset(mask, 0, words * sizeof *mask);
+    memcpy(mask, empty, words * sizeof *mask);
     for (uint64_t left = set & kinds->present; left != 0; left &= left - 1)
         unite(mask, kinds->records + (size_t)__builtin_ctzll(left) * words, words);
 }
@@ -260,9 +302,12 @@ INLINE void combine(unsigned code, uint64_t *p, const uint64_t *q, size_t n, siz
     }
 }
 
-/* The first relation of the work words becomes the path of `count` symbols; where their fields end. */
-INLINE const uint8_t *evaluate_in(const Register *r, const Kinds *kinds, const uint8_t *field, size_t count, uint64_t *work,
-                                  size_t words)
+typedef enum { BY_ROWS, BY_WARSHALL } Closing;
+
+/* The first relation of the work words becomes the path of `count` symbols; where their fields end. A question has no kinds and no joins
+ * through sets. The closing is a constant, as the width is, so that each has code of its own. */
+INLINE const uint8_t *evaluate(const Register *r, const Kinds *kinds, const uint8_t *field, size_t count, uint64_t *work,
+                               Closing closing, size_t words)
 {
     size_t n = r->records;
     uint64_t *top = work;
@@ -271,14 +316,17 @@ INLINE const uint8_t *evaluate_in(const Register *r, const Kinds *kinds, const u
             step(r, field[3], field[4], top, words);
             top += n * words;
             field += 5;
-        } else if (field[0] == THROUGH_TAG) {
+        } else if (kinds != NULL && field[0] == THROUGH_TAG) {
             uint64_t mask[MOST_WORDS];
             kind_mask(kinds, load64(field + 3), words, mask);
             top -= n * words;
             join(top - n * words, top, n, words, mask);
             field += 11;
         } else if (field[3] == CHAIN) {
-            closure(top - n * words, n, words);
+            if (closing == BY_WARSHALL)
+                warshall(top - n * words, n, words);
+            else
+                closure(top - n * words, n, words);
             field += 4;
         } else {
             top -= n * words;
@@ -289,58 +337,159 @@ INLINE const uint8_t *evaluate_in(const Register *r, const Kinds *kinds, const u
     return field;
 }
 
-/* The same, by the code of the register's own width; without records any width will do. */
-static const uint8_t *evaluate(const Register *r, const Kinds *kinds, const uint8_t *field, size_t count, uint64_t *work)
+INLINE void answer_path(const Register *r, const uint8_t *question, uint64_t *work, uint64_t *answer, Closing closing, size_t words)
 {
-#define WIDTH(words)                                                                                                                  \
-    case words:                                                                                                                       \
-        return evaluate_in(r, kinds, field, count, work, words)
-    switch (r->words) {
-        WIDTH(1);
-        WIDTH(2);
-        WIDTH(3);
-        WIDTH(4);
-        WIDTH(5);
-        WIDTH(6);
-        WIDTH(7);
-        WIDTH(8);
-        WIDTH(9);
-        WIDTH(10);
-        WIDTH(11);
-        WIDTH(12);
-        WIDTH(13);
-        WIDTH(14);
-        WIDTH(15);
-    default:
-        return evaluate_in(r, kinds, field, count, work, MOST_WORDS);
-    }
-#undef WIDTH
+    evaluate(r, NULL, question + 4, question[3], work, closing, words);
+    memcpy(answer, work, r->records * words * sizeof *answer);
 }
 
-static void add_between(uint64_t *answer, const uint64_t *relation, const uint64_t *sources, const uint64_t *targets, size_t words)
+/* ---- narrowed answers: a route, which is steps joined through sets, is followed row by row, so that no relation is made on the way */
+
+/* The steps that were loaded, by their codes; they stay for the members that follow. */
+typedef struct {
+    size_t count;
+    unsigned codes[MOST_HELD];
+    uint64_t *relations;
+} Held;
+
+/* A step of a route, and the records through which it is joined with the legs before it; the first has none. */
+typedef struct {
+    const uint64_t *relation;
+    uint64_t through[MOST_WORDS];
+} Leg;
+
+/* The relation of a step, which is loaded once; NULL where there is no room for it. */
+INLINE const uint64_t *hold(Held *held, const Register *r, bool reverse, unsigned name, size_t words)
+{
+    unsigned code = 64 * reverse + name;
+    size_t i = 0;
+    while (i < held->count && held->codes[i] != code)
+        i++;
+    if (i == MOST_HELD)
+        return NULL;
+    uint64_t *relation = held->relations + i * r->records * words;
+    if (i == held->count) {
+        held->codes[held->count++] = code;
+        step(r, reverse, name, relation, words);
+    }
+    return relation;
+}
+
+/* Whether a path is a step, and then any number of times a step and its join through a set. */
+static bool is_route(const uint8_t *field, size_t count)
+{
+    for (field += 5; count > 2; count -= 2, field += 16)
+        if (field[0] != STEP_TAG || field[5] != THROUGH_TAG)
+            return false;
+    return count == 1;
+}
+
+/* Reads the legs of a route; where their fields end, NULL where there is no room for a step. */
+INLINE const uint8_t *read_route(const Register *r, const Kinds *kinds, Held *held, const uint8_t *field, size_t legs, Leg *route,
+                                 size_t words)
+{
+    for (size_t i = 0; i < legs; i++) {
+        route[i].relation = hold(held, r, field[3], field[4], words);
+        if (route[i].relation == NULL)
+            return NULL;
+        field += 5;
+        if (i > 0) {
+            kind_mask(kinds, load64(field + 3), words, route[i].through);
+            field += 11;
+        }
+    }
+    return field;
+}
+
+/* Each source's row of the first leg goes through the other legs, and what it then has of the targets is added to the answer. */
+INLINE void follow(const Leg *route, size_t legs, const uint64_t *sources, const uint64_t *targets, uint64_t *answer, size_t words)
 {
     for (size_t i = 0; i < words; i++)
         for (uint64_t left = sources[i]; left != 0; left &= left - 1) {
             size_t at = (64 * i + (size_t)__builtin_ctzll(left)) * words;
-            for (size_t j = 0; j < words; j++)
-                answer[at + j] |= relation[at + j] & targets[j];
+            uint64_t row[MOST_WORDS];
+            memcpy(row, route[0].relation + at, words * sizeof *row);
+            for (size_t leg = 1; leg < legs; leg++)
+                join_row(row, route[leg].relation, words, route[leg].through);
+            restrict_to(row, targets, words);
+            unite(answer + at, row, words);
         }
 }
 
-static void answer_members(const Register *r, const uint8_t *narrowed, uint64_t *work, uint64_t *answer)
+/* Adds the pairs of a member; where its fields end. What has to be evaluated is then a route of one leg. */
+INLINE const uint8_t *add_member(const Register *r, const Kinds *kinds, Held *held, const uint8_t *member, uint64_t *work,
+                                 uint64_t *answer, size_t words)
+{
+    Leg route[STACK];
+    uint64_t sources[MOST_WORDS], targets[MOST_WORDS];
+    const uint8_t *path = member + 20, *end = NULL;
+    size_t count = member[3], legs = count / 2 + 1;
+    if (is_route(path, count))
+        end = read_route(r, kinds, held, path, legs, route, words);
+    if (end == NULL) {
+        end = evaluate(r, kinds, path, count, work, BY_ROWS, words);
+        route[0].relation = work;
+        legs = 1;
+    }
+    kind_mask(kinds, load64(member + 4), words, sources);
+    kind_mask(kinds, load64(member + 12), words, targets);
+    follow(route, legs, sources, targets, answer, words);
+    return end;
+}
+
+INLINE void answer_members(const Register *r, const uint8_t *narrowed, uint64_t *work, uint64_t *answer, size_t words)
 {
     Kinds kinds;
-    read_kinds(r, &kinds);
-    memset(answer, 0, r->records * r->words * sizeof *answer);
-    const uint8_t *field = narrowed + 5;
-    for (size_t left = load16(narrowed + 3); left > 0; left--) {
-        uint64_t sources[MOST_WORDS], targets[MOST_WORDS];
-        kind_mask(&kinds, load64(field + 4), r->words, sources);
-        kind_mask(&kinds, load64(field + 12), r->words, targets);
-        field = evaluate(r, &kinds, field + 20, field[3], work);
-        add_between(answer, work, sources, targets, r->words);
-    }
+    Held held = {0, {0}, work + STACK * r->records * words};
+    read_kinds(r, &kinds, words);
+    memset(answer, 0, r->records * words * sizeof *answer);
+    const uint8_t *member = narrowed + 5;
+    for (size_t left = load16(narrowed + 3); left > 0; left--)
+        member = add_member(r, &kinds, &held, member, work, answer, words);
 }
+
+/* ---- answers by the code of the register's own width */
+
+/* Each width has functions of its own: where all of them were parts of one, gcc made slower code for the widest. */
+#define ANSWERS(words)                                                                                                                \
+    static void plain_##words(const Register *r, const uint8_t *file, uint64_t *work, uint64_t *answer)                               \
+    {                                                                                                                                 \
+        answer_path(r, file, work, answer, BY_ROWS, words);                                                                           \
+    }                                                                                                                                 \
+    static void by_warshall_##words(const Register *r, const uint8_t *file, uint64_t *work, uint64_t *answer)                         \
+    {                                                                                                                                 \
+        answer_path(r, file, work, answer, BY_WARSHALL, words);                                                                       \
+    }                                                                                                                                 \
+    static void by_members_##words(const Register *r, const uint8_t *file, uint64_t *work, uint64_t *answer)                          \
+    {                                                                                                                                 \
+        answer_members(r, file, work, answer, words);                                                                                 \
+    }
+ANSWERS(1)
+ANSWERS(2)
+ANSWERS(3)
+ANSWERS(4)
+ANSWERS(5)
+ANSWERS(6)
+ANSWERS(7)
+ANSWERS(8)
+ANSWERS(9)
+ANSWERS(10)
+ANSWERS(11)
+ANSWERS(12)
+ANSWERS(13)
+ANSWERS(14)
+ANSWERS(15)
+ANSWERS(16)
+
+typedef void Answer(const Register *r, const uint8_t *file, uint64_t *work, uint64_t *answer);
+
+/* The functions of all widths; without records any of them will do. */
+#define BY_WIDTH(name)                                                                                                                \
+    {name##_16, name##_1, name##_2, name##_3, name##_4, name##_5, name##_6, name##_7, name##_8,                                       \
+     name##_9, name##_10, name##_11, name##_12, name##_13, name##_14, name##_15, name##_16}
+static Answer *const plain[] = BY_WIDTH(plain);
+static Answer *const by_warshall[] = BY_WIDTH(by_warshall);
+static Answer *const by_members[] = BY_WIDTH(by_members);
 
 /* ---- the sheet: the to kinds of each link name and from kind */
 
@@ -736,8 +885,16 @@ void c_plain(const uint8_t *question, size_t question_length, const uint8_t *reg
 {
     (void)question_length, (void)register_length;
     Register r = read_register(register_file);
-    evaluate(&r, NULL, question + 4, question[3], work);
-    memcpy(answer, work, PATHS_ANSWER_WORDS(r.records) * sizeof *answer);
+    plain[r.words](&r, question, work, answer);
+    memset(work, 0, PATHS_ANSWER_WORK(r.records) * sizeof *work);
+}
+
+void warshall_plain(const uint8_t *question, size_t question_length, const uint8_t *register_file, size_t register_length,
+                    uint64_t *work, uint64_t *answer)
+{
+    (void)question_length, (void)register_length;
+    Register r = read_register(register_file);
+    by_warshall[r.words](&r, question, work, answer);
     memset(work, 0, PATHS_ANSWER_WORK(r.records) * sizeof *work);
 }
 
@@ -746,7 +903,7 @@ void c_narrowed(const uint8_t *narrowed, size_t narrowed_length, const uint8_t *
 {
     (void)narrowed_length, (void)register_length;
     Register r = read_register(register_file);
-    answer_members(&r, narrowed, work, answer);
+    by_members[r.words](&r, narrowed, work, answer);
     memset(work, 0, PATHS_ANSWER_WORK(r.records) * sizeof *work);
 }
 
@@ -770,7 +927,7 @@ size_t c_job(const uint8_t *sheet_file, size_t sheet_length, const uint8_t *ques
     read_sheet(sheet_file, sheet_length, &sheet);
     size_t bytes = obeys(&r, &sheet) ? narrow(&sheet, question, file) : 0;
     if (bytes != 0)
-        answer_members(&r, file, work, answer);
+        by_members[r.words](&r, file, work, answer);
     memset(work, 0, PATHS_JOB_WORK(r.records) * sizeof *work);
     return bytes;
 }

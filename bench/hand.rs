@@ -26,6 +26,13 @@ const MOST_TRIPLES: usize = 128;
 const MOST_SYMBOLS: usize = 48;
 const NARROW_WORK: usize = 8192;
 
+/// Relations of the work words: a path's stack, and past it the steps that are held.
+const STACK: usize = MOST_SYMBOLS / 2;
+const MOST_HELD: usize = 4;
+
+/// Room on the caller's stack: what lies in it is not moved, as a move would copy all of it.
+type Room<T, const N: usize> = MaybeUninit<[T; N]>;
+
 unsafe fn load16(at: *const u8) -> usize {
     u16::from_be_bytes(*at.cast()) as usize
 }
@@ -115,8 +122,8 @@ unsafe fn set_bit<const W: usize>(row: &mut Row<W>, t: usize) {
 }
 
 #[inline(always)]
-unsafe fn has_bit<const W: usize>(row: &Row<W>, t: usize) -> bool {
-    row.get_unchecked(t / 64) >> (t % 64) & 1 == 1
+unsafe fn clear_bit<const W: usize>(row: &mut Row<W>, t: usize) {
+    *row.get_unchecked_mut(t / 64) &= !(1 << (t % 64));
 }
 
 #[inline(always)]
@@ -148,16 +155,22 @@ unsafe fn step<const W: usize>(r: &Register, reverse: bool, name: u8, relation: 
     }
 }
 
+/// The row becomes the rows of q for its bits in the mask, united.
+#[inline(always)]
+unsafe fn join_row<const W: usize>(row: &mut Row<W>, q: &[Row<W>], mask: &Row<W>) {
+    let mut made = [0; W];
+    for i in 0..W {
+        for z in Bits(row[i] & mask[i]) {
+            unite(&mut made, q.get_unchecked(64 * i + z));
+        }
+    }
+    *row = made;
+}
+
 unsafe fn join<const W: usize>(p: &mut [Row<W>], q: &[Row<W>], mask: &Row<W>) {
     for row in p {
         if any(row) {
-            let mut made = [0; W];
-            for i in 0..W {
-                for z in Bits(row[i] & mask[i]) {
-                    unite(&mut made, q.get_unchecked(64 * i + z));
-                }
-            }
-            *row = made;
+            join_row(row, q, mask);
         }
     }
 }
@@ -180,29 +193,90 @@ fn branch_left<const W: usize>(p: &mut [Row<W>], q: &[Row<W>]) {
     }
 }
 
-/// Warshall's, over the rows that are not empty. A closure adds neither a source nor a target, so only a record that is both is passed
-/// through.
-unsafe fn closure<const W: usize>(relation: &mut [Row<W>]) {
-    let mut targets = [0; W];
-    let mut sources = [const { MaybeUninit::<u16>::uninit() }; MOST_RECORDS];
-    let mut count = 0;
-    for (s, row) in relation.iter().enumerate() {
-        if any(row) {
-            sources.get_unchecked_mut(count).write(s as u16);
-            count += 1;
-            unite(&mut targets, row);
+// ---- closures
+
+/// The first bit that a row and both masks have.
+#[inline(always)]
+fn first<const W: usize>(row: &Row<W>, a: &Row<W>, b: &Row<W>) -> Option<usize> {
+    let met = |i: usize| row[i] & a[i] & b[i];
+    if (0..W).fold(0, |all, i| all | met(i)) == 0 {
+        return None;
+    }
+    (0..W).find(|&i| met(i) != 0).map(|i| 64 * i + met(i).trailing_zeros() as usize)
+}
+
+#[inline(always)]
+fn exclude<const W: usize>(from: &mut Row<W>, row: &Row<W>) {
+    for (a, b) in from.iter_mut().zip(row) {
+        *a &= !b;
+    }
+}
+
+/// Rows that are not empty; of these the ones that are the closure's already.
+struct Marks<const W: usize> {
+    live: Row<W>,
+    finished: Row<W>,
+}
+
+/// The row takes in a finished row that it has, and then the others of its word at once; what they have is not gone through.
+#[inline(always)]
+unsafe fn take_finished<const W: usize>(row: &mut Row<W>, left: &mut Row<W>, relation: &[Row<W>], marks: &Marks<W>, k: usize) {
+    let i = k / 64;
+    unite(row, relation.get_unchecked(k));
+    exclude(left, relation.get_unchecked(k));
+    clear_bit(left, k);
+    let rest = row.get_unchecked(i) & left.get_unchecked(i) & marks.finished.get_unchecked(i);
+    if rest == 0 {
+        return;
+    }
+    let mut all = [0; W];
+    for z in Bits(rest) {
+        unite(&mut all, relation.get_unchecked(64 * i + z));
+    }
+    unite(row, &all);
+    exclude(left, &all);
+    *left.get_unchecked_mut(i) &= !rest;
+}
+
+/// Row s becomes the closure's.
+#[inline(always)]
+unsafe fn finish<const W: usize>(relation: &mut [Row<W>], marks: &mut Marks<W>, s: usize) {
+    let mut row = *relation.get_unchecked(s);
+    let mut left = marks.live;
+    loop {
+        if let Some(k) = first(&row, &left, &marks.finished) {
+            take_finished(&mut row, &mut left, relation, marks, k);
+        } else if let Some(k) = first(&row, &left, &left) {
+            unite(&mut row, relation.get_unchecked(k));
+            clear_bit(&mut left, k);
+        } else {
+            break;
         }
     }
-    let sources: &[u16] = from_raw_parts(sources.as_ptr().cast(), count);
-    for &k in sources {
-        if has_bit(&targets, k as usize) {
-            let through = *relation.get_unchecked(k as usize);
-            for &s in sources {
-                let row = relation.get_unchecked_mut(s as usize);
-                if has_bit(row, k as usize) {
-                    unite(row, &through);
-                }
-            }
+    *relation.get_unchecked_mut(s) = row;
+    set_bit(&mut marks.finished, s);
+}
+
+/// Rows are finished as a depth-first search leaves them, so that most find finished ones to take in.
+unsafe fn closure<const W: usize>(relation: &mut [Row<W>]) {
+    let mut marks = Marks { live: [0; W], finished: [0; W] };
+    for (s, row) in relation.iter().enumerate() {
+        *marks.live.get_unchecked_mut(s / 64) |= (any(row) as u64) << (s % 64);
+    }
+    let mut unseen = marks.live;
+    let mut room = Room::<usize, MOST_RECORDS>::uninit();
+    let (stack, mut depth) = (room.as_mut_ptr().cast::<usize>(), 0);
+    loop {
+        let row = if depth == 0 { &unseen } else { relation.get_unchecked(*stack.add(depth - 1)) };
+        if let Some(k) = first(row, &unseen, &unseen) {
+            clear_bit(&mut unseen, k);
+            *stack.add(depth) = k;
+            depth += 1;
+        } else if depth == 0 {
+            return;
+        } else {
+            depth -= 1;
+            finish(relation, &mut marks, *stack.add(depth));
         }
     }
 }
@@ -284,22 +358,123 @@ unsafe fn answer_path<const W: usize>(r: &Register, question: *const u8, work: *
     copy_nonoverlapping(work, answer, r.answer_words());
 }
 
+// ---- narrowed answers: a route, which is steps joined through sets, is followed row by row, so that no relation is made on the way
+
+/// The steps that were loaded, by their codes; they stay for the members that follow.
+struct Held<const W: usize> {
+    count: usize,
+    codes: [u8; MOST_HELD],
+    relations: *mut Row<W>,
+}
+
+/// A step of a route, and the records through which it is joined with the legs before it; the first has none.
+struct Leg<'a, const W: usize> {
+    relation: &'a [Row<W>],
+    through: Row<W>,
+}
+
+impl<const W: usize> Held<W> {
+    /// The relation of a step, which is loaded once; none where there is no room for it.
+    unsafe fn hold<'a>(&mut self, r: &Register, reverse: u8, name: u8) -> Option<&'a [Row<W>]> {
+        let (code, n) = (64 * reverse + name, r.records.len());
+        let mut i = 0;
+        while i < self.count && *self.codes.get_unchecked(i) != code {
+            i += 1;
+        }
+        if i == MOST_HELD {
+            return None;
+        }
+        let relation = from_raw_parts_mut(self.relations.add(i * n), n);
+        if i == self.count {
+            *self.codes.get_unchecked_mut(i) = code;
+            self.count += 1;
+            step(r, reverse == 1, name, relation);
+        }
+        Some(relation)
+    }
+}
+
+/// Whether a path is a step, and then any number of times a step and its join through a set.
+unsafe fn is_route(path: *const u8, count: usize) -> bool {
+    let joined = |i: usize| {
+        let field = path.add(5 + 16 * i);
+        *field == STEP_TAG && *field.add(5) == THROUGH_TAG
+    };
+    count % 2 == 1 && (0..count / 2).all(joined)
+}
+
+/// Reads the legs of a route; where their fields end, none where there is no room for a step.
+unsafe fn read_route<const W: usize>(
+    r: &Register,
+    kinds: &Kinds<W>,
+    held: &mut Held<W>,
+    mut field: *const u8,
+    legs: usize,
+    route: *mut Leg<W>,
+) -> Option<*const u8> {
+    for i in 0..legs {
+        let relation = held.hold(r, *field.add(3), *field.add(4))?;
+        let mut through = [0; W];
+        field = field.add(5);
+        if i > 0 {
+            through = kinds.mask(load64(field.add(3)));
+            field = field.add(11);
+        }
+        route.add(i).write(Leg { relation, through });
+    }
+    Some(field)
+}
+
+/// Each source's row of the first leg goes through the other legs, and what it then has of the targets is added to the answer.
+unsafe fn follow<const W: usize>(route: &[Leg<W>], sources: &Row<W>, targets: &Row<W>, answer: *mut Row<W>) {
+    let (head, rest) = route.split_first().unwrap_unchecked();
+    for (i, &word) in sources.iter().enumerate() {
+        for z in Bits(word) {
+            let mut row = *head.relation.get_unchecked(64 * i + z);
+            for leg in rest {
+                join_row(&mut row, leg.relation, &leg.through);
+            }
+            restrict(&mut row, targets);
+            unite(&mut *answer.add(64 * i + z), &row);
+        }
+    }
+}
+
+/// Adds the pairs of a member; where its fields end. What has to be evaluated is then a route of one leg.
+unsafe fn add_member<const W: usize>(
+    r: &Register,
+    kinds: &Kinds<W>,
+    held: &mut Held<W>,
+    member: *const u8,
+    work: *mut Row<W>,
+    answer: *mut Row<W>,
+) -> *const u8 {
+    let mut room = Room::<Leg<W>, STACK>::uninit();
+    let route = room.as_mut_ptr().cast::<Leg<W>>();
+    let (path, count) = (member.add(20), *member.add(3) as usize);
+    let (mut end, mut legs) = (None, count.div_ceil(2));
+    if is_route(path, count) {
+        end = read_route(r, kinds, held, path, legs, route);
+    }
+    let end = end.unwrap_or_else(|| {
+        let end = evaluate(r, Some(kinds), path, count, work);
+        route.write(Leg { relation: from_raw_parts(work, r.records.len()), through: [0; W] });
+        legs = 1;
+        end
+    });
+    let (sources, targets) = (kinds.mask(load64(member.add(4))), kinds.mask(load64(member.add(12))));
+    follow(from_raw_parts(route, legs), &sources, &targets, answer);
+    end
+}
+
 unsafe fn answer_members<const W: usize>(r: &Register, narrowed: *const u8, work: *mut u64, answer: *mut u64) {
     write_bytes(answer, 0, r.answer_words());
     let kinds = Kinds::<W>::read(r);
     let (work, answer) = (work.cast::<Row<W>>(), answer.cast::<Row<W>>());
-    let mut field = narrowed.add(5);
+    let mut held = Held { count: 0, codes: [0; MOST_HELD], relations: work.add(STACK * r.records.len()) };
+    let mut member = narrowed.add(5);
     for _ in 0..load16(narrowed.add(3)) {
-        let sources = kinds.mask(load64(field.add(4)));
-        let targets = kinds.mask(load64(field.add(12)));
-        field = evaluate(r, Some(&kinds), field.add(20), *field.add(3) as usize, work);
-        for (i, &word) in sources.iter().enumerate() {
-            for bit in Bits(word) {
-                let mut row = *work.add(64 * i + bit);
-                restrict(&mut row, &targets);
-                unite(&mut *answer.add(64 * i + bit), &row);
-            }
-        }
+        member = add_member(r, &kinds, &mut held, member, work, answer);
     }
 }
 
@@ -328,9 +503,6 @@ macro_rules! by_width {
 }
 
 // ---- the sheet
-
-/// Room on the caller's stack: what lies in it is not moved, as a move would copy all of it.
-type Room<T, const N: usize> = MaybeUninit<[T; N]>;
 
 /// The to kinds of each link name and from kind; only those of the sheet's own names are filled.
 struct Sheet {

@@ -23,6 +23,10 @@
 HAND_PEER(c);
 HAND_PEER(rust);
 
+/* c_plain with Warshall's closure in place of the library's: what another way to close a relation is worth. */
+void warshall_plain(const uint8_t *question, size_t question_length, const uint8_t *register_file, size_t register_length,
+                    uint64_t *work, uint64_t *answer);
+
 /* What a user would pick instead: a store that is loaded with the links of a register, and then asked. Start is called once, before the
  * clock runs; load builds the store anew from the register's bytes; ask leaves the question's pairs in the answer. */
 #define STORE_PEER(name)                                                                                                              \

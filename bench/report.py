@@ -40,9 +40,14 @@ class Measured:
         found = self.rounds.get((records, name, peer, call))
         return None if found is None else median(found)
 
-    def net(self, name: str, call: str, records: int = LARGEST) -> list:
-        """The library's call less the zeroing of the work words, round by round."""
-        return [a - b for a, b in zip(self.rounds[records, name, "library", call], self.rounds[records, name, "-", "clear"])]
+    def net(self, name: str, call: str, records: int = LARGEST, peer: str = "library") -> list:
+        """A call less the zeroing of the work words, round by round."""
+        return [a - b for a, b in zip(self.rounds[records, name, peer, call], self.rounds[records, name, "-", "clear"])]
+
+    def beyond_reading(self, name: str, peer: str, records: int) -> list:
+        """A job less that of `misfiled`, round by round: without members, it only reads, checks and zeroes, and narrows its own question."""
+        fixed = self.time("misfiled", peer, "job", records)
+        return [t - fixed for t in self.rounds[records, name, peer, "job"]]
 
     def ratio(self, name: str, over: tuple, under: tuple, records: int = LARGEST):
         return paired(self.rounds.get((records, name, *over)), self.rounds.get((records, name, *under)))
@@ -54,8 +59,8 @@ class Measured:
 
 
 def paired(over, under):
-    """The median of the ratios of the rounds that both have."""
-    return None if over is None or under is None else median(a / b for a, b in zip(over, under))
+    """The median of the ratios of the rounds that both have. What is left of a short time may be nothing: such a round has no ratio."""
+    return None if over is None or under is None else median(a / b for a, b in zip(over, under) if b != 0)
 
 
 def shown(x, form: str = "{:.2f}") -> str:
@@ -102,6 +107,18 @@ def answer_table(m: Measured) -> str:
     return table(head, rows)
 
 
+def closure_table(m: Measured) -> str:
+    head = ["relation", "N", "library, µs", "C, µs", "Warshall, µs", "Warshall / library", "library / C", "library, ns a row"]
+    rows = []
+    for name in (c.name for c in fleet.CLOSURES):
+        for n in fleet.SIZES:
+            library, by_hand, warshall = (m.net(f"closure-{name}", "plain", n, peer) for peer in ("library", "c", "warshall"))
+            times = [shown(median(times), "{:.1f}") for times in (library, by_hand, warshall)]
+            rows.append([name, f"{n:,}", *times, shown(paired(warshall, library), "{:.1f}"), shown(paired(library, by_hand)),
+                         shown(median(library) / n * 1000, "{:.0f}")])
+    return table(head, rows)
+
+
 def growth_table(m: Measured) -> str:
     head = ["question"] + [f"job at {n}, µs" for n in fleet.SIZES] + [f"job / C at {n}" for n in fleet.SIZES]
     rows = [[q.name] + [shown(m.time(q.name, *JOB, n), "{:.0f}") for n in fleet.SIZES]
@@ -131,6 +148,16 @@ def missed(found: dict, good) -> str:
     return f"met, {span}" if not bad else f"missed on {', '.join(f'{n} ({x:.2f})' for n, x in bad.items())}; {span}"
 
 
+def beyond_reading_goal(m: Measured, records: int) -> tuple:
+    """The job against C's, both less the costs of reading, where C's takes long enough for a ratio."""
+    found = {}
+    for q in fleet.QUESTIONS:
+        ours, theirs = (m.beyond_reading(q.name, peer, records) for peer in ("library", "c"))
+        if median(theirs) >= 2:
+            found[q.name] = paired(ours, theirs)
+    return f"job less the fixed costs of reading at most 1.2 times C's at N = {records}", missed(found, lambda x: x <= 1.2)
+
+
 def goals(m: Measured) -> str:
     names = [q.name for q in fleet.QUESTIONS]
     cases = {n.name: m.time(n.name, "library", "narrow", 0) for n in fleet.NARROWINGS}
@@ -138,12 +165,15 @@ def goals(m: Measured) -> str:
     net = {n: against_net(m, n) for n in names}
     lines = [
         ("job at most 1.2 times C's", missed(of(JOB, ("c", "job")), lambda x: x <= 1.2)),
+        *(beyond_reading_goal(m, n) for n in (128, 256, 512)),
         ("GraphBLAS from bytes takes longer than the job", missed(of(("graphblas", "whole"), JOB), lambda x: x > 1)),
         ("the same, the job less zeroing", missed(net, lambda x: x > 1)),
         ("SQLite from the links takes longer than the job", missed(of(("sqlite", "whole"), JOB), lambda x: x > 1)),
         ("narrowing of the cases under 1,000 µs", missed({n: t for n, t in cases.items() if n.startswith("case")}, lambda x: x < 1000)),
         ("narrowing of the worst found under 50,000 µs", missed({n: t for n, t in cases.items() if not n.startswith("case")}, lambda x: x < 50000)),
         ("narrowed at most 1.1 times plain", missed(of(("library", "narrowed"), ("library", "plain")), lambda x: x <= 1.1)),
+        ("narrowed at most 1.1 times plain, both less zeroing",
+         missed({n: paired(m.net(n, "narrowed"), m.net(n, "plain")) for n in names}, lambda x: x <= 1.1)),
         ("plain at least 2 times narrowed where a heavy chain is cut",
          missed({q.name: m.ratio(q.name, ("library", "plain"), ("library", "narrowed")) for q in fleet.QUESTIONS if q.cuts}, lambda x: x >= 2)),
         ("the same, both less zeroing",
@@ -166,7 +196,8 @@ def machine() -> str:
 def tables(m: Measured, runs: str) -> str:
     return "\n".join([
         f"Machine: {machine()}. {runs}", noise(m), "", goals(m), "The whole job, N = 1,024:", "", job_table(m),
-        "The answers, N = 1,024:", "", answer_table(m), "Growth:", "", growth_table(m), "Narrowing alone:", "", narrow_table(m)])
+        "The answers, N = 1,024:", "", answer_table(m), "Closures, less zeroing:", "", closure_table(m),
+        "Growth:", "", growth_table(m), "Narrowing alone:", "", narrow_table(m)])
 
 
 # Plots, on logarithmic scales of microseconds.

@@ -91,7 +91,8 @@ def main() -> None:
     if done.returncode != 0:
         sys.exit(done.returncode)
     if given.check:
-        print(f"the peers agree on {len(fleet.SIZES) * len(fleet.QUESTIONS)} questions and {len(fleet.NARROWINGS)} narrowings")
+        asked, closed = len(fleet.SIZES) * len(fleet.QUESTIONS), len(fleet.SIZES) * len(fleet.CLOSURES)
+        print(f"the peers agree on {asked} questions, {closed} closures and {len(fleet.NARROWINGS)} narrowings")
     else:
         report.RUNS.write_text(done.stdout)
         report.write()

@@ -59,7 +59,7 @@ pub record Adding (q : Members) (r : Register) (n w : ℕ) (work work′ answer 
   pub used : k ≤ 48 * i
   pub prev : List ℕ
   pub formed : InOrder prev (rest-at q i k)
-  pub kept : Kept 0 (24 * (n * w)) work work′
+  pub kept : Kept 0 (28 * (n * w)) work work′
   pub area : Kept 0 (n * w) answer answer′
   pub pair : (s t : ℕ) → s < n → t / 64 < w
       → pair-at answer′ 0 w s t || narrowed-answer r (members-of (rest-at q i k)) s t ≡ pair-at answer 0 w s t || narrowed-answer r (members-of (given q)) s t
@@ -72,7 +72,7 @@ adding-start q r n w work answer f = record {
   used = omega arith;
   prev = [];
   formed = subst (InOrder []) (sym whole) (f .in-order);
-  kept = kept-refl 0 (24 * (n * w)) work;
+  kept = kept-refl 0 (28 * (n * w)) work;
   area = kept-refl 0 (n * w) answer;
   pair = λ s t hs ht. ap (λ (ms : List Flat). pair-at answer 0 w s t || narrowed-answer r (members-of ms) s t) whole;
 }

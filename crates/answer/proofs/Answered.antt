@@ -40,7 +40,7 @@ use Rattle.answer.proofs.Areas.{stored-words, stored-copied, stored-add
 pub fills-short : {n w : ℕ} {answer : List ℕ} (f : ℕ → ℕ → Bool) (work : List ℕ) → length answer < n * w → Fills n w f (outcome.Refused source.Work (AreaShort (n * w))) work work answer answer
 fills-short {n} {w} {answer} f work h = record { outcome = rw (lt-ltb (length answer) (n * w) h); area = rw (lt-ltb (length answer) (n * w) h); kept = kept-refl 0 (28 * (n * w)) work }
 
-fills-full : {n w : ℕ} {work work′ answer answer′ : List ℕ} (f : ℕ → ℕ → Bool) → row-words n ≡ w → n * w ≤ length answer → Kept 0 (24 * (n * w)) work work′ → Kept 0 (n * w) answer answer′
+fills-full : {n w : ℕ} {work work′ answer answer′ : List ℕ} (f : ℕ → ℕ → Bool) → row-words n ≡ w → n * w ≤ length answer → Kept 0 (28 * (n * w)) work work′ → Kept 0 (n * w) answer answer′
     → Stored answer′ 0 n w f → ((s t : ℕ) → n ≤ t → f s t ≡ false) → ((i : ℕ) → getD answer′ i 0 < 2 ^ 64) → Fills n w f outcome.Accepted work work′ answer answer′
 fills-full {n} {w} {work} {work′} {answer} {answer′} f e h k a st past fits = record {
   outcome = rw (le-ltb (length answer) (n * w) h);
@@ -68,7 +68,7 @@ module _ {s : List ℕ} {n w : ℕ} (ground : Ground s n w) where
     unfolding plain-answer
     fills-plain p o e ev c =
         subst (λ (x : Option PathExpr). Fills n w (asked (register-in s) x) outcome.Accepted work work′ answer answer′) (sym e)
-        (fills-full (asked (register-in s) (some p)) (ground .wide) room (ev .kept) (kept-in (c .kept) (omega arith) (omega arith)) (stored-copied c (ev .pairs)) (past p) fits)
+        (fills-full (asked (register-in s) (some p)) (ground .wide) room (kept-in (ev .kept) (omega arith) (omega arith)) (kept-in (c .kept) (omega arith) (omega arith)) (stored-copied c (ev .pairs)) (past p) fits)
 
     pub fills-narrowed : {answer₁ : List ℕ} (ms : List Member) → Wrote 0 (n * w) (λ j. 0) answer answer₁ → Adds (register-in s) n w (narrowed-answer (register-in s) ms) work work′ answer₁ answer′
         → Fills n w (narrowed-answer (register-in s) ms) outcome.Accepted work work′ answer answer′

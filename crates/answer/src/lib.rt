@@ -18,9 +18,12 @@ ghost use Rattle.fields.specs.declared.Outcome.the-variants as outcome;
 ghost use Rattle.narrowed.specs.Given.{given};
 ghost use Rattle.register.specs.Form.{register-in};
 ghost use Rattle.register.specs.Ahead.{Accepted};
+ghost use Rattle.rows.specs.Kept.{Kept};
 ghost use Rattle.evaluation.specs.Ground.{Ground, symbols-in, MakePath};
+ghost use Rattle.kind_rows.specs.Kinds.{KindRows};
+ghost use Rattle.chains.specs.Chain.{Held};
 ghost use Rattle.answer.specs.Calls.{answered, asked, members-of, plain-call, narrowed-call};
-ghost use Rattle.answer.specs.Said.{Answers, Fills, Adds, Readable};
+ghost use Rattle.answer.specs.Said.{Answers, Fills, Adds, Walks, Readable};
 
 // The words of a row of n records.
 pub fn row_words(n: usize) -> usize
@@ -104,6 +107,57 @@ pub fn plain_answer(
     }
 }
 
+// The answer takes in the pairs of a member that is a chain of steps, walked from the records of its from set alone. False where it is none,
+// or where there is no room to hold its steps: the answer is then as it was.
+fn add_chain(
+    numbers: &[u8],
+    sets: &[u64],
+    first: usize,
+    size: usize,
+    from: u64,
+    to: u64,
+    register: &[u8],
+    kinds: &[u64],
+    n: usize,
+    w: usize,
+    held: &mut [u8],
+    work: &mut [u64],
+    answer: &mut [u64],
+) -> bool
+    requires { ⌜ Ground (now register) n w × (28 * (n * w) ≤ length (now work)) × (n * w ≤ length (now answer)) × (first + size ≤ length (now numbers)) × (first + size ≤ length (now sets)) × (size ≤ 48) ⌝ }
+    requires { ⌜ Held (register-in (now register)) n w (now held) (now work) × KindRows (register-in (now register)) n w (now kinds) ⌝ }
+    ensures { λ b. ⌜ Held (register-in (now (register .entry))) n w (now (held .exit)) (now (work .exit)) × Kept 0 (28 * (n * w)) (now (work .entry)) (now (work .exit))
+        × ((p : PathExpr) → path-of (symbols-in (now (numbers .entry)) (now (sets .entry)) size first) ≡ some p
+        → Walks n w (λ s t. member-answer (register-in (now (register .entry))) s t (member from p to)) b (now (answer .entry)) (now (answer .exit))) ⌝ }
+{
+    if !chains::chained(numbers, first, size) {
+        return false;
+    }
+    let mut sources = [0u64; 16];
+    kind_rows::records_of(&mut sources, kinds, w, from);
+    let m = size / 2;
+    let b = chains::walk(
+        work,
+        register,
+        kinds,
+        n,
+        w,
+        held,
+        numbers,
+        sets,
+        first,
+        m,
+        &sources,
+    );
+    if chains::RELATIONS * (n * w) <= b {
+        return false;
+    }
+    let mut targets = [0u64; 16];
+    kind_rows::records_of(&mut targets, kinds, w, to);
+    relation::add_between(answer, work, b, n, w, &sources, &targets);
+    true
+}
+
 // The answer takes in the pairs of a member whose `size` symbols begin with the first.
 fn add_member(
     numbers: &[u8],
@@ -113,23 +167,44 @@ fn add_member(
     from: u64,
     to: u64,
     register: &[u8],
+    kinds: &[u64],
     n: usize,
     w: usize,
+    held: &mut [u8],
     work: &mut [u64],
     answer: &mut [u64],
 )
     requires { ⌜ Ground (now register) n w × (28 * (n * w) ≤ length (now work)) × (n * w ≤ length (now answer)) × (first + size ≤ length (now numbers)) × (first + size ≤ length (now sets)) × (size ≤ 48) ⌝ }
     requires { ⌜ MakePath (now numbers) (now sets) size first ⌝ }
-    ensures { λ _. ⌜ ((p : PathExpr) → path-of (symbols-in (now (numbers .entry)) (now (sets .entry)) size first) ≡ some p
+    requires { ⌜ Held (register-in (now register)) n w (now held) (now work) × KindRows (register-in (now register)) n w (now kinds) ⌝ }
+    ensures { λ _. ⌜ Held (register-in (now (register .entry))) n w (now (held .exit)) (now (work .exit))
+        × ((p : PathExpr) → path-of (symbols-in (now (numbers .entry)) (now (sets .entry)) size first) ≡ some p
         → Adds (register-in (now (register .entry))) n w (λ s t. member-answer (register-in (now (register .entry))) s t (member from p to))
         (now (work .entry)) (now (work .exit)) (now (answer .entry)) (now (answer .exit))) ⌝ }
 {
+    if add_chain(
+        numbers,
+        sets,
+        first,
+        size,
+        from,
+        to,
+        register,
+        kinds,
+        n,
+        w,
+        held,
+        work,
+        answer,
+    ) {
+        return;
+    }
     evaluation::evaluate(work, n, w, register, numbers, sets, first, size);
     let mut sources = [0u64; 16];
     let mut targets = [0u64; 16];
-    evaluation::kind_mask(&mut sources, register, n, w, from);
-    evaluation::kind_mask(&mut targets, register, n, w, to);
-    relation::add_between(answer, work, n, w, &sources, &targets);
+    kind_rows::records_of(&mut sources, kinds, w, from);
+    kind_rows::records_of(&mut targets, kinds, w, to);
+    relation::add_between(answer, work, 0, n, w, &sources, &targets);
 }
 
 fn wide(x: u8) -> usize
@@ -157,6 +232,9 @@ fn add_members(
     let to = q.to;
     let numbers = q.numbers;
     let sets = q.sets;
+    let mut kinds = [0u64; kind_rows::TABLE];
+    kind_rows::fill(&mut kinds, register, n, w);
+    let mut held = [chains::NONE; chains::HELD];
     let mut first = 0;
     for i in 0..count {
         let size = wide(sizes[i]);
@@ -168,8 +246,10 @@ fn add_members(
             from[i],
             to[i],
             register,
+            &kinds,
             n,
             w,
+            &mut held,
             work,
             answer,
         );

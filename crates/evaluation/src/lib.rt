@@ -22,7 +22,8 @@ ghost use Rattle.relation.specs.Pairs.{pair-at, Made, Clean};
 ghost use Rattle.evaluation.specs.Ground.{Ground, direction, leads?, closes?, symbols-in, MakePath};
 ghost use Rattle.evaluation.specs.Stack.{binary?, Fits, Applied, Evaluated};
 
-fn wide(k: Kind) -> usize
+// The number of a kind.
+pub fn wide(k: Kind) -> usize
     ensures { λ r. ⌜ r ≡ k .0 ⌝ }
 {
     k.0 as usize
@@ -104,7 +105,7 @@ fn add_links(
 }
 
 // The relation at b becomes the pairs of a step.
-fn step(work: &mut [u64], b: usize, n: usize, w: usize, register: &[u8], l: Link, forward: bool)
+pub fn step(work: &mut [u64], b: usize, n: usize, w: usize, register: &[u8], l: Link, forward: bool)
     requires { ⌜ (b + n * w ≤ length (now work)) × Ground (now register) n w ⌝ }
     ensures { λ _. ⌜ Made b n w (step? (register-in (now (register .entry))) (direction forward) (l .0)) (now (work .entry)) (now (work .exit)) ⌝ }
 {

@@ -10,7 +10,7 @@ use native.Mathlib.Omega.{arith}
 use Rattle.rows.specs.Row.{row-bit, Row}
 use Rattle.rows.proofs.Rows.{kept-bit, row-is, row-same}
 use Rattle.relation.specs.Pairs.{pair-at, Made}
-use Rattle.relation.proofs.Making.{row-le, made-more}
+use Rattle.relation.proofs.Making.{row-shift, made-more, made-whole}
 
 -- ---- one row
 -- combined with a copy of another row is combined with that row
@@ -35,17 +35,17 @@ pub combined-more : {b s w : ℕ} {xs ys zs : List ℕ} (op : Bool → Bool → 
     → Row (b + s * w) w (λ t. op (row-bit ys (b + s * w) t) (h t)) ys zs → ((t : ℕ) → t / 64 < w → h t ≡ g s t) → Made b (s + 1) w (λ i t. op (pair-at xs b w i t) (g i t)) xs zs
 combined-more {b} {s} {w} op g h m r e = made-more m (row-is r (λ t l. ap₂ op (row-ahead (b + s * w) t m (omega arith) l) (e t l)))
 
--- with the rows of the relation at q
-pub both-more : {p s w : ℕ} {xs ys zs : List ℕ} (op : Bool → Bool → Bool) (q n : ℕ) → Made p s w (λ i t. op (pair-at xs p w i t) (pair-at xs q w i t)) xs ys
-    → Row (p + s * w) w (λ t. op (row-bit ys (p + s * w) t) (row-bit ys (q + s * w) t)) ys zs → s < n → p + n * w ≤ q
-    → Made p (s + 1) w (λ i t. op (pair-at xs p w i t) (pair-at xs q w i t)) xs zs
-both-more {p} {s} {w} {xs} {ys} op q n m r h a =
-    combined-more op (pair-at xs q w) (row-bit ys (q + s * w)) m r (λ t l. row-ahead (q + s * w) t m (omega (arith, row-le w h)) l)
+-- with the pairs of the relation at q of ws whose ends the masks fs and ts have
+pub between-more : {s w : ℕ} {xs ys zs : List ℕ} (ws fs ts : List ℕ) (q : ℕ) → Made 0 s w (λ i t. pair-at xs 0 w i t || (pair-at ws q w i t && (row-bit fs 0 i && row-bit ts 0 t))) xs ys
+    → Row (s * w) w (λ t. row-bit ys (s * w) t || (row-bit ws (q + s * w) t && (row-bit fs 0 s && row-bit ts 0 t))) ys zs
+    → Made 0 (s + 1) w (λ i t. pair-at xs 0 w i t || (pair-at ws q w i t && (row-bit fs 0 i && row-bit ts 0 t))) xs zs
+between-more {s} {w} {xs} {ys} {zs} ws fs ts q m r =
+    combined-more _||_ (λ i t. pair-at ws q w i t && (row-bit fs 0 i && row-bit ts 0 t)) (λ t. pair-at ws q w s t && (row-bit fs 0 s && row-bit ts 0 t)) m at (λ t l. refl)
+  where
+    at : Row (0 + s * w) w (λ t. row-bit ys (0 + s * w) t || (row-bit ws (q + s * w) t && (row-bit fs 0 s && row-bit ts 0 t))) ys zs
+    at = rw (zero-add (s * w)) r
 
--- with the pairs of the relation at the start of ws whose ends the masks fs and ts have
-pub between-more : {s w : ℕ} {xs ys zs : List ℕ} (ws fs ts : List ℕ) → Made 0 s w (λ i t. pair-at xs 0 w i t || (pair-at ws 0 w i t && (row-bit fs 0 i && row-bit ts 0 t))) xs ys
-    → Row (s * w) w (λ t. row-bit ys (s * w) t || (row-bit ws (s * w) t && (row-bit fs 0 s && row-bit ts 0 t))) ys zs
-    → Made 0 (s + 1) w (λ i t. pair-at xs 0 w i t || (pair-at ws 0 w i t && (row-bit fs 0 i && row-bit ts 0 t))) xs zs
-between-more {s} {w} ws fs ts m r =
-    combined-more _||_ (λ i t. pair-at ws 0 w i t && (row-bit fs 0 i && row-bit ts 0 t)) (λ t. pair-at ws 0 w s t && (row-bit fs 0 s && row-bit ts 0 t)) m
-    (rw (zero-add (s * w)) r) (λ t l. refl)
+-- the words of the relations at p and q, combined as one row each
+pub both-whole : {p n w : ℕ} {xs ys : List ℕ} (op : Bool → Bool → Bool) (q : ℕ) → Row p (n * w) (λ t. op (row-bit xs p t) (row-bit xs q t)) xs ys
+    → Made p n w (λ s t. op (pair-at xs p w s t) (pair-at xs q w s t)) xs ys
+both-whole {p} {w = w} {xs} op q r = made-whole r (λ s t. ap₂ op (sym (row-shift xs p (s * w) t)) (sym (row-shift xs q (s * w) t)))

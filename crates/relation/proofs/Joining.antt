@@ -152,13 +152,13 @@ words-more {rs} xs ms d q w i p b =
         ∙ some-add (by-row xs ms d q w t) (64 * i) 64
         ∙ ap (λ (x : Bool). some? (by-row xs ms d q w t) (range (64 * i)) || x) (some-same (λ j. by-row xs ms d q w t (64 * i + j)) (by-word t) 64 (same t))
 
--- ---- from zeros, and back into the row at d: a clean row has no bit of n or more
+-- ---- from zeros, and into a row: a clean row has no bit of n or more
 pub row-blank : (m t : ℕ) → t / 64 < m → row-bit (replicate m 0) 0 t ≡ false
 unfolding row-bit
 row-blank m t h = ap (λ (x : ℕ). bitOf x (t % 64)) (getD-replicate m (0 + t / 64) 0 0 (omega arith)) ∙ bit-zero (t % 64)
 
-pub words-all : {rs xs ys : List ℕ} (ms : List ℕ) (m d q n w : ℕ) → Row 0 w (taken-row (replicate m 0) xs ms d q w (64 * w)) (replicate m 0) rs → Row d w (row-bit rs 0) xs ys
-    → w ≤ m → n ≤ 64 * w → CleanRow xs d n w → Row d w (λ t. some? (by-row xs ms d q w t) (range n)) xs ys
+pub words-all : {rs xs ys : List ℕ} {b : ℕ} (ms : List ℕ) (m d q n w : ℕ) → Row 0 w (taken-row (replicate m 0) xs ms d q w (64 * w)) (replicate m 0) rs → Row b w (row-bit rs 0) xs ys
+    → w ≤ m → n ≤ 64 * w → CleanRow xs d n w → Row b w (λ t. some? (by-row xs ms d q w t) (range n)) xs ys
 unfolding taken-row
 words-all {xs = xs} ms m d q n w p r hm hn c =
     row-is r (λ t h.

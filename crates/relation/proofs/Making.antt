@@ -54,3 +54,18 @@ made-clear {b} {n} {w} p = record {
   kept = p .kept;
   pair = λ s t h l. ap (λ (x : ℕ). bitOf x (t % 64)) (rw (add-assoc b (s * w) (t / 64)) (p .word (s * w + t / 64) (omega (arith, row-le w h)))) ∙ bit-zero (t % 64);
 }
+
+-- ---- a relation made as one row of all its words
+-- bit t of the row k words on
+pub row-shift : (xs : List ℕ) (b k t : ℕ) → row-bit xs (b + k) t ≡ row-bit xs b (64 * k + t)
+unfolding row-bit
+row-shift xs b k t =
+    let d : (64 * k + t) / 64 ≡ k + t / 64 = omega arith in
+    let e : (64 * k + t) % 64 ≡ t % 64 = omega arith in
+    rw (d, e, add-assoc b k (t / 64))
+
+pub made-whole : {b n w : ℕ} {g : ℕ → Bool} {f : ℕ → ℕ → Bool} {xs ys : List ℕ} → Row b (n * w) g xs ys → ((s t : ℕ) → g (64 * (s * w) + t) ≡ f s t) → Made b n w f xs ys
+made-whole {b} {w = w} {ys = ys} r e = record {
+  kept = r .kept;
+  pair = λ s t h l. row-shift ys b (s * w) t ∙ r .bit (64 * (s * w) + t) (let k = row-le w h in omega arith) ∙ e s t;
+}

@@ -47,15 +47,23 @@ fn take_row(row: &mut [u64], work: &[u64], d: usize, q: usize, n: usize, w: usiz
     }
 }
 
-// The row at d becomes the union of the rows z of the relation at q, for each z that the row at d and the mask have. An empty one stays.
+// The row at d becomes the union of the rows z of the relation at q, for each z that the row at s and the mask have.
+pub fn follow_row(work: &mut [u64], d: usize, s: usize, q: usize, n: usize, w: usize, mask: &[u64])
+    requires { ⌜ (d + w ≤ length (now work)) × (s + w ≤ length (now work)) × (q + n * w ≤ length (now work)) × (w ≤ 16) × (n ≤ 64 * w) × (w ≤ length (now mask)) × CleanRow (now work) s n w ⌝ }
+    ensures { λ _. ⌜ Row d w (λ t. some? (λ z. row-bit (now (work .entry)) s z && (pair-at (now (work .entry)) q w z t && row-bit (now (mask .entry)) 0 z)) (range n)) (now (work .entry)) (now (work .exit)) ⌝ }
+{
+    let mut joined = [0u64; 16];
+    take_row(&mut joined, work, s, q, n, w, mask);
+    rows::copy(work, d, &joined, 0, w);
+}
+
+// The row at d is followed from itself. An empty one stays.
 fn join_row(work: &mut [u64], d: usize, q: usize, n: usize, w: usize, mask: &[u64])
     requires { ⌜ (d + w ≤ q) × (q + n * w ≤ length (now work)) × (w ≤ 16) × (n ≤ 64 * w) × (w ≤ length (now mask)) × CleanRow (now work) d n w ⌝ }
     ensures { λ _. ⌜ Row d w (λ t. some? (λ z. row-bit (now (work .entry)) d z && (pair-at (now (work .entry)) q w z t && row-bit (now (mask .entry)) 0 z)) (range n)) (now (work .entry)) (now (work .exit)) ⌝ }
 {
     if rows::any(work, d, w) {
-        let mut joined = [0u64; 16];
-        take_row(&mut joined, work, d, q, n, w, mask);
-        rows::copy(work, d, &joined, 0, w);
+        follow_row(work, d, d, q, n, w, mask);
     }
 }
 
@@ -70,32 +78,12 @@ pub fn join(work: &mut [u64], p: usize, q: usize, n: usize, w: usize, mask: &[u6
     }
 }
 
-fn union_row(work: &mut [u64], d: usize, s: usize, w: usize)
-    requires { ⌜ (d + w ≤ s) × (s + w ≤ length (now work)) × (w ≤ 16) ⌝ }
-    ensures { λ _. ⌜ Row d w (λ t. row-bit (now (work .entry)) d t || row-bit (now (work .entry)) s t) (now (work .entry)) (now (work .exit)) ⌝ }
-{
-    let mut row = [0u64; 16];
-    rows::copy(&mut row, 0, work, s, w);
-    rows::unite(work, d, &row, 0, w);
-}
-
 // The relation at p takes in the pairs of the one at q.
 pub fn union(work: &mut [u64], p: usize, q: usize, n: usize, w: usize)
     requires { ⌜ (p + n * w ≤ q) × (q + n * w ≤ length (now work)) × (w ≤ 16) ⌝ }
     ensures { λ _. ⌜ Made p n w (op? n union (pair-at (now (work .entry)) p w) (pair-at (now (work .entry)) q w)) (now (work .entry)) (now (work .exit)) ⌝ }
 {
-    for s in 0..n {
-        union_row(work, p + s * w, q + s * w, w);
-    }
-}
-
-fn intersection_row(work: &mut [u64], d: usize, s: usize, w: usize)
-    requires { ⌜ (d + w ≤ s) × (s + w ≤ length (now work)) × (w ≤ 16) ⌝ }
-    ensures { λ _. ⌜ Row d w (λ t. row-bit (now (work .entry)) d t && row-bit (now (work .entry)) s t) (now (work .entry)) (now (work .exit)) ⌝ }
-{
-    let mut row = [0u64; 16];
-    rows::copy(&mut row, 0, work, s, w);
-    rows::restrict(work, d, &row, 0, w);
+    rows::unite_within(work, p, q, n * w);
 }
 
 // The relation at p loses the pairs that the one at q lacks.
@@ -103,9 +91,7 @@ pub fn intersection(work: &mut [u64], p: usize, q: usize, n: usize, w: usize)
     requires { ⌜ (p + n * w ≤ q) × (q + n * w ≤ length (now work)) × (w ≤ 16) ⌝ }
     ensures { λ _. ⌜ Made p n w (op? n conjunction (pair-at (now (work .entry)) p w) (pair-at (now (work .entry)) q w)) (now (work .entry)) (now (work .exit)) ⌝ }
 {
-    for s in 0..n {
-        intersection_row(work, p + s * w, q + s * w, w);
-    }
+    rows::restrict_within(work, p, q, n * w);
 }
 
 // The word of a mask for the m records from g on: those from which a pair of the relation at q leads.
@@ -185,22 +171,39 @@ pub fn branch_left(work: &mut [u64], p: usize, q: usize, n: usize, w: usize)
     }
 }
 
-// Where the mask `from` has s, the row at d of the answer takes in those bits of the row at d of the work that the mask `to` has.
-fn add_row(answer: &mut [u64], work: &[u64], d: usize, w: usize, s: usize, from: &[u64], to: &[u64])
-    requires { ⌜ (d + w ≤ length (now answer)) × (d + w ≤ length (now work)) × (s / 64 < length (now from)) × (w ≤ length (now to)) ⌝ }
-    ensures { λ _. ⌜ Row d w (λ t. row-bit (now (answer .entry)) d t || (row-bit (now (work .entry)) d t && (row-bit (now (from .entry)) 0 s && row-bit (now (to .entry)) 0 t))) (now (answer .entry)) (now (answer .exit)) ⌝ }
+// Where the mask `from` has s, the row at d of the answer takes in those bits of the row at e of the work that the mask `to` has.
+fn add_row(
+    answer: &mut [u64],
+    work: &[u64],
+    d: usize,
+    e: usize,
+    w: usize,
+    s: usize,
+    from: &[u64],
+    to: &[u64],
+)
+    requires { ⌜ (d + w ≤ length (now answer)) × (e + w ≤ length (now work)) × (s / 64 < length (now from)) × (w ≤ length (now to)) ⌝ }
+    ensures { λ _. ⌜ Row d w (λ t. row-bit (now (answer .entry)) d t || (row-bit (now (work .entry)) e t && (row-bit (now (from .entry)) 0 s && row-bit (now (to .entry)) 0 t))) (now (answer .entry)) (now (answer .exit)) ⌝ }
 {
     if rows::has(from, 0, s) {
-        rows::unite_masked(answer, d, work, d, to, w);
+        rows::unite_masked(answer, d, work, e, to, w);
     }
 }
 
-// The relation at the start of the answer takes in the pairs of the one at the start of the work whose ends the two masks have.
-pub fn add_between(answer: &mut [u64], work: &[u64], n: usize, w: usize, from: &[u64], to: &[u64])
-    requires { ⌜ (n * w ≤ length (now answer)) × (n * w ≤ length (now work)) × (n ≤ 64 * w) × (w ≤ length (now from)) × (w ≤ length (now to)) ⌝ }
-    ensures { λ _. ⌜ Made 0 n w (λ s t. pair-at (now (answer .entry)) 0 w s t || (pair-at (now (work .entry)) 0 w s t && (row-bit (now (from .entry)) 0 s && row-bit (now (to .entry)) 0 t))) (now (answer .entry)) (now (answer .exit)) ⌝ }
+// The relation at the start of the answer takes in the pairs of the one at q of the work whose ends the two masks have.
+pub fn add_between(
+    answer: &mut [u64],
+    work: &[u64],
+    q: usize,
+    n: usize,
+    w: usize,
+    from: &[u64],
+    to: &[u64],
+)
+    requires { ⌜ (n * w ≤ length (now answer)) × (q + n * w ≤ length (now work)) × (n ≤ 64 * w) × (w ≤ length (now from)) × (w ≤ length (now to)) ⌝ }
+    ensures { λ _. ⌜ Made 0 n w (λ s t. pair-at (now (answer .entry)) 0 w s t || (pair-at (now (work .entry)) q w s t && (row-bit (now (from .entry)) 0 s && row-bit (now (to .entry)) 0 t))) (now (answer .entry)) (now (answer .exit)) ⌝ }
 {
     for s in 0..n {
-        add_row(answer, work, s * w, w, s, from, to);
+        add_row(answer, work, s * w, q + s * w, w, s, from, to);
     }
 }

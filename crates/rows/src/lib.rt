@@ -271,3 +271,23 @@ pub fn unite_masked(to: &mut [u64], d: usize, from: &[u64], s: usize, mask: &[u6
         _ => unite_masked_words(to, d, from, s, mask, n),
     }
 }
+
+// The n words at d take in the bits of those at s, which lie behind them in the same words.
+pub fn unite_within(words: &mut [u64], d: usize, s: usize, n: usize)
+    requires { ⌜ (d + n ≤ s) × (s + n ≤ length (now words)) ⌝ }
+    ensures { λ _. ⌜ Row d n (λ t. row-bit (now (words .entry)) d t || row-bit (now (words .entry)) s t) (now (words .entry)) (now (words .exit)) ⌝ }
+{
+    for j in 0..n {
+        words[d + j] = words[d + j] | words[s + j];
+    }
+}
+
+// The n words at d lose the bits that those at s lack, which lie behind them in the same words.
+pub fn restrict_within(words: &mut [u64], d: usize, s: usize, n: usize)
+    requires { ⌜ (d + n ≤ s) × (s + n ≤ length (now words)) ⌝ }
+    ensures { λ _. ⌜ Row d n (λ t. row-bit (now (words .entry)) d t && row-bit (now (words .entry)) s t) (now (words .entry)) (now (words .exit)) ⌝ }
+{
+    for j in 0..n {
+        words[d + j] = words[d + j] & words[s + j];
+    }
+}

@@ -154,7 +154,15 @@ fn finish(
 }
 
 // A row that the walk has not met, one that the last row on the stack leads to; at its start any. 64 w where there is none.
-fn ahead(work: &[u64], unseen: &[u64], stack: &[usize], b: usize, n: usize, w: usize, depth: usize) -> usize
+fn ahead(
+    work: &[u64],
+    unseen: &[u64],
+    stack: &[usize],
+    b: usize,
+    n: usize,
+    w: usize,
+    depth: usize,
+) -> usize
     requires { ⌜ (b + n * w ≤ length (now work)) × (w ≤ 16) × Trail (now stack) (now unseen) n w depth ⌝ }
     ensures { λ k. ⌜ Ahead (now (unseen .entry)) w k ⌝ }
 {
@@ -210,7 +218,19 @@ fn walk(
     let mut depth = 0;
     let mut k = ahead(work, &unseen, &stack, b, n, w, 0);
     while k < 64 * w + depth {
-        depth = turn(work, pending, finished, &mut unseen, &mut stack, live, b, n, w, depth, k);
+        depth = turn(
+            work,
+            pending,
+            finished,
+            &mut unseen,
+            &mut stack,
+            live,
+            b,
+            n,
+            w,
+            depth,
+            k,
+        );
         k = ahead(work, &unseen, &stack, b, n, w, depth);
     }
 }

@@ -1,31 +1,51 @@
--- `answer::add_member` meets its contract.
+-- `answer::add_member` meets its contract: it is walked as a chain, or evaluated as any path.
 -- Assumes nothing.
-use Rattle.answer.proofs.Masked.{added}
-use Rattle.evaluation.proofs.Grounds.{rows-hold, narrow}
 use native.Mathlib.Omega.{arith}
+use Rattle.evaluation.proofs.Grounds.{rows-hold, narrow}
+use Rattle.kind_rows.proofs.Tables.{set-mask}
+use mathlib.Core.Path.{ap}
+use lib.ListN.{length}
+use Rattle.chains.proofs.Walking.{held-kept}
+use Rattle.answer.proofs.Masked.{added, added-same}
 use borrow.Author.Needs.{needs}
 use Rattle.answer.proofs.add_member.Statement.{statement}
 use Rattle.answer.proofs.add_member.Tie as tie
 use Rattle.answer.proofs.add_member.Reads as reads
 use Rattle.answer.proofs.add_member.Lts as lts
+use Rattle.answer.proofs.add_chain.Reads as add-chain-reads
 use Rattle.evaluation.proofs.evaluate.Reads as evaluate-reads
-use Rattle.evaluation.proofs.kind_mask.Reads as kind-mask-reads
+use Rattle.kind_rows.proofs.records_of.Reads as records-of-reads
 use Rattle.relation.proofs.add_between.Reads as add-between-reads
 
+add-chain-requires : tie.Need-add-chain-requires
+add-chain-requires c κs = let p = c .before .before .before .before .before .before .before .before .before .before .pre in (p .0, p .1 .1)
+
+same-length : tie.Need-same-length
+same-length c = search needs
+
+same-length-2 : tie.Need-same-length-2
+same-length-2 c = search needs
+
+same-length-3 : tie.Need-same-length-3
+same-length-3 c = search needs
+
+returns : tie.Need-returns
+returns c = let v = c .before .before .before .before .before .before .before .add-chain .ensures in (v .0, λ x e. record { pairs = v .2 x e .pairs (c .if1 .taken); kept = v .1 })
+
 evaluate-requires : tie.Need-evaluate-requires
-evaluate-requires c κs = let r = c .before .before .before .before .before .before .pre in ((r .0 .0, omega (arith, r .0 .1), r .0 .3, r .0 .4, r .0 .5), r .1)
+evaluate-requires c κs = let p = c .before .before .before .before .before .before .before .before .before .before .before .before .before .before .before .before .before .before .before .pre in ((p .0 .0, omega (arith, p .0 .1, c .before .before .before .before .before .before .before .before .add-chain .ensures .1 .len), p .0 .3, p .0 .4, p .0 .5), p .1 .0)
 
-slice-aggregate-kind-mask : tie.Need-slice-aggregate-kind-mask
-slice-aggregate-kind-mask c = search needs
+slice-aggregate-records-of : tie.Need-slice-aggregate-records-of
+slice-aggregate-records-of c = search needs
 
-kind-mask-requires : tie.Need-kind-mask-requires
-kind-mask-requires c κs = let r = c .before .before .before .before .before .before .before .before .before .before .pre .0 in (narrow (r .0), r .0)
+records-of-requires : tie.Need-records-of-requires
+records-of-requires c κs = let p = c .before .before .before .before .before .before .before .before .before .before .before .before .before .before .before .before .before .before .before .before .before .before .before .pre in (narrow (p .0 .0), p .1 .1 .1 .room)
 
-slice-aggregate-kind-mask-2 : tie.Need-slice-aggregate-kind-mask-2
-slice-aggregate-kind-mask-2 c = search needs
+slice-aggregate-records-of-2 : tie.Need-slice-aggregate-records-of-2
+slice-aggregate-records-of-2 c = search needs
 
-kind-mask-requires-2 : tie.Need-kind-mask-requires-2
-kind-mask-requires-2 c κs = let r = c .before .before .before .before .before .before .before .before .before .before .before .before .before .pre .0 in (narrow (r .0), r .0)
+records-of-requires-2 : tie.Need-records-of-requires-2
+records-of-requires-2 c κs = let p = c .before .before .before .before .before .before .before .before .before .before .before .before .before .before .before .before .before .before .before .before .before .before .before .before .before .before .pre in (narrow (p .0 .0), p .1 .1 .1 .room)
 
 slice-aggregate-add-between : tie.Need-slice-aggregate-add-between
 slice-aggregate-add-between c = search needs
@@ -35,32 +55,49 @@ slice-aggregate-add-between-2 c = search needs
 
 add-between-requires : tie.Need-add-between-requires
 add-between-requires c κs =
-    let r = c .before .before .before .before .before .before .before .before .before .before .before .before .before .before .before .before .before .before .before .pre in
-    let e = c .before .before .before .before .before .before .before .before .before .before .before .before .evaluate .ensures (r .1 .0) (r .1 .1) .kept .len in
-    let w = narrow (r .0 .0) in
-    (r .0 .2, omega (arith, e, r .0 .1), rows-hold (r .0 .0), omega (arith, w, c .before .before .before .before .before .before .before .before .kind-mask .ensures .kept .len), omega (arith, w, c .before .before .before .before .before .kind-mask2 .ensures .kept .len))
+    let p = c .before .before .before .before .before .before .before .before .before .before .before .before .before .before .before .before .before .before .before .before .before .before .before .before .before .before .before .before .before .before .before .before .pre in
+    let v = c .before .before .before .before .before .before .before .before .before .before .before .before .before .before .before .before .before .before .before .before .before .add-chain .ensures in
+    let e = c .before .before .before .before .before .before .before .before .before .before .before .before .evaluate .ensures (p .1 .0 .0) (p .1 .0 .1) .kept .len in
+    let w = narrow (p .0 .0) in
+    (omega (arith, p .0 .2, ap length (v .2 (p .1 .0 .0) (p .1 .0 .1) .same (c .before .before .before .before .before .before .before .before .before .before .before .before .before .before .if1 .left))), omega (arith, e, p .0 .1, v .1 .len), rows-hold (p .0 .0), omega (arith, w, c .before .before .before .before .before .before .before .before .records-of .ensures .kept .len), omega (arith, w, c .before .before .before .before .before .records-of2 .ensures .kept .len))
 
-same-length : tie.Need-same-length
-same-length c = search needs
+same-length-4 : tie.Need-same-length-4
+same-length-4 c = search needs
 
-same-length-2 : tie.Need-same-length-2
-same-length-2 c = search needs
+same-length-5 : tie.Need-same-length-5
+same-length-5 c = search needs
 
-returns : tie.Need-returns
-returns c p e = let a = c .before .before .before .before .before .before .before .before .before .before .before .before .before .before .before .before .before .before .before .before .before .before .args in added (c .before .before .before .before .before .before .before .before .before .before .before .before .before .before .before .before .before .before .before .before .before .before .pre .0 .0) (a .from) (a .to) p (c .before .before .before .before .before .before .before .before .before .before .before .before .before .before .before .evaluate .ensures p e) (c .before .before .before .before .before .before .before .before .before .before .before .kind-mask .ensures) (c .before .before .before .before .before .before .before .before .kind-mask2 .ensures) (c .before .before .add-between .ensures)
+same-length-6 : tie.Need-same-length-6
+same-length-6 c = search needs
+
+returns-2 : tie.Need-returns-2
+returns-2 c =
+    let a = c .before .before .before .before .before .before .before .before .before .before .before .before .before .before .before .before .before .before .before .before .before .before .before .before .before .before .before .before .before .before .before .before .before .before .before .args in
+    let p = c .before .before .before .before .before .before .before .before .before .before .before .before .before .before .before .before .before .before .before .before .before .before .before .before .before .before .before .before .before .before .before .before .before .before .before .pre in
+    let g = p .0 .0 in
+    let k = p .1 .1 .1 in
+    let v = c .before .before .before .before .before .before .before .before .before .before .before .before .before .before .before .before .before .before .before .before .before .before .before .before .add-chain .ensures in
+    let d = c .before .before .before .before .before .before .before .before .before .before .before .before .before .before .before .evaluate .ensures in
+    (held-kept g (v .0) (d (p .1 .0 .0) (p .1 .0 .1) .kept) (omega arith), λ x e. added-same (v .2 x e .same (c .before .before .before .before .before .before .before .before .before .before .before .before .before .before .before .before .before .if1 .left)) (added g (a .from) (a .to) x (v .1) (d x e) (set-mask g (a .from) k (c .before .before .before .before .before .before .before .before .before .before .before .records-of .ensures)) (set-mask g (a .to) k (c .before .before .before .before .before .before .before .before .records-of2 .ensures)) (c .before .before .add-between .ensures)))
 
 pub add-member-spec : {M : Type 1} → statement M
 add-member-spec =
     tie.close
     (tie.spec
+    add-chain-requires
+    same-length
+    same-length-2
+    same-length-3
+    returns
     evaluate-requires
-    slice-aggregate-kind-mask
-    kind-mask-requires
-    slice-aggregate-kind-mask-2
-    kind-mask-requires-2
+    slice-aggregate-records-of
+    records-of-requires
+    slice-aggregate-records-of-2
+    records-of-requires-2
     slice-aggregate-add-between
     slice-aggregate-add-between-2
     add-between-requires
-    same-length
-    same-length-2
-    returns)
+    same-length-4
+    same-length-5
+    same-length-6
+    returns-2)

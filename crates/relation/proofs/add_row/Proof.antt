@@ -1,4 +1,4 @@
--- `relation::add_row` meets its contract.
+-- `relation::add_row` meets its contract: a row that the mask lacks is left alone.
 -- Assumes nothing.
 use mathlib.Core.Path.{sym, _∙_}
 use Rattle.relation.proofs.Combining.{gained-yes, gained-no}
@@ -24,12 +24,12 @@ same-length c = search needs
 returns : tie.Need-returns
 returns c =
     let a = c .before .before .before .before .before .before .before .before .before .before .args in
-    gained-yes (λ b t. row-bit (a .work .now) (a .d) t && (b && row-bit (a .to .now) 0 t)) (c .before .before .unite-masked .ensures) (sym (c .before .before .before .before .before .has .ensures) ∙ c .before .before .before .before .if1 .taken)
+    gained-yes (λ b t. row-bit (a .work .now) (a .e) t && (b && row-bit (a .to .now) 0 t)) (c .before .before .unite-masked .ensures) (sym (c .before .before .before .before .before .has .ensures) ∙ c .before .before .before .before .if1 .taken)
 
 returns-2 : tie.Need-returns-2
 returns-2 c =
     let a = c .before .before .before .before .before .before .args in
-    gained-no _ _ _ (λ b t. row-bit (a .work .now) (a .d) t && (b && row-bit (a .to .now) 0 t)) (sym (c .before .has .ensures) ∙ c .if1 .left) (λ t. and-false (row-bit (a .work .now) (a .d) t))
+    gained-no _ _ _ (λ b t. row-bit (a .work .now) (a .e) t && (b && row-bit (a .to .now) 0 t)) (sym (c .before .has .ensures) ∙ c .if1 .left) (λ t. and-false (row-bit (a .work .now) (a .e) t))
 
 pub add-row-spec : {M : Type 1} → statement M
 add-row-spec =

@@ -1,0 +1,2 @@
+-- the table, and the records of a set of kinds
+pub mod Tables

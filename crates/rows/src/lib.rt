@@ -78,8 +78,8 @@ fn any_words(words: &[u64], r: usize, n: usize) -> bool
     v != 0
 }
 
-// Whether the row of n words at r has a bit. Of constant length where `copy` is.
-pub fn any(words: &[u64], r: usize, n: usize) -> bool
+// As `any`, for rows of other than 16 words.
+fn any_narrow(words: &[u64], r: usize, n: usize) -> bool
     requires { ⌜ r + n ≤ length (now words) ⌝ }
     ensures { λ a. ⌜ a ≡ some? (row-bit (now (words .entry)) r) (range (64 * n)) ⌝ }
 {
@@ -88,9 +88,19 @@ pub fn any(words: &[u64], r: usize, n: usize) -> bool
         2 => any_words(words, r, 2),
         4 => any_words(words, r, 4),
         8 => any_words(words, r, 8),
-        16 => any_words(words, r, 16),
         _ => any_words(words, r, n),
     }
+}
+
+// Whether the row of n words at r has a bit. Of constant length where `copy` is.
+pub fn any(words: &[u64], r: usize, n: usize) -> bool
+    requires { ⌜ r + n ≤ length (now words) ⌝ }
+    ensures { λ a. ⌜ a ≡ some? (row-bit (now (words .entry)) r) (range (64 * n)) ⌝ }
+{
+    if n == 16 {
+        return any_words(words, r, 16);
+    }
+    any_narrow(words, r, n)
 }
 
 // As `meets`, by a loop.
@@ -105,8 +115,8 @@ fn meets_words(words: &[u64], r: usize, a: &[u64], b: &[u64], n: usize) -> bool
     v != 0
 }
 
-// Whether the row of n words at r and both masks have a bit in common. Of constant length where `copy` is.
-fn meets(words: &[u64], r: usize, a: &[u64], b: &[u64], n: usize) -> bool
+// As `meets`, for rows of other than 16 words.
+fn meets_narrow(words: &[u64], r: usize, a: &[u64], b: &[u64], n: usize) -> bool
     requires { ⌜ (r + n ≤ length (now words)) × (n ≤ length (now a)) × (n ≤ length (now b)) ⌝ }
     ensures { λ m. ⌜ m ≡ some? (common (now (words .entry)) r (now (a .entry)) (now (b .entry))) (range (64 * n)) ⌝ }
 {
@@ -115,9 +125,19 @@ fn meets(words: &[u64], r: usize, a: &[u64], b: &[u64], n: usize) -> bool
         2 => meets_words(words, r, a, b, 2),
         4 => meets_words(words, r, a, b, 4),
         8 => meets_words(words, r, a, b, 8),
-        16 => meets_words(words, r, a, b, 16),
         _ => meets_words(words, r, a, b, n),
     }
+}
+
+// Whether the row of n words at r and both masks have a bit in common. Of constant length where `copy` is.
+fn meets(words: &[u64], r: usize, a: &[u64], b: &[u64], n: usize) -> bool
+    requires { ⌜ (r + n ≤ length (now words)) × (n ≤ length (now a)) × (n ≤ length (now b)) ⌝ }
+    ensures { λ m. ⌜ m ≡ some? (common (now (words .entry)) r (now (a .entry)) (now (b .entry))) (range (64 * n)) ⌝ }
+{
+    if n == 16 {
+        return meets_words(words, r, a, b, 16);
+    }
+    meets_narrow(words, r, a, b, n)
 }
 
 // As `first`, word by word up to the first that has a bit.
@@ -156,8 +176,8 @@ fn copy_words(to: &mut [u64], d: usize, from: &[u64], s: usize, n: usize)
     }
 }
 
-// The row of n words at d becomes the one at s. Rows of 1, 2, 4, 8 and 16 words are worth a loop of constant length.
-pub fn copy(to: &mut [u64], d: usize, from: &[u64], s: usize, n: usize)
+// As `copy`, for rows of other than 16 words.
+fn copy_narrow(to: &mut [u64], d: usize, from: &[u64], s: usize, n: usize)
     requires { ⌜ (d + n ≤ length (now to)) × (s + n ≤ length (now from)) ⌝ }
     ensures { λ _. ⌜ Row d n (row-bit (now (from .entry)) s) (now (to .entry)) (now (to .exit)) ⌝ }
 {
@@ -166,9 +186,21 @@ pub fn copy(to: &mut [u64], d: usize, from: &[u64], s: usize, n: usize)
         2 => copy_words(to, d, from, s, 2),
         4 => copy_words(to, d, from, s, 4),
         8 => copy_words(to, d, from, s, 8),
-        16 => copy_words(to, d, from, s, 16),
         _ => copy_words(to, d, from, s, n),
     }
+}
+
+// The row of n words at d becomes the one at s. Rows of 1, 2, 4, 8 and 16 words are worth a loop of constant length; that of 16, the largest
+// registers', one that is taken in where it is called.
+pub fn copy(to: &mut [u64], d: usize, from: &[u64], s: usize, n: usize)
+    requires { ⌜ (d + n ≤ length (now to)) × (s + n ≤ length (now from)) ⌝ }
+    ensures { λ _. ⌜ Row d n (row-bit (now (from .entry)) s) (now (to .entry)) (now (to .exit)) ⌝ }
+{
+    if n == 16 {
+        copy_words(to, d, from, s, 16);
+        return;
+    }
+    copy_narrow(to, d, from, s, n);
 }
 
 // As `unite`, by a loop.
@@ -181,8 +213,8 @@ fn unite_words(to: &mut [u64], d: usize, from: &[u64], s: usize, n: usize)
     }
 }
 
-// The row of n words at d takes in the bits of the one at s. Of constant length where `copy` is.
-pub fn unite(to: &mut [u64], d: usize, from: &[u64], s: usize, n: usize)
+// As `unite`, for rows of other than 16 words.
+fn unite_narrow(to: &mut [u64], d: usize, from: &[u64], s: usize, n: usize)
     requires { ⌜ (d + n ≤ length (now to)) × (s + n ≤ length (now from)) ⌝ }
     ensures { λ _. ⌜ Row d n (λ t. row-bit (now (to .entry)) d t || row-bit (now (from .entry)) s t) (now (to .entry)) (now (to .exit)) ⌝ }
 {
@@ -191,9 +223,20 @@ pub fn unite(to: &mut [u64], d: usize, from: &[u64], s: usize, n: usize)
         2 => unite_words(to, d, from, s, 2),
         4 => unite_words(to, d, from, s, 4),
         8 => unite_words(to, d, from, s, 8),
-        16 => unite_words(to, d, from, s, 16),
         _ => unite_words(to, d, from, s, n),
     }
+}
+
+// The row of n words at d takes in the bits of the one at s. Of constant length where `copy` is.
+pub fn unite(to: &mut [u64], d: usize, from: &[u64], s: usize, n: usize)
+    requires { ⌜ (d + n ≤ length (now to)) × (s + n ≤ length (now from)) ⌝ }
+    ensures { λ _. ⌜ Row d n (λ t. row-bit (now (to .entry)) d t || row-bit (now (from .entry)) s t) (now (to .entry)) (now (to .exit)) ⌝ }
+{
+    if n == 16 {
+        unite_words(to, d, from, s, 16);
+        return;
+    }
+    unite_narrow(to, d, from, s, n);
 }
 
 // As `restrict`, by a loop.
@@ -206,8 +249,8 @@ fn restrict_words(to: &mut [u64], d: usize, from: &[u64], s: usize, n: usize)
     }
 }
 
-// The row of n words at d loses the bits that the one at s lacks. Of constant length where `copy` is.
-pub fn restrict(to: &mut [u64], d: usize, from: &[u64], s: usize, n: usize)
+// As `restrict`, for rows of other than 16 words.
+fn restrict_narrow(to: &mut [u64], d: usize, from: &[u64], s: usize, n: usize)
     requires { ⌜ (d + n ≤ length (now to)) × (s + n ≤ length (now from)) ⌝ }
     ensures { λ _. ⌜ Row d n (λ t. row-bit (now (to .entry)) d t && row-bit (now (from .entry)) s t) (now (to .entry)) (now (to .exit)) ⌝ }
 {
@@ -216,9 +259,20 @@ pub fn restrict(to: &mut [u64], d: usize, from: &[u64], s: usize, n: usize)
         2 => restrict_words(to, d, from, s, 2),
         4 => restrict_words(to, d, from, s, 4),
         8 => restrict_words(to, d, from, s, 8),
-        16 => restrict_words(to, d, from, s, 16),
         _ => restrict_words(to, d, from, s, n),
     }
+}
+
+// The row of n words at d loses the bits that the one at s lacks. Of constant length where `copy` is.
+pub fn restrict(to: &mut [u64], d: usize, from: &[u64], s: usize, n: usize)
+    requires { ⌜ (d + n ≤ length (now to)) × (s + n ≤ length (now from)) ⌝ }
+    ensures { λ _. ⌜ Row d n (λ t. row-bit (now (to .entry)) d t && row-bit (now (from .entry)) s t) (now (to .entry)) (now (to .exit)) ⌝ }
+{
+    if n == 16 {
+        restrict_words(to, d, from, s, 16);
+        return;
+    }
+    restrict_narrow(to, d, from, s, n);
 }
 
 // As `exclude`, by a loop.
@@ -232,8 +286,8 @@ fn exclude_words(to: &mut [u64], d: usize, from: &[u64], s: usize, n: usize)
     }
 }
 
-// The row of n words at d loses the bits of the one at s. Of constant length where `copy` is.
-pub fn exclude(to: &mut [u64], d: usize, from: &[u64], s: usize, n: usize)
+// As `exclude`, for rows of other than 16 words.
+fn exclude_narrow(to: &mut [u64], d: usize, from: &[u64], s: usize, n: usize)
     requires { ⌜ (d + n ≤ length (now to)) × (s + n ≤ length (now from)) ⌝ }
     ensures { λ _. ⌜ Row d n (λ t. row-bit (now (to .entry)) d t && not (row-bit (now (from .entry)) s t)) (now (to .entry)) (now (to .exit)) ⌝ }
 {
@@ -242,9 +296,20 @@ pub fn exclude(to: &mut [u64], d: usize, from: &[u64], s: usize, n: usize)
         2 => exclude_words(to, d, from, s, 2),
         4 => exclude_words(to, d, from, s, 4),
         8 => exclude_words(to, d, from, s, 8),
-        16 => exclude_words(to, d, from, s, 16),
         _ => exclude_words(to, d, from, s, n),
     }
+}
+
+// The row of n words at d loses the bits of the one at s. Of constant length where `copy` is.
+pub fn exclude(to: &mut [u64], d: usize, from: &[u64], s: usize, n: usize)
+    requires { ⌜ (d + n ≤ length (now to)) × (s + n ≤ length (now from)) ⌝ }
+    ensures { λ _. ⌜ Row d n (λ t. row-bit (now (to .entry)) d t && not (row-bit (now (from .entry)) s t)) (now (to .entry)) (now (to .exit)) ⌝ }
+{
+    if n == 16 {
+        exclude_words(to, d, from, s, 16);
+        return;
+    }
+    exclude_narrow(to, d, from, s, n);
 }
 
 // As `unite_masked`, by a loop.
@@ -257,8 +322,8 @@ fn unite_masked_words(to: &mut [u64], d: usize, from: &[u64], s: usize, mask: &[
     }
 }
 
-// The row of n words at d takes in those bits of the one at s that the mask has. Of constant length where `copy` is.
-pub fn unite_masked(to: &mut [u64], d: usize, from: &[u64], s: usize, mask: &[u64], n: usize)
+// As `unite_masked`, for rows of other than 16 words.
+fn unite_masked_narrow(to: &mut [u64], d: usize, from: &[u64], s: usize, mask: &[u64], n: usize)
     requires { ⌜ (d + n ≤ length (now to)) × (s + n ≤ length (now from)) × (n ≤ length (now mask)) ⌝ }
     ensures { λ _. ⌜ Row d n (λ t. row-bit (now (to .entry)) d t || (row-bit (now (from .entry)) s t && row-bit (now (mask .entry)) 0 t)) (now (to .entry)) (now (to .exit)) ⌝ }
 {
@@ -267,9 +332,20 @@ pub fn unite_masked(to: &mut [u64], d: usize, from: &[u64], s: usize, mask: &[u6
         2 => unite_masked_words(to, d, from, s, mask, 2),
         4 => unite_masked_words(to, d, from, s, mask, 4),
         8 => unite_masked_words(to, d, from, s, mask, 8),
-        16 => unite_masked_words(to, d, from, s, mask, 16),
         _ => unite_masked_words(to, d, from, s, mask, n),
     }
+}
+
+// The row of n words at d takes in those bits of the one at s that the mask has. Of constant length where `copy` is.
+pub fn unite_masked(to: &mut [u64], d: usize, from: &[u64], s: usize, mask: &[u64], n: usize)
+    requires { ⌜ (d + n ≤ length (now to)) × (s + n ≤ length (now from)) × (n ≤ length (now mask)) ⌝ }
+    ensures { λ _. ⌜ Row d n (λ t. row-bit (now (to .entry)) d t || (row-bit (now (from .entry)) s t && row-bit (now (mask .entry)) 0 t)) (now (to .entry)) (now (to .exit)) ⌝ }
+{
+    if n == 16 {
+        unite_masked_words(to, d, from, s, mask, 16);
+        return;
+    }
+    unite_masked_narrow(to, d, from, s, mask, n);
 }
 
 // The n words at d take in the bits of those at s, which lie behind them in the same words.

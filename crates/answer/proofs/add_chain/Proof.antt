@@ -34,15 +34,23 @@ slice-aggregate-walk c = search needs
 
 walk-requires : tie.Need-walk-requires
 walk-requires c κs =
-    let p = c .before .before .before .before .before .before .before .before .before .before .before .before .before .before .before .pre in
-    let y = c .before .before .before .before .before .before .before .chained .ensures (not-false _ (c .before .before .before .before .before .before .if1 .left)) in
-    ((p .0 .0, p .0 .1, p .1 .0, omega (arith, narrow (p .0 .0), c .before .before .before .before .records-of .ensures .kept .len), p .1 .1), (y .1, omega (arith, y .0, p .0 .3), omega (arith, y .0, p .0 .4), omega (arith, p .0 .5)))
+    let c4 = c .before .before .before .before in
+    let c6 = c4 .before .before in
+    let c7 = c6 .before in
+    let c15 = c7 .before .before .before .before .before .before .before .before in
+    let p = c15 .pre in
+    let y = c7 .chained .ensures (not-false _ (c6 .if1 .left)) in
+    ((p .0 .0, p .0 .1, p .1 .0, omega (arith, narrow (p .0 .0), c4 .records-of .ensures .kept .len), p .1 .1), (y .1, omega (arith, y .0, p .0 .3), omega (arith, y .0, p .0 .4), omega (arith, p .0 .5)))
 
 mul-if2 : tie.Need-mul-if2
-mul-if2 c = omega (arith, small (c .before .before .before .before .before .before .before .before .before .before .before .before .before .before .before .before .before .before .before .before .pre .0 .0))
+mul-if2 c =
+    let c20 = c .before .before .before .before .before .before .before .before .before .before .before .before .before .before .before .before .before .before .before .before in
+    omega (arith, small (c20 .pre .0 .0))
 
 mul-if2-2 : tie.Need-mul-if2-2
-mul-if2-2 c = omega (arith, small (c .before .before .before .before .before .before .before .before .before .before .before .before .before .before .before .before .before .before .before .before .pre .0 .0))
+mul-if2-2 c =
+    let c20 = c .before .before .before .before .before .before .before .before .before .before .before .before .before .before .before .before .before .before .before .before in
+    omega (arith, small (c20 .pre .0 .0))
 
 same-length : tie.Need-same-length
 same-length c = search needs
@@ -57,7 +65,10 @@ slice-aggregate-records-of-2 : tie.Need-slice-aggregate-records-of-2
 slice-aggregate-records-of-2 c = search needs
 
 records-of-requires-2 : tie.Need-records-of-requires-2
-records-of-requires-2 c κs = let p = c .before .before .before .before .before .before .before .before .before .before .before .before .before .before .before .before .before .before .before .before .before .before .pre in (narrow (p .0 .0), p .1 .1 .room)
+records-of-requires-2 c κs =
+    let c22 = c .before .before .before .before .before .before .before .before .before .before .before .before .before .before .before .before .before .before .before .before .before .before in
+    let p = c22 .pre in
+    (narrow (p .0 .0), p .1 .1 .room)
 
 slice-aggregate-add-between : tie.Need-slice-aggregate-add-between
 slice-aggregate-add-between c = search needs
@@ -67,10 +78,15 @@ slice-aggregate-add-between-2 c = search needs
 
 add-between-requires : tie.Need-add-between-requires
 add-between-requires c κs =
-    let p = c .before .before .before .before .before .before .before .before .before .before .before .before .before .before .before .before .before .before .before .before .before .before .before .before .before .before .before .before .pre .0 in
+    let c5 = c .before .before .before .before .before in
+    let c7 = c5 .before .before in
+    let c12 = c7 .before .before .before .before .before in
+    let c17 = c12 .before .before .before .before .before in
+    let c28 = c17 .before .before .before .before .before .before .before .before .before .before .before in
+    let p = c28 .pre .0 in
     let w = narrow (p .0) in
-    let v = c .before .before .before .before .before .before .before .before .before .before .before .before .walk .ensures in
-    (p .2, omega (arith, v .2 (omega (arith, c .before .before .before .before .before .before .before .if2 .left)) .0, v .1 .len, p .1), rows-hold (p .0), omega (arith, w, c .before .before .before .before .before .before .before .before .before .before .before .before .before .before .before .before .before .records-of .ensures .kept .len), omega (arith, w, c .before .before .before .before .before .records-of2 .ensures .kept .len))
+    let v = c12 .walk .ensures in
+    (p .2, omega (arith, v .2 (omega (arith, c7 .if2 .left)) .0, v .1 .len, p .1), rows-hold (p .0), omega (arith, w, c17 .records-of .ensures .kept .len), omega (arith, w, c5 .records-of2 .ensures .kept .len))
 
 same-length-3 : tie.Need-same-length-3
 same-length-3 c = search needs
@@ -83,12 +99,20 @@ same-length-5 c = search needs
 
 returns-3 : tie.Need-returns-3
 returns-3 c =
-    let a = c .before .before .before .before .before .before .before .before .before .before .before .before .before .before .before .before .before .before .before .before .before .before .before .before .before .before .before .before .before .before .before .args in
-    let p = c .before .before .before .before .before .before .before .before .before .before .before .before .before .before .before .before .before .before .before .before .before .before .before .before .before .before .before .before .before .before .before .pre in
-    let y = c .before .before .before .before .before .before .before .before .before .before .before .before .before .before .before .before .before .before .before .before .before .before .before .chained .ensures (not-false _ (c .before .before .before .before .before .before .before .before .before .before .before .before .before .before .before .before .before .before .before .before .before .before .if1 .left)) in
-    let v = c .before .before .before .before .before .before .before .before .before .before .before .before .before .before .before .walk .ensures in
-    let z = v .2 (omega (arith, c .before .before .before .before .before .before .before .before .before .before .if2 .left)) .1 in
-    (v .0, v .1, λ x e. walks-yes (added-rows (p .0 .0) (a .from) (a .to) x _ _ (chain-rows (a .numbers .now) (a .sets .now) (a .first) (a .size) (a .size / 2) x (y .0) (y .1) e z) (set-mask (p .0 .0) (a .from) (p .1 .1) (c .before .before .before .before .before .before .before .before .before .before .before .before .before .before .before .before .before .before .before .before .records-of .ensures)) (set-mask (p .0 .0) (a .to) (p .1 .1) (c .before .before .before .before .before .before .before .before .records-of2 .ensures)) (c .before .before .add-between .ensures)))
+    let c2 = c .before .before in
+    let c8 = c2 .before .before .before .before .before .before in
+    let c10 = c8 .before .before in
+    let c15 = c10 .before .before .before .before .before in
+    let c20 = c15 .before .before .before .before .before in
+    let c22 = c20 .before .before in
+    let c23 = c22 .before in
+    let c31 = c23 .before .before .before .before .before .before .before .before in
+    let a = c31 .args in
+    let p = c31 .pre in
+    let y = c23 .chained .ensures (not-false _ (c22 .if1 .left)) in
+    let v = c15 .walk .ensures in
+    let z = v .2 (omega (arith, c10 .if2 .left)) .1 in
+    (v .0, v .1, λ x e. walks-yes (added-rows (p .0 .0) (a .from) (a .to) x _ _ (chain-rows (a .numbers .now) (a .sets .now) (a .first) (a .size) (a .size / 2) x (y .0) (y .1) e z) (set-mask (p .0 .0) (a .from) (p .1 .1) (c20 .records-of .ensures)) (set-mask (p .0 .0) (a .to) (p .1 .1) (c8 .records-of2 .ensures)) (c2 .add-between .ensures)))
 
 pub add-chain-spec : {M : Type 1} → statement M
 add-chain-spec =

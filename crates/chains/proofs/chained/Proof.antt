@@ -67,7 +67,12 @@ loop-less : tie.Need-loop-less Inv-loop μ-loop
 loop-less c = search needs
 
 loop-again : tie.Need-loop-again Inv-loop μ-loop
-loop-again c = let i = c .before .before .before .before .before .loop .inv in (omega (arith, i .1, c .before .before .before .before .loop-test .taken), i .1, chained-more _ (i .2) (omega (arith, c .before .before .if3 .left)) (c .if4 .left))
+loop-again c =
+    let c2 = c .before .before in
+    let c4 = c2 .before .before in
+    let c5 = c4 .before in
+    let i = c5 .loop .inv in
+    (omega (arith, i .1, c4 .loop-test .taken), i .1, chained-more _ (i .2) (omega (arith, c2 .if3 .left)) (c .if4 .left))
 
 returns-5 : tie.Need-returns-5 Inv-loop μ-loop
 returns-5 c = λ e. let i = c .before .loop .inv in (omega (arith, c .before .before .before .before .if1 .left), chained-all (i .2) (omega (arith, i .0, i .1, c .loop-test .left)))

@@ -42,20 +42,29 @@ mul-join-marked : tie.Need-mul-join-marked
 mul-join-marked c = omega (arith, small (c .before .before .before .before .before .before .before .before .before .before .before .before .before .before .before .before .before .pre .0 .0))
 
 mul-join-marked-2 : tie.Need-mul-join-marked-2
-mul-join-marked-2 c = let a = c .before .before .before .before .before .before .before .before .before .before .before .before .before .before .before .before .before .args in omega (arith, before-end (c .before .before .before .before .before .before .before .before .before .hold .result) (a .n * a .w) (omega (arith, c .before .before .before .before .before .before .before .before .before .hold .ensures .0, c .before .before .before .before .if1 .left)), small (c .before .before .before .before .before .before .before .before .before .before .before .before .before .before .before .before .before .pre .0 .0))
+mul-join-marked-2 c =
+    let c4 = c .before .before .before .before in
+    let c9 = c4 .before .before .before .before .before in
+    let c17 = c9 .before .before .before .before .before .before .before .before in
+    let a = c17 .args in
+    omega (arith, before-end (c9 .hold .result) (a .n * a .w) (omega (arith, c9 .hold .ensures .0, c4 .if1 .left)), small (c17 .pre .0 .0))
 
 slice-aggregate-join-marked : tie.Need-slice-aggregate-join-marked
 slice-aggregate-join-marked c = search needs
 
 join-marked-requires : tie.Need-join-marked-requires
 join-marked-requires c κs =
-    let a = c .before .before .before .before .before .before .before .before .before .before .before .before .before .before .before .before .before .before .args in
-    let p = c .before .before .before .before .before .before .before .before .before .before .before .before .before .before .before .before .before .before .pre in
-    let h = c .before .before .before .before .before .before .before .before .before .before .hold .ensures in
-    let k = c .before .before .before .before .before .before .before .before .before .before .hold .result in
+    let c3 = c .before .before .before in
+    let c5 = c3 .before .before in
+    let c10 = c5 .before .before .before .before .before in
+    let c18 = c10 .before .before .before .before .before .before .before .before in
+    let a = c18 .args in
+    let p = c18 .pre in
+    let h = c10 .hold .ensures in
+    let k = c10 .hold .result in
     let z = a .n * a .w in
     let v = source-walked (p .0 .0) (p .1 .0) (h .2) (source-kept (p .0 .0) (p .1 .0) (p .1 .1) (h .3) (h .4)) in
-    (omega (arith, past k z), omega (arith, source-end (p .0 .0) (a .held .now) (p .1 .0) (p .1 .1), h .4 .len, p .0 .1), omega (arith, before-end k z (omega (arith, c .before .before .before .before .before .before .before .before .before .before .hold .ensures .0, c .before .before .before .before .before .if1 .left)), h .4 .len, p .0 .1), narrow (p .0 .0), rows-hold (p .0 .0), omega (arith, narrow (p .0 .0), c .before .before .before .records-of .ensures .kept .len), p .0 .4, walked-clean (p .0 .0) (p .1 .0) v)
+    (omega (arith, past k z), omega (arith, source-end (p .0 .0) (a .held .now) (p .1 .0) (p .1 .1), h .4 .len, p .0 .1), omega (arith, before-end k z (omega (arith, c10 .hold .ensures .0, c5 .if1 .left)), h .4 .len, p .0 .1), narrow (p .0 .0), rows-hold (p .0 .0), omega (arith, narrow (p .0 .0), c3 .records-of .ensures .kept .len), p .0 .4, walked-clean (p .0 .0) (p .1 .0) v)
 
 same-length-3 : tie.Need-same-length-3
 same-length-3 c = search needs
@@ -65,13 +74,18 @@ same-length-4 c = search needs
 
 returns-2 : tie.Need-returns-2
 returns-2 c =
-    let a = c .before .before .before .before .before .before .before .before .before .before .before .before .before .before .before .before .before .before .before .before .before .args in
-    let p = c .before .before .before .before .before .before .before .before .before .before .before .before .before .before .before .before .before .before .before .before .before .pre .0 in
-    let h = c .before .before .before .before .before .before .before .before .before .before .before .before .before .hold .ensures in
-    let k = c .before .before .before .before .before .before .before .before .before .before .before .before .before .hold .result in
-    let j = c .before .before .join-marked .ensures in
-    let l : k < 4 = (omega (arith, c .before .before .before .before .before .before .before .before .before .before .before .before .before .hold .ensures .0, c .before .before .before .before .before .before .before .before .if1 .left)) in
-    (held-kept (p .0) (h .2) (j .kept) (omega arith), kept-trans (h .4) (j .kept) (omega arith) (omega arith) (omega arith) (omega arith), λ e x y. walked-join (p .0) ((24 + k) * (a .n * a .w)) (a .set) x (step-numbered (a .number)) (source-walked (p .0) x (h .2) (source-kept (p .0) x y (h .3) (h .4))) (h .2 .stored k (a .number) l (h .1 l) (p .3)) (set-mask (p .0) (a .set) (p .5) (c .before .before .before .before .before .before .records-of .ensures)) j)
+    let c2 = c .before .before in
+    let c6 = c2 .before .before .before .before in
+    let c8 = c6 .before .before in
+    let c13 = c8 .before .before .before .before .before in
+    let c21 = c13 .before .before .before .before .before .before .before .before in
+    let a = c21 .args in
+    let p = c21 .pre .0 in
+    let h = c13 .hold .ensures in
+    let k = c13 .hold .result in
+    let j = c2 .join-marked .ensures in
+    let l : k < 4 = (omega (arith, c13 .hold .ensures .0, c8 .if1 .left)) in
+    (held-kept (p .0) (h .2) (j .kept) (omega arith), kept-trans (h .4) (j .kept) (omega arith) (omega arith) (omega arith) (omega arith), λ e x y. walked-join (p .0) ((24 + k) * (a .n * a .w)) (a .set) x (step-numbered (a .number)) (source-walked (p .0) x (h .2) (source-kept (p .0) x y (h .3) (h .4))) (h .2 .stored k (a .number) l (h .1 l) (p .3)) (set-mask (p .0) (a .set) (p .5) (c6 .records-of .ensures)) j)
 
 pub extend-spec : {M : Type 1} → statement M
 extend-spec =

@@ -35,10 +35,13 @@ add-join-marked-row c = omega (arith, row-le (c .before .before .before .before 
 
 join-marked-row-requires : tie.Need-join-marked-row-requires Inv-loop μ-loop
 join-marked-row-requires c κs =
-    let e = row-le (c .before .before .before .before .before .before .args .w) (c .before .loop-test .taken) in
-    let m = c .before .before .loop .inv .1 in
+    let c1 = c .before in
+    let c2 = c1 .before in
+    let c6 = c2 .before .before .before .before in
+    let e = row-le (c6 .args .w) (c1 .loop-test .taken) in
+    let m = c2 .loop .inv .1 in
     let k = m .kept .len in
-    (omega arith, omega arith, omega arith, omega arith, omega arith, omega arith, omega arith, λ y. clean-marked (c .before .before .before .before .before .before .args .b) (c .before .before .before .before .before .before .args .n) m (c .before .before .before .before .before .before .pre .7 (c .before .before .loop .s) (c .before .loop-test .taken) y))
+    (omega arith, omega arith, omega arith, omega arith, omega arith, omega arith, omega arith, λ y. clean-marked (c6 .args .b) (c6 .args .n) m (c6 .pre .7 (c2 .loop .s) (c1 .loop-test .taken) y))
 
 add-s : tie.Need-add-s Inv-loop μ-loop
 add-s c = search needs
@@ -47,7 +50,13 @@ loop-less : tie.Need-loop-less Inv-loop μ-loop
 loop-less c = search needs
 
 loop-again : tie.Need-loop-again Inv-loop μ-loop
-loop-again c = let a = c .before .before .before .before .before .before .before .before .before .args in (omega arith, joined-more (a .marks .now) (a .mask .now) (a .b) (a .q) (a .n) (c .before .before .before .before .before .loop .inv .1) (c .before .before .join-marked-row .ensures) (omega (arith, c .before .before .before .before .loop-test .taken)) (omega arith) (omega arith))
+loop-again c =
+    let c2 = c .before .before in
+    let c4 = c2 .before .before in
+    let c5 = c4 .before in
+    let c9 = c5 .before .before .before .before in
+    let a = c9 .args in
+    (omega arith, joined-more (a .marks .now) (a .mask .now) (a .b) (a .q) (a .n) (c5 .loop .inv .1) (c2 .join-marked-row .ensures) (omega (arith, c4 .loop-test .taken)) (omega arith) (omega arith))
 
 same-length : tie.Need-same-length Inv-loop μ-loop
 same-length c = search needs

@@ -27,7 +27,11 @@ returns : tie.Need-returns
 returns c = marked-yes _ (c .before .before .follow-row .ensures) (sym (c .before .before .before .before .before .has .ensures) ∙ c .before .before .before .before .if1 .taken)
 
 returns-2 : tie.Need-returns-2
-returns-2 c = let a = c .before .before .before .before .before .args in marked-no _ _ _ (λ t. some? (λ z. row-bit (a .work .now) (a .e) z && (pair-at (a .work .now) (a .q) (a .w) z t && row-bit (a .mask .now) 0 z)) (range (a .n))) (sym (c .before .has .ensures) ∙ c .if1 .left)
+returns-2 c =
+    let c1 = c .before in
+    let c5 = c1 .before .before .before .before in
+    let a = c5 .args in
+    marked-no _ _ _ (λ t. some? (λ z. row-bit (a .work .now) (a .e) z && (pair-at (a .work .now) (a .q) (a .w) z t && row-bit (a .mask .now) 0 z)) (range (a .n))) (sym (c1 .has .ensures) ∙ c .if1 .left)
 
 pub join-marked-row-spec : {M : Type 1} → statement M
 join-marked-row-spec =

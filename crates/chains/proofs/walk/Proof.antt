@@ -53,7 +53,11 @@ mul-b : tie.Need-mul-b Inv-loop μ-loop
 mul-b c = omega (arith, small (c .before .before .before .before .before .before .before .before .before .before .before .before .before .before .before .before .pre .0 .0))
 
 mul-b-2 : tie.Need-mul-b-2 Inv-loop μ-loop
-mul-b-2 c = let a = c .before .before .before .before .before .before .before .before .before .before .before .before .before .before .before .before .args in omega (arith, before-end (c .before .before .before .before .before .hold .result) (a .n * a .w) (omega (arith, c .before .before .before .before .before .hold .ensures .0, c .if1 .left)), small (c .before .before .before .before .before .before .before .before .before .before .before .before .before .before .before .before .pre .0 .0))
+mul-b-2 c =
+    let c5 = c .before .before .before .before .before in
+    let c16 = c5 .before .before .before .before .before .before .before .before .before .before .before in
+    let a = c16 .args in
+    omega (arith, before-end (c5 .hold .result) (a .n * a .w) (omega (arith, c5 .hold .ensures .0, c .if1 .left)), small (c16 .pre .0 .0))
 
 loop-holds : tie.Need-loop-holds Inv-loop μ-loop
 loop-holds c =
@@ -92,9 +96,13 @@ shared-slice-read-set c = search needs
 
 extend-requires : tie.Need-extend-requires Inv-loop μ-loop
 extend-requires c κs =
-    let p = c .before .before .before .before .before .before .before .before .before .before .before .before .before .before .before .before .before .before .before .before .before .before .pre in
-    let i = c .before .before .before .before .before .loop .inv in
-    ((p .0 .0, omega (arith, p .0 .1, c .before .before .before .before .before .before .before .before .before .before .before .hold .ensures .4 .len, i .2 .len), i .1, p .1 .0 .link (c .before .before .before .before .before .loop .j) (c .before .before .before .before .loop-test .taken), p .0 .3, p .0 .4), (chain-path (c .before .before .before .before .before .before .before .before .before .before .before .before .before .before .before .before .before .before .before .before .before .before .args .numbers .now) (c .before .before .before .before .before .before .before .before .before .before .before .before .before .before .before .before .before .before .before .before .before .before .args .sets .now) (c .before .before .before .before .before .before .before .before .before .before .before .before .before .before .before .before .before .before .before .before .before .before .args .first) (c .before .before .before .before .before .loop .j), i .3))
+    let c4 = c .before .before .before .before in
+    let c5 = c4 .before in
+    let c11 = c5 .before .before .before .before .before .before in
+    let c22 = c11 .before .before .before .before .before .before .before .before .before .before .before in
+    let p = c22 .pre in
+    let i = c5 .loop .inv in
+    ((p .0 .0, omega (arith, p .0 .1, c11 .hold .ensures .4 .len, i .2 .len), i .1, p .1 .0 .link (c5 .loop .j) (c4 .loop-test .taken), p .0 .3, p .0 .4), (chain-path (c22 .args .numbers .now) (c22 .args .sets .now) (c22 .args .first) (c5 .loop .j), i .3))
 
 same-length-3 : tie.Need-same-length-3 Inv-loop μ-loop
 same-length-3 c = search needs
@@ -104,22 +112,33 @@ same-length-4 c = search needs
 
 returns-2 : tie.Need-returns-2 Inv-loop μ-loop
 returns-2 c =
-    let i = c .before .before .before .before .before .before .before .before .before .before .before .loop .inv in
-    let e = c .before .before .before .before .before .extend .ensures in
-    (e .0, kept-trans (c .before .before .before .before .before .before .before .before .before .before .before .before .before .before .before .before .before .hold .ensures .4) (kept-trans {lo = 0} {hi = 28 * (c .before .before .before .before .before .before .before .before .before .before .before .before .before .before .before .before .before .before .before .before .before .before .before .before .before .before .before .before .args .n * c .before .before .before .before .before .before .before .before .before .before .before .before .before .before .before .before .before .before .before .before .before .before .before .before .before .before .before .before .args .w)} (i .2) (e .1) (omega arith) (omega arith) (omega arith) (omega arith)) (omega arith) (omega arith) (omega arith) (omega arith), λ x. absurd (omega arith))
+    let c5 = c .before .before .before .before .before in
+    let c11 = c5 .before .before .before .before .before .before in
+    let c17 = c11 .before .before .before .before .before .before in
+    let c28 = c17 .before .before .before .before .before .before .before .before .before .before .before in
+    let i = c11 .loop .inv in
+    let e = c5 .extend .ensures in
+    (e .0, kept-trans (c17 .hold .ensures .4) (kept-trans {lo = 0} {hi = 28 * (c28 .args .n * c28 .args .w)} (i .2) (e .1) (omega arith) (omega arith) (omega arith) (omega arith)) (omega arith) (omega arith) (omega arith) (omega arith), λ x. absurd (omega arith))
 
 add-j : tie.Need-add-j Inv-loop μ-loop
-add-j c = omega (arith, c .before .before .before .before .before .before .before .before .before .before .loop-test .taken, c .before .before .before .before .before .before .before .before .before .before .before .before .before .before .before .before .before .before .before .before .before .before .before .before .before .before .before .before .pre .1 .3)
+add-j c =
+    let c10 = c .before .before .before .before .before .before .before .before .before .before in
+    let c28 = c10 .before .before .before .before .before .before .before .before .before .before .before .before .before .before .before .before .before .before in
+    omega (arith, c10 .loop-test .taken, c28 .pre .1 .3)
 
 loop-less : tie.Need-loop-less Inv-loop μ-loop
 loop-less c = search needs
 
 loop-again : tie.Need-loop-again Inv-loop μ-loop
 loop-again c =
-    let a = c .before .before .before .before .before .before .before .before .before .before .before .before .before .before .before .before .before .before .before .before .before .before .before .before .before .before .before .before .args in
-    let i = c .before .before .before .before .before .before .before .before .before .before .before .loop .inv in
-    let e = c .before .before .before .before .before .extend .ensures in
-    (omega (arith, c .before .before .before .before .before .before .before .before .before .before .loop-test .taken), e .0, kept-trans (i .2) (e .1) (omega arith) (omega arith) (omega arith) (omega arith), inl (refl, walked-more (a .numbers .now) (a .sets .now) (a .first) (c .before .before .before .before .before .before .before .before .before .before .before .loop .j) (e .2 (not-false _ (c .if2 .left)) (chain-path (a .numbers .now) (a .sets .now) (a .first) (c .before .before .before .before .before .before .before .before .before .before .before .loop .j)) (i .3))))
+    let c5 = c .before .before .before .before .before in
+    let c10 = c5 .before .before .before .before .before in
+    let c11 = c10 .before in
+    let c28 = c11 .before .before .before .before .before .before .before .before .before .before .before .before .before .before .before .before .before in
+    let a = c28 .args in
+    let i = c11 .loop .inv in
+    let e = c5 .extend .ensures in
+    (omega (arith, c10 .loop-test .taken), e .0, kept-trans (i .2) (e .1) (omega arith) (omega arith) (omega arith) (omega arith), inl (refl, walked-more (a .numbers .now) (a .sets .now) (a .first) (c11 .loop .j) (e .2 (not-false _ (c .if2 .left)) (chain-path (a .numbers .now) (a .sets .now) (a .first) (c11 .loop .j)) (i .3))))
 
 same-length-5 : tie.Need-same-length-5 Inv-loop μ-loop
 same-length-5 c = search needs
@@ -129,12 +148,15 @@ same-length-6 c = search needs
 
 returns-3 : tie.Need-returns-3 Inv-loop μ-loop
 returns-3 c =
-    let a = c .before .before .before .before .before .before .before .before .before .before .before .before .before .before .before .before .before .before .args in
-    let p = c .before .before .before .before .before .before .before .before .before .before .before .before .before .before .before .before .before .before .pre .0 .0 in
-    let l = c .before .loop in
+    let c1 = c .before in
+    let c7 = c1 .before .before .before .before .before .before in
+    let c18 = c7 .before .before .before .before .before .before .before .before .before .before .before in
+    let a = c18 .args in
+    let p = c18 .pre .0 .0 in
+    let l = c1 .loop in
     let i = l .inv in
     let x = chain-path (a .numbers .now) (a .sets .now) (a .first) (l .j) in
-    (i .1, kept-trans (c .before .before .before .before .before .before .before .hold .ensures .4) (i .2) (omega arith) (omega arith) (omega arith) (omega arith), λ y. (source-end p (l .held) x (i .3), walked-all (a .numbers .now) (a .sets .now) (a .first) (l .j) (a .m) (source-walked p x (i .1) (i .3)) (omega (arith, i .0, c .loop-test .left))))
+    (i .1, kept-trans (c7 .hold .ensures .4) (i .2) (omega arith) (omega arith) (omega arith) (omega arith), λ y. (source-end p (l .held) x (i .3), walked-all (a .numbers .now) (a .sets .now) (a .first) (l .j) (a .m) (source-walked p x (i .1) (i .3)) (omega (arith, i .0, c .loop-test .left))))
 
 pub walk-spec : {M : Type 1} → statement M
 walk-spec =

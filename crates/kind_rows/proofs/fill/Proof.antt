@@ -32,7 +32,10 @@ clear-requires : tie.Need-clear-requires Inv-loop μ-loop
 clear-requires c κs = search needs
 
 loop-holds : tie.Need-loop-holds Inv-loop μ-loop
-loop-holds c = (omega arith, kinds-none _ (c .before .before .clear .ensures) (omega (arith, c .before .before .before .before .before .before .pre .0, c .before .before .clear .ensures .kept .len)), refl)
+loop-holds c =
+    let c2 = c .before .before in
+    let c6 = c2 .before .before .before .before in
+    (omega arith, kinds-none _ (c2 .clear .ensures) (omega (arith, c6 .pre .0, c2 .clear .ensures .kept .len)), refl)
 
 kind-at-requires : tie.Need-kind-at-requires Inv-loop μ-loop
 kind-at-requires c κs = omega (arith, c .loop-test .taken, c .before .before .before .before .before .before .before .before .pre .1 .count)
@@ -41,10 +44,25 @@ wide-requires : tie.Need-wide-requires Inv-loop μ-loop
 wide-requires c κs = search needs
 
 mul-set : tie.Need-mul-set Inv-loop μ-loop
-mul-set c = let p = c .before .before .before .before .before .before .before .before .before .before .before .pre in let e : c .before .wide .result < 64 = (let e = limits (c .before .before .before .before .before .before .before .before .before .before .before .pre .1) .kinds (c .before .before .before .before .loop .t) in omega (arith, c .before .wide .ensures, c .before .before .kind-at .ensures, e)) in omega (arith, row-le (c .before .before .before .before .before .before .before .before .before .before .before .args .w) e, narrow (p .1))
+mul-set c =
+    let c1 = c .before in
+    let c2 = c1 .before in
+    let c4 = c2 .before .before in
+    let c11 = c4 .before .before .before .before .before .before .before in
+    let p = c11 .pre in
+    let e : c1 .wide .result < 64 = (let e = limits (c11 .pre .1) .kinds (c4 .loop .t) in
+    omega (arith, c1 .wide .ensures, c2 .kind-at .ensures, e)) in omega (arith, row-le (c11 .args .w) e, narrow (p .1))
 
 set-requires : tie.Need-set-requires Inv-loop μ-loop
-set-requires c κs = let p = c .before .before .before .before .before .before .before .before .before .before .before .pre in let e : c .before .wide .result < 64 = (let e = limits (c .before .before .before .before .before .before .before .before .before .before .before .pre .1) .kinds (c .before .before .before .before .loop .t) in omega (arith, c .before .wide .ensures, c .before .before .kind-at .ensures, e)) in omega (arith, row-le (c .before .before .before .before .before .before .before .before .before .before .before .args .w) e, c .before .before .before .before .loop .inv .1 .room, rows-hold (p .1), c .before .before .before .loop-test .taken)
+set-requires c κs =
+    let c1 = c .before in
+    let c2 = c1 .before in
+    let c3 = c2 .before in
+    let c4 = c3 .before in
+    let c11 = c4 .before .before .before .before .before .before .before in
+    let p = c11 .pre in
+    let e : c1 .wide .result < 64 = (let e = limits (c11 .pre .1) .kinds (c4 .loop .t) in
+    omega (arith, c1 .wide .ensures, c2 .kind-at .ensures, e)) in omega (arith, row-le (c11 .args .w) e, c4 .loop .inv .1 .room, rows-hold (p .1), c3 .loop-test .taken)
 
 add-t : tie.Need-add-t Inv-loop μ-loop
 add-t c = search needs
@@ -54,12 +72,18 @@ loop-less c = search needs
 
 loop-again : tie.Need-loop-again Inv-loop μ-loop
 loop-again c =
-    let p = c .before .before .before .before .before .before .before .before .before .before .before .before .before .before .pre in
-    let a = c .before .before .before .before .before .before .before .before .before .before .before .before .before .before .args in
-    let l = c .before .before .before .before .before .before .before .loop in
+    let c2 = c .before .before in
+    let c4 = c2 .before .before in
+    let c5 = c4 .before in
+    let c6 = c5 .before in
+    let c7 = c6 .before in
+    let c14 = c7 .before .before .before .before .before .before .before in
+    let p = c14 .pre in
+    let a = c14 .args in
+    let l = c7 .loop in
     let k = limits (p .1) .kinds (l .t) in
-    let h : l .t / 64 < a .w = omega (arith, rows-hold (p .1), c .before .before .before .before .before .before .loop-test .taken) in
-    (omega (arith, c .before .before .before .before .before .before .loop-test .taken), kinds-more (c .before .before .before .before .wide .result) (l .inv .1) (c .before .before .set .ensures) (c .before .before .before .before .wide .ensures ∙ c .before .before .before .before .before .kind-at .ensures) (omega (arith, c .before .before .before .before .wide .ensures, c .before .before .before .before .before .kind-at .ensures, k)) h, c .before .before .set .ensures (a .w) h .kept .len ∙ l .inv .2)
+    let h : l .t / 64 < a .w = omega (arith, rows-hold (p .1), c6 .loop-test .taken) in
+    (omega (arith, c6 .loop-test .taken), kinds-more (c4 .wide .result) (l .inv .1) (c2 .set .ensures) (c4 .wide .ensures ∙ c5 .kind-at .ensures) (omega (arith, c4 .wide .ensures, c5 .kind-at .ensures, k)) h, c2 .set .ensures (a .w) h .kept .len ∙ l .inv .2)
 
 same-length : tie.Need-same-length Inv-loop μ-loop
 same-length c = search needs

@@ -26,7 +26,12 @@ same-length : tie.Need-same-length
 same-length c = search needs
 
 returns : tie.Need-returns
-returns c = let a = c .before .before .before .before .before .before .before .before .before .before .before .args in words-all (a .mask .now) 16 (a .s) (a .q) (a .n) (a .w) (c .before .before .before .before .before .before .take-row .ensures) (c .before .before .copy .ensures) (omega arith) (omega arith) (c .before .before .before .before .before .before .before .before .before .before .before .pre .6)
+returns c =
+    let c2 = c .before .before in
+    let c6 = c2 .before .before .before .before in
+    let c11 = c6 .before .before .before .before .before in
+    let a = c11 .args in
+    words-all (a .mask .now) 16 (a .s) (a .q) (a .n) (a .w) (c6 .take-row .ensures) (c2 .copy .ensures) (omega arith) (omega arith) (c11 .pre .6)
 
 pub follow-row-spec : {M : Type 1} → statement M
 follow-row-spec =

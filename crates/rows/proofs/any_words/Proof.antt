@@ -34,7 +34,11 @@ loop-less : tie.Need-loop-less Inv-loop μ-loop
 loop-less c = search needs
 
 loop-again : tie.Need-loop-again Inv-loop μ-loop
-loop-again c = let l = c .before .before in let a = l .before .args in (omega arith, folded-more (row-words (a .words .now) (a .r)) _ _ (l .loop .inv .1) (omega (arith, c .shared-slice-known .given (a .r + l .loop .j))))
+loop-again c =
+    let c2 = c .before .before in
+    let l = c2 in
+    let a = l .before .args in
+    (omega arith, folded-more (row-words (a .words .now) (a .r)) _ _ (l .loop .inv .1) (omega (arith, c .shared-slice-known .given (a .r + l .loop .j))))
 
 returns : tie.Need-returns Inv-loop μ-loop
 returns c = folded-any _ _ (c .before .before .args .n) (c .before .loop .inv .1) (omega arith)

@@ -49,11 +49,13 @@ loop-less c = search needs
 
 loop-again : tie.Need-loop-again Inv-loop μ-loop
 loop-again c =
-    let l = c .before .before .before .before in
+    let c2 = c .before .before in
+    let c4 = c2 .before .before in
+    let l = c4 in
     let a = l .before .args in
     let x = getD (a .words .now) (a .r + l .loop .j) 0 in
     let y = bitAnd (getD (a .a .now) (l .loop .j) 0) (getD (a .b .now) (l .loop .j) 0) in
-    (omega arith, folded-more (common-words (a .words .now) (a .r) (a .a .now) (a .b .now)) _ _ (l .loop .inv .1) (omega (arith, and-le-l x y, c .before .before .shared-slice-known .given (a .r + l .loop .j))))
+    (omega arith, folded-more (common-words (a .words .now) (a .r) (a .a .now) (a .b .now)) _ _ (l .loop .inv .1) (omega (arith, and-le-l x y, c2 .shared-slice-known .given (a .r + l .loop .j))))
 
 returns : tie.Need-returns Inv-loop μ-loop
 returns c = folded-common _ _ _ _ (c .before .before .args .n) (c .before .loop .inv .1) (omega arith)

@@ -6,80 +6,25 @@ use Rattle.rows.proofs.restrict.Tie as tie
 use Rattle.rows.proofs.restrict.Reads as reads
 use Rattle.rows.proofs.restrict.Lts as lts
 use Rattle.rows.proofs.restrict_words.Reads as restrict-words-reads
+use Rattle.rows.proofs.restrict_narrow.Reads as restrict-narrow-reads
 
 restrict-words-requires : tie.Need-restrict-words-requires
 restrict-words-requires c κs = search needs
-
-restrict-words-requires-2 : tie.Need-restrict-words-requires-2
-restrict-words-requires-2 c κs = search needs
-
-restrict-words-requires-3 : tie.Need-restrict-words-requires-3
-restrict-words-requires-3 c κs = search needs
-
-restrict-words-requires-4 : tie.Need-restrict-words-requires-4
-restrict-words-requires-4 c κs = search needs
-
-restrict-words-requires-5 : tie.Need-restrict-words-requires-5
-restrict-words-requires-5 c κs = search needs
-
-restrict-words-requires-6 : tie.Need-restrict-words-requires-6
-restrict-words-requires-6 c κs = search needs
 
 same-length : tie.Need-same-length
 same-length c = search needs
 
 returns : tie.Need-returns
-returns c = rw (c .before .before .before .before .match .keys1) (c .before .before .restrict-words .ensures)
+returns c = rw (c .before .before .before .before .if1 .taken) (c .before .before .restrict-words .ensures)
+
+restrict-narrow-requires : tie.Need-restrict-narrow-requires
+restrict-narrow-requires c κs = search needs
 
 same-length-2 : tie.Need-same-length-2
 same-length-2 c = search needs
 
 returns-2 : tie.Need-returns-2
-returns-2 c = rw (c .before .before .before .before .match .keys2) (c .before .before .restrict-words2 .ensures)
-
-same-length-3 : tie.Need-same-length-3
-same-length-3 c = search needs
-
-returns-3 : tie.Need-returns-3
-returns-3 c = rw (c .before .before .before .before .match .keys3) (c .before .before .restrict-words3 .ensures)
-
-same-length-4 : tie.Need-same-length-4
-same-length-4 c = search needs
-
-returns-4 : tie.Need-returns-4
-returns-4 c = rw (c .before .before .before .before .match .keys4) (c .before .before .restrict-words4 .ensures)
-
-same-length-5 : tie.Need-same-length-5
-same-length-5 c = search needs
-
-returns-5 : tie.Need-returns-5
-returns-5 c = rw (c .before .before .before .before .match .keys5) (c .before .before .restrict-words5 .ensures)
-
-same-length-6 : tie.Need-same-length-6
-same-length-6 c = search needs
-
-returns-6 : tie.Need-returns-6
-returns-6 c = search needs
+returns-2 c = search needs
 
 pub restrict-spec : {M : Type 1} → statement M
-restrict-spec =
-    tie.close
-    (tie.spec
-    restrict-words-requires
-    restrict-words-requires-2
-    restrict-words-requires-3
-    restrict-words-requires-4
-    restrict-words-requires-5
-    restrict-words-requires-6
-    same-length
-    returns
-    same-length-2
-    returns-2
-    same-length-3
-    returns-3
-    same-length-4
-    returns-4
-    same-length-5
-    returns-5
-    same-length-6
-    returns-6)
+restrict-spec = tie.close (tie.spec restrict-words-requires same-length returns restrict-narrow-requires same-length-2 returns-2)

@@ -27,13 +27,22 @@ shared-slice-read-first : tie.Need-shared-slice-read-first
 shared-slice-read-first c = search needs
 
 mul-first-2 : tie.Need-mul-first-2
-mul-first-2 c = let p = c .before .before .before .before .before .pre in omega (arith, row-le (c .before .before .before .before .before .args .w) (p .2 .rows (c .before .before .before .before .before .args .depth - 1) (omega arith)), p .0)
+mul-first-2 c =
+    let c5 = c .before .before .before .before .before in
+    let p = c5 .pre in
+    omega (arith, row-le (c5 .args .w) (p .2 .rows (c5 .args .depth - 1) (omega arith)), p .0)
 
 add-first : tie.Need-add-first
-add-first c = let p = c .before .before .before .before .before .pre in omega (arith, row-le (c .before .before .before .before .before .args .w) (p .2 .rows (c .before .before .before .before .before .args .depth - 1) (omega arith)), p .0)
+add-first c =
+    let c5 = c .before .before .before .before .before in
+    let p = c5 .pre in
+    omega (arith, row-le (c5 .args .w) (p .2 .rows (c5 .args .depth - 1) (omega arith)), p .0)
 
 first-requires-2 : tie.Need-first-requires-2
-first-requires-2 c κs = let p = c .before .before .before .before .before .pre in (omega (arith, row-le (c .before .before .before .before .before .args .w) (p .2 .rows (c .before .before .before .before .before .args .depth - 1) (omega arith)), p .0), p .2 .marks, p .2 .marks, p .1)
+first-requires-2 c κs =
+    let c5 = c .before .before .before .before .before in
+    let p = c5 .pre in
+    (omega (arith, row-le (c5 .args .w) (p .2 .rows (c5 .args .depth - 1) (omega arith)), p .0), p .2 .marks, p .2 .marks, p .1)
 
 returns-2 : tie.Need-returns-2
 returns-2 c = ahead-first (c .before .before .before .before .before .before .args .work .now) _ (c .before .before .before .before .before .before .args .unseen .now) (c .first2 .ensures)

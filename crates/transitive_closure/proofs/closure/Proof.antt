@@ -70,7 +70,11 @@ first-requires : tie.Need-first-requires Inv-loop μ-loop
 first-requires c κs = let r = c .before .before .before .before .before .before .before .walk .ensures .ready in (omega (arith, r .pending-room), r .pending-room, r .pending-room, r .words)
 
 loop-holds : tie.Need-loop-holds Inv-loop μ-loop
-loop-holds c = let s = c .before .before .before .before .before .before .before .before .walk .ensures in (stage-none (s .ready), c .first .ensures, s .pending-len ∙ c .before .before .before .before .before .before .before .before .before .before .before .before .before .before .copy .ensures .kept .len, s .finished-len)
+loop-holds c =
+    let c8 = c .before .before .before .before .before .before .before .before in
+    let c14 = c8 .before .before .before .before .before .before in
+    let s = c8 .walk .ensures in
+    (stage-none (s .ready), c .first .ensures, s .pending-len ∙ c14 .copy .ensures .kept .len, s .finished-len)
 
 mul-loop : tie.Need-mul-loop Inv-loop μ-loop
 mul-loop c = omega (arith, c .loop .inv .0 .ready .words)
@@ -104,9 +108,12 @@ first-requires-2 c κs = let r = c .before .before .before .before .before .befo
 
 loop-less : tie.Need-loop-less Inv-loop μ-loop
 loop-less c =
-    let l = c .before .before .before .before .before .before .before .before .before .before .before .before .before .before .loop in
-    let f = c .before .before .before .before .before .before .before .before .finish .ensures in
-    stage-less (l .s) (f .0) (c .before .before .before .before .before .before .before .before .before .before .before .before .before .loop-test .taken) (pending-first _ _ (l .inv .1) (c .before .before .before .before .before .before .before .before .before .before .before .before .before .loop-test .taken)) (f .1)
+    let c8 = c .before .before .before .before .before .before .before .before in
+    let c13 = c8 .before .before .before .before .before in
+    let c14 = c13 .before in
+    let l = c14 .loop in
+    let f = c8 .finish .ensures in
+    stage-less (l .s) (f .0) (c13 .loop-test .taken) (pending-first _ _ (l .inv .1) (c13 .loop-test .taken)) (f .1)
 
 loop-again : tie.Need-loop-again Inv-loop μ-loop
 loop-again c =

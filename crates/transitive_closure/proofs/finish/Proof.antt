@@ -21,16 +21,23 @@ reach-requires : tie.Need-reach-requires
 reach-requires c κs = search needs
 
 mul-copy : tie.Need-mul-copy
-mul-copy c = omega (arith, ready-row (c .before .before .before .before .before .before .before .before .before .before .before .pre .0) (c .before .before .before .before .before .before .before .before .before .before .before .args .s) (c .before .before .before .before .before .before .before .before .before .before .before .pre .1))
+mul-copy c =
+    let c11 = c .before .before .before .before .before .before .before .before .before .before .before in
+    omega (arith, ready-row (c11 .pre .0) (c11 .args .s) (c11 .pre .1))
 
 add-copy : tie.Need-add-copy
-add-copy c = omega (arith, ready-row (c .before .before .before .before .before .before .before .before .before .before .before .pre .0) (c .before .before .before .before .before .before .before .before .before .before .before .args .s) (c .before .before .before .before .before .before .before .before .before .before .before .pre .1))
+add-copy c =
+    let c11 = c .before .before .before .before .before .before .before .before .before .before .before in
+    omega (arith, ready-row (c11 .pre .0) (c11 .args .s) (c11 .pre .1))
 
 slice-aggregate-copy : tie.Need-slice-aggregate-copy
 slice-aggregate-copy c = search needs
 
 copy-requires : tie.Need-copy-requires
-copy-requires c κs = (ready-row (c .before .before .before .before .before .before .before .before .before .before .before .before .pre .0) (c .before .before .before .before .before .before .before .before .before .before .before .before .args .s) (c .before .before .before .before .before .before .before .before .before .before .before .before .pre .1), omega (arith, c .before .before .before .before .before .before .before .before .before .before .before .before .pre .0 .words, c .before .before .before .reach .ensures .kept .len))
+copy-requires c κs =
+    let c3 = c .before .before .before in
+    let c12 = c3 .before .before .before .before .before .before .before .before .before in
+    (ready-row (c12 .pre .0) (c12 .args .s) (c12 .pre .1), omega (arith, c12 .pre .0 .words, c3 .reach .ensures .kept .len))
 
 unset-requires : tie.Need-unset-requires
 unset-requires c κs = search needs
@@ -49,9 +56,14 @@ same-length-3 c = search needs
 
 returns : tie.Need-returns
 returns c =
-    let p = c .before .before .before .before .before .before .before .before .before .before .before .before .before .before .before .before .before .before .before .before .before .before .before .pre in
-    let r = row-is (c .before .before .before .before .before .before .before .before .before .before .copy .ensures) (c .before .before .before .before .before .before .before .before .before .before .before .before .before .before .reach .ensures .bit) in
-    (stage-row (p .0) (p .1) r (c .before .before .before .before .before .before .unset .ensures) (c .before .before .set .ensures), stage-has (p .0) (p .1) r (c .before .before .before .before .before .before .unset .ensures) (c .before .before .set .ensures))
+    let c2 = c .before .before in
+    let c6 = c2 .before .before .before .before in
+    let c10 = c6 .before .before .before .before in
+    let c14 = c10 .before .before .before .before in
+    let c23 = c14 .before .before .before .before .before .before .before .before .before in
+    let p = c23 .pre in
+    let r = row-is (c10 .copy .ensures) (c14 .reach .ensures .bit) in
+    (stage-row (p .0) (p .1) r (c6 .unset .ensures) (c2 .set .ensures), stage-has (p .0) (p .1) r (c6 .unset .ensures) (c2 .set .ensures))
 
 pub finish-spec : {M : Type 1} → statement M
 finish-spec =

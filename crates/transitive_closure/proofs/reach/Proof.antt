@@ -31,18 +31,27 @@ copy-requires : tie.Need-copy-requires Inv-loop μ-loop
 copy-requires c κs = let p = c .before .before .before .before .before .before .pre .0 in (omega (arith, p .words), omega (arith, p .live-room))
 
 mul-copy : tie.Need-mul-copy Inv-loop μ-loop
-mul-copy c = omega (arith, ready-row (c .before .before .before .before .before .before .before .before .before .pre .0) (c .before .before .before .before .before .before .before .before .before .args .s) (c .before .before .before .before .before .before .before .before .before .pre .1))
+mul-copy c =
+    let c9 = c .before .before .before .before .before .before .before .before .before in
+    omega (arith, ready-row (c9 .pre .0) (c9 .args .s) (c9 .pre .1))
 
 add-copy : tie.Need-add-copy Inv-loop μ-loop
-add-copy c = omega (arith, ready-row (c .before .before .before .before .before .before .before .before .before .pre .0) (c .before .before .before .before .before .before .before .before .before .args .s) (c .before .before .before .before .before .before .before .before .before .pre .1))
+add-copy c =
+    let c9 = c .before .before .before .before .before .before .before .before .before in
+    omega (arith, ready-row (c9 .pre .0) (c9 .args .s) (c9 .pre .1))
 
 copy-requires-2 : tie.Need-copy-requires-2 Inv-loop μ-loop
-copy-requires-2 c κs = (omega arith, ready-row (c .before .before .before .before .before .before .before .before .before .pre .0) (c .before .before .before .before .before .before .before .before .before .args .s) (c .before .before .before .before .before .before .before .before .before .pre .1))
+copy-requires-2 c κs =
+    let c9 = c .before .before .before .before .before .before .before .before .before in
+    (omega arith, ready-row (c9 .pre .0) (c9 .args .s) (c9 .pre .1))
 
 loop-holds : tie.Need-loop-holds Inv-loop μ-loop
 loop-holds c =
-    let p = c .before .before .before .before .before .before .before .before .before .before .before .before .pre in
-    (c .before .before .before .before .before .copy .ensures .kept .len, kept-refl _ _ _, growing-none (p .0) (p .1) (c .before .before .copy2 .ensures) (c .before .before .before .before .before .copy .ensures), λ e. absurd (true≢false e))
+    let c2 = c .before .before in
+    let c5 = c2 .before .before .before in
+    let c12 = c5 .before .before .before .before .before .before .before in
+    let p = c12 .pre in
+    (c5 .copy .ensures .kept .len, kept-refl _ _ _, growing-none (p .0) (p .1) (c2 .copy2 .ensures) (c5 .copy .ensures), λ e. absurd (true≢false e))
 
 slice-aggregate-step : tie.Need-slice-aggregate-step Inv-loop μ-loop
 slice-aggregate-step c = search needs
@@ -54,7 +63,11 @@ step-requires c κs =
     (p .0, i .2, omega (arith, p .2, c .before .before .before .before .before .before .copy2 .ensures .kept .len, i .1 .len), omega (arith, p .0 .words, i .0))
 
 loop-less : tie.Need-loop-less Inv-loop μ-loop
-loop-less c = stepped-less (c .before .before .before .before .before .before .before .loop .going) (c .before .before .before .step .ensures) (c .before .before .before .before .before .before .loop-test .taken)
+loop-less c =
+    let c3 = c .before .before .before in
+    let c6 = c3 .before .before .before in
+    let c7 = c6 .before in
+    stepped-less (c7 .loop .going) (c3 .step .ensures) (c6 .loop-test .taken)
 
 loop-again : tie.Need-loop-again Inv-loop μ-loop
 loop-again c =
@@ -67,8 +80,11 @@ same-length c = search needs
 
 returns : tie.Need-returns Inv-loop μ-loop
 returns c =
-    let i = c .before .loop .inv in
-    record { kept = kept-trans (c .before .before .before .before .copy2 .ensures .kept) (i .1) (omega arith) (omega arith) (omega arith) (omega arith); bit = growing-all (c .before .before .before .before .before .before .before .before .before .before .before .before .before .before .pre .0) (i .2) (i .3 (c .loop-test .left)) }
+    let c1 = c .before in
+    let c4 = c1 .before .before .before in
+    let c14 = c4 .before .before .before .before .before .before .before .before .before .before in
+    let i = c1 .loop .inv in
+    record { kept = kept-trans (c4 .copy2 .ensures .kept) (i .1) (omega arith) (omega arith) (omega arith) (omega arith); bit = growing-all (c14 .pre .0) (i .2) (i .3 (c .loop-test .left)) }
 
 pub reach-spec : {M : Type 1} → statement M
 reach-spec =

@@ -54,8 +54,12 @@ same-length-2 c = search needs
 returns : tie.Need-returns
 unfolding without
 returns c =
-    let a = c .before .before .before .before .before .before .before .before .before .before .before .before .before .before .before .before .before .args in
-    took-word {m = 16} (a .work .now) (a .b) (a .i) (a .v) (c .before .before .before .before .before .before .before .before .before .before .before .before .take-word .ensures) (c .before .before .before .before .before .before .before .before .unite .ensures) (c .before .before .before .exclude .ensures) (omega arith) (omega arith) (omega (arith, c .before .before .before .exclude .ensures .kept .len))
+    let c3 = c .before .before .before in
+    let c8 = c3 .before .before .before .before .before in
+    let c12 = c8 .before .before .before .before in
+    let c17 = c12 .before .before .before .before .before in
+    let a = c17 .args in
+    took-word {m = 16} (a .work .now) (a .b) (a .i) (a .v) (c12 .take-word .ensures) (c8 .unite .ensures) (c3 .exclude .ensures) (omega arith) (omega arith) (omega (arith, c3 .exclude .ensures .kept .len))
 
 pub take-all-finished-spec : {M : Type 1} → statement M
 take-all-finished-spec =

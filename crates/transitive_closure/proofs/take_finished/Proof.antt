@@ -27,7 +27,12 @@ same-length-2 : tie.Need-same-length-2
 same-length-2 c = search needs
 
 returns : tie.Need-returns
-returns c = took-finished (c .before .before .before .before .before .before .before .before .before .before .before .before .before .before .before .args .work .now) (c .before .before .before .before .before .before .before .before .before .before .before .before .before .before .before .args .d) (c .before .before .before .before .before .before .before .before .before .before .before .before .before .before .before .args .k) (c .before .before .before .before .before .before .before .before .before .before .unite .ensures) (c .before .before .before .before .before .before .exclude .ensures) (c .before .before .unset .ensures) (c .before .before .before .before .before .before .before .before .before .before .before .before .before .before .before .pre .3)
+returns c =
+    let c2 = c .before .before in
+    let c6 = c2 .before .before .before .before in
+    let c10 = c6 .before .before .before .before in
+    let c15 = c10 .before .before .before .before .before in
+    took-finished (c15 .args .work .now) (c15 .args .d) (c15 .args .k) (c10 .unite .ensures) (c6 .exclude .ensures) (c2 .unset .ensures) (c15 .pre .3)
 
 pub take-finished-spec : {M : Type 1} → statement M
 take-finished-spec =

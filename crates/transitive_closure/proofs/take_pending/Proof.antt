@@ -22,7 +22,11 @@ same-length-2 : tie.Need-same-length-2
 same-length-2 c = search needs
 
 returns : tie.Need-returns
-returns c = record { row = c .before .before .before .before .before .before .unite .ensures; left = c .before .before .unset .ensures (c .before .before .before .before .before .before .before .before .before .before .before .args .w) (c .before .before .before .before .before .before .before .before .before .before .before .pre .3) }
+returns c =
+    let c2 = c .before .before in
+    let c6 = c2 .before .before .before .before in
+    let c11 = c6 .before .before .before .before .before in
+    record { row = c6 .unite .ensures; left = c2 .unset .ensures (c11 .args .w) (c11 .pre .3) }
 
 pub take-pending-spec : {M : Type 1} → statement M
 take-pending-spec =

@@ -22,7 +22,12 @@ mul-stack : tie.Need-mul-stack
 mul-stack c = search needs
 
 slice-write-stack : tie.Need-slice-write-stack
-slice-write-stack c = let p = c .before .before .before .before .before .before .before .before .before .before .before .pre in trail-room (c .before .before .before .before .before .before .before .before .before .before .before .args .w) (c .before .before .unset .ensures) (p .2) (c .before .before .before .before .if1 .taken) (p .1) (p .0 .words)
+slice-write-stack c =
+    let c2 = c .before .before in
+    let c4 = c2 .before .before in
+    let c11 = c4 .before .before .before .before .before .before .before in
+    let p = c11 .pre in
+    trail-room (c11 .args .w) (c2 .unset .ensures) (p .2) (c4 .if1 .taken) (p .1) (p .0 .words)
 
 add-result : tie.Need-add-result
 add-result c = search needs
@@ -34,7 +39,12 @@ same-length-2 : tie.Need-same-length-2
 same-length-2 c = search needs
 
 returns : tie.Need-returns
-returns c = let p = c .before .before .before .before .before .before .before .before .before .before .before .pre in (stage-none (p .0), trail-down (c .before .before .before .before .before .before .before .before .before .before .before .args .w) (c .before .before .unset .ensures) (p .2) (c .before .before .before .before .if1 .taken) (p .1) (p .0 .words))
+returns c =
+    let c2 = c .before .before in
+    let c4 = c2 .before .before in
+    let c11 = c4 .before .before .before .before .before .before .before in
+    let p = c11 .pre in
+    (stage-none (p .0), trail-down (c11 .args .w) (c2 .unset .ensures) (p .2) (c4 .if1 .taken) (p .1) (p .0 .words))
 
 sub-finish : tie.Need-sub-finish
 sub-finish c = search needs
@@ -46,7 +56,11 @@ slice-read-finish : tie.Need-slice-read-finish
 slice-read-finish c = search needs
 
 finish-requires : tie.Need-finish-requires
-finish-requires c κs = let p = c .before .before .before .before .before .before .before .before .before .before .before .pre in (p .0, p .1 .rows (c .before .before .before .before .before .before .before .before .before .before .before .args .depth - 1) (omega (arith, p .3, c .before .before .before .before .if1 .left)))
+finish-requires c κs =
+    let c4 = c .before .before .before .before in
+    let c11 = c4 .before .before .before .before .before .before .before in
+    let p = c11 .pre in
+    (p .0, p .1 .rows (c11 .args .depth - 1) (omega (arith, p .3, c4 .if1 .left)))
 
 sub-result : tie.Need-sub-result
 sub-result c = search needs
@@ -61,7 +75,12 @@ same-length-5 : tie.Need-same-length-5
 same-length-5 c = search needs
 
 returns-2 : tie.Need-returns-2
-returns-2 c = let p = c .before .before .before .before .before .before .before .before .before .before .before .before .before .before .before .before .before .before .pre in (c .before .before .before .before .before .before .finish .ensures .0, trail-up (p .1) (omega (arith, p .3, c .before .before .before .before .before .before .before .before .before .before .before .if1 .left)))
+returns-2 c =
+    let c6 = c .before .before .before .before .before .before in
+    let c11 = c6 .before .before .before .before .before in
+    let c18 = c11 .before .before .before .before .before .before .before in
+    let p = c18 .pre in
+    (c6 .finish .ensures .0, trail-up (p .1) (omega (arith, p .3, c11 .if1 .left)))
 
 pub turn-spec : {M : Type 1} → statement M
 turn-spec =

@@ -36,10 +36,18 @@ slice-aggregate-ahead-2 : tie.Need-slice-aggregate-ahead-2 Inv-loop μ-loop
 slice-aggregate-ahead-2 c = search needs
 
 ahead-requires : tie.Need-ahead-requires Inv-loop μ-loop
-ahead-requires c κs = let p = c .before .before .before .before .before .before .before .before .before .before .before .pre in (p .room, p .words, trail-none (c .before .before .before .before .before .before .before .before .before .before .before .args .pending .now) _ (c .before .before .before .before .copy .ensures) (p .inner) (omega arith) (omega (arith, p .words, c .before .before .before .before .copy .ensures .kept .len)))
+ahead-requires c κs =
+    let c4 = c .before .before .before .before in
+    let c11 = c4 .before .before .before .before .before .before .before in
+    let p = c11 .pre in
+    (p .room, p .words, trail-none (c11 .args .pending .now) _ (c4 .copy .ensures) (p .inner) (omega arith) (omega (arith, p .words, c4 .copy .ensures .kept .len)))
 
 loop-holds : tie.Need-loop-holds Inv-loop μ-loop
-loop-holds c = let p = c .before .before .before .before .before .before .before .before .before .before .before .before .pre in (stage-none p, trail-none (c .before .before .before .before .before .before .before .before .before .before .before .before .args .pending .now) _ (c .before .before .before .before .before .copy .ensures) (p .inner) (omega arith) (omega (arith, p .words, c .before .before .before .before .before .copy .ensures .kept .len)), c .ahead .ensures, refl, c .before .before .before .before .before .copy .ensures .kept .len)
+loop-holds c =
+    let c5 = c .before .before .before .before .before in
+    let c12 = c5 .before .before .before .before .before .before .before in
+    let p = c12 .pre in
+    (stage-none p, trail-none (c12 .args .pending .now) _ (c5 .copy .ensures) (p .inner) (omega arith) (omega (arith, p .words, c5 .copy .ensures .kept .len)), c .ahead .ensures, refl, c5 .copy .ensures .kept .len)
 
 mul-loop : tie.Need-mul-loop Inv-loop μ-loop
 mul-loop c = omega (arith, c .loop .inv .0 .ready .words)
@@ -69,7 +77,12 @@ loop-less : tie.Need-loop-less Inv-loop μ-loop
 loop-less c = c .before .before .before .before .before .before .before .before .before .before .before .before .turn .ensures .1 .less
 
 loop-again : tie.Need-loop-again Inv-loop μ-loop
-loop-again c = let i = c .before .before .before .before .before .before .before .before .before .before .before .before .before .before .before .before .before .before .before .loop .inv in let t = c .before .before .before .before .before .before .before .before .before .before .before .before .turn .ensures in (stage-then (i .0) (t .0), t .1 .trail, c .ahead2 .ensures, t .1 .same .0 ∙ i .3, t .1 .same .1 ∙ i .4)
+loop-again c =
+    let c12 = c .before .before .before .before .before .before .before .before .before .before .before .before in
+    let c19 = c12 .before .before .before .before .before .before .before in
+    let i = c19 .loop .inv in
+    let t = c12 .turn .ensures in
+    (stage-then (i .0) (t .0), t .1 .trail, c .ahead2 .ensures, t .1 .same .0 ∙ i .3, t .1 .same .1 ∙ i .4)
 
 same-length : tie.Need-same-length Inv-loop μ-loop
 same-length c = search needs

@@ -5,7 +5,7 @@ use mathlib.Core.Bool.{Bool, true, false, _&&_, _||_, or-false, or-assoc, false�
 use mathlib.Core.List.{List}
 use mathlib.Core.Logic.{⊎-elim}
 use Prim.Native.Nat.{ℕ, _+_, _-_, _*_, _/_, _%_, _^_, _≤_, _<_}
-use native.Mathlib.Nat.{zero-add, add-assoc}
+use native.Mathlib.Nat.{zero-add, add-assoc, div-one}
 use native.Mathlib.Numerals.{add-one}
 use native.Mathlib.Omega.{arith}
 use lib.Bits.{bitAnd}
@@ -89,6 +89,10 @@ word-all {rs} xs q w g v p r e h = row-is r (λ t l. ap (λ (b : Bool). row-bit 
     none t i h l =
         let s : p + (i - p) ≡ i = omega arith in
         ap (λ (b : Bool). b && pair-at xs q w (g + i) t) (ap (bitOf v) (sym s) ∙ sym (bit-shr v p (i - p)) ∙ ap (λ (x : ℕ). bitOf x (i - p)) e ∙ bit-zero (i - p))
+
+-- no bit at all
+pub word-empty : (rs xs : List ℕ) (q w g v : ℕ) → v ≡ 0 → Row 0 w (taken rs xs q w g v 64) rs rs
+word-empty rs xs q w g v e = word-all xs q w g v 0 (word-none rs xs q w g v) (div-one v ∙ e) (omega arith)
 
 -- ---- the words of the row at d, under the mask
 row-word : (xs : List ℕ) (r i j : ℕ) → j < 64 → row-bit xs r (64 * i + j) ≡ bitOf (getD xs (r + i) 0) j

@@ -36,6 +36,16 @@ pub fn take_word(row: &mut [u64], work: &[u64], q: usize, n: usize, w: usize, g:
     }
 }
 
+// As `take_word`; most words have no bit, and are told before anything else.
+fn take_some(row: &mut [u64], work: &[u64], q: usize, n: usize, w: usize, g: usize, v: u64)
+    requires { ⌜ (w ≤ length (now row)) × (q + n * w ≤ length (now work)) × ((i : ℕ) → bitOf v i ≡ true → g + i < n) ⌝ }
+    ensures { λ _. ⌜ Row 0 w (taken (now (row .entry)) (now (work .entry)) q w g v 64) (now (row .entry)) (now (row .exit)) ⌝ }
+{
+    if v != 0 {
+        take_word(row, work, q, n, w, g, v);
+    }
+}
+
 // The row takes in row z of the relation at q, for each z that the row at d and the mask have.
 fn take_row(row: &mut [u64], work: &[u64], d: usize, q: usize, n: usize, w: usize, mask: &[u64])
     requires { ⌜ (w ≤ length (now row)) × (d + w ≤ length (now work)) × (q + n * w ≤ length (now work)) × (w ≤ 16) × (w ≤ length (now mask)) × CleanRow (now work) d n w ⌝ }
@@ -43,7 +53,7 @@ fn take_row(row: &mut [u64], work: &[u64], d: usize, q: usize, n: usize, w: usiz
 {
     for i in 0..w {
         let v = work[d + i] & mask[i];
-        take_word(row, work, q, n, w, 64 * i, v);
+        take_some(row, work, q, n, w, 64 * i, v);
     }
 }
 

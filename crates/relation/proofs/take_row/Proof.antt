@@ -1,4 +1,4 @@
--- `relation::take_row` meets its contract.
+-- `relation::take_row` meets its contract: a turn takes in the rows that one word names.
 -- Assumes nothing.
 use mathlib.Core.Path.{_≡_}
 use Prim.Native.Nat.{_+_, _-_, _*_, _≤_}
@@ -34,11 +34,11 @@ mul-v-2 c = search needs
 shared-slice-read-v-2 : tie.Need-shared-slice-read-v-2 Inv-loop μ-loop
 shared-slice-read-v-2 c = search needs
 
-mul-take-word : tie.Need-mul-take-word Inv-loop μ-loop
-mul-take-word c = search needs
+mul-take-some : tie.Need-mul-take-some Inv-loop μ-loop
+mul-take-some c = search needs
 
-take-word-requires : tie.Need-take-word-requires Inv-loop μ-loop
-take-word-requires c κs =
+take-some-requires : tie.Need-take-some-requires Inv-loop μ-loop
+take-some-requires c κs =
     let s = c .before .before .before .before .before .before .before .before in
     let a = s .args in
     let l = c .before .before .before .before .loop in
@@ -55,7 +55,7 @@ loop-again : tie.Need-loop-again Inv-loop μ-loop
 loop-again c =
     let a = c .before .before .before .before .before .before .before .before .before .before .before .args in
     let l = c .before .before .before .before .before .before .before .loop in
-    (omega arith, words-more (a .work .now) (a .mask .now) (a .d) (a .q) (a .w) (l .i) (l .inv .1) (c .before .before .take-word .ensures))
+    (omega arith, words-more (a .work .now) (a .mask .now) (a .d) (a .q) (a .w) (l .i) (l .inv .1) (c .before .before .take-some .ensures))
 
 same-length : tie.Need-same-length Inv-loop μ-loop
 same-length c = search needs
@@ -75,8 +75,8 @@ take-row-spec =
     shared-slice-read-v
     mul-v-2
     shared-slice-read-v-2
-    mul-take-word
-    take-word-requires
+    mul-take-some
+    take-some-requires
     add-i
     loop-less
     loop-again

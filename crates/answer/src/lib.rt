@@ -217,12 +217,13 @@ fn wide(x: u8) -> usize
 fn add_members(
     q: Members,
     register: &[u8],
+    kinds: &[u64],
     n: usize,
     w: usize,
     work: &mut [u64],
     answer: &mut [u64],
 )
-    requires { ⌜ Readable q × Ground (now register) n w × (28 * (n * w) ≤ length (now work)) × (n * w ≤ length (now answer)) ⌝ }
+    requires { ⌜ Readable q × Ground (now register) n w × (28 * (n * w) ≤ length (now work)) × (n * w ≤ length (now answer)) × KindRows (register-in (now register)) n w (now kinds) ⌝ }
     ensures { λ _. ⌜ Adds (register-in (now (register .entry))) n w (narrowed-answer (register-in (now (register .entry))) (members-of (given q)))
         (now (work .entry)) (now (work .exit)) (now (answer .entry)) (now (answer .exit)) ⌝ }
 {
@@ -232,8 +233,6 @@ fn add_members(
     let to = q.to;
     let numbers = q.numbers;
     let sets = q.sets;
-    let mut kinds = [0u64; kind_rows::TABLE];
-    kind_rows::fill(&mut kinds, register, n, w);
     let mut held = [chains::NONE; chains::HELD];
     let mut first = 0;
     for i in 0..count {
@@ -246,7 +245,7 @@ fn add_members(
             from[i],
             to[i],
             register,
-            &kinds,
+            kinds,
             n,
             w,
             &mut held,
@@ -272,7 +271,9 @@ pub fn set_members(
 {
     let room = n * w;
     rows::clear(answer, 0, room);
-    add_members(q, register, n, w, work, answer);
+    let mut kinds = [0u64; kind_rows::TABLE];
+    kind_rows::fill(&mut kinds, register, n, w);
+    add_members(q, register, &kinds, n, w, work, answer);
 }
 
 // 14; or the pairs of the members.

@@ -5,7 +5,6 @@ use lib.ListN.{length}
 use Rattle.register.specs.Form.{register-in}
 use Rattle.chains.specs.Chain.{Held}
 use Rattle.chains.proofs.Walking.{held-none}
-use Rattle.evaluation.proofs.Grounds.{narrow}
 use Rattle.answer.proofs.Adding.{Adding, adding-start, adding-more, adding-end, makes-path, size-few, symbols-end}
 use borrow.Author.Needs.{needs}
 use Prim.Native.Nat.{_-_}
@@ -16,22 +15,15 @@ use Rattle.answer.proofs.add_members.Reads as reads
 use Rattle.answer.proofs.add_members.Lts as lts
 use Rattle.answer.proofs.add_member.Reads as add-member-reads
 use Rattle.answer.proofs.wide.Reads as wide-reads
-use Rattle.kind_rows.proofs.fill.Reads as fill-reads
 
 abbrev Inv-loop : tie.InvT-loop
-Inv-loop register n w work₀ answer₀ count sizes from to numbers sets kinds held₀ first₀ i₀ work answer held first i = Adding (record { count = count; sizes = sizes; from = from; to = to; numbers = numbers; sets = sets }) (register-in register) n w work₀ work answer₀ answer i first × Held (register-in register) n w held work
+Inv-loop register kinds n w work₀ answer₀ count sizes from to numbers sets held₀ first₀ i₀ work answer held first i = Adding (record { count = count; sizes = sizes; from = from; to = to; numbers = numbers; sets = sets }) (register-in register) n w work₀ work answer₀ answer i first × Held (register-in register) n w held work
 
 abbrev μ-loop : tie.MeasureT-loop
-μ-loop register n w work₀ answer₀ count sizes from to numbers sets kinds held₀ first₀ i₀ work answer held first i = count - i
-
-slice-aggregate-fill : tie.Need-slice-aggregate-fill Inv-loop μ-loop
-slice-aggregate-fill c = search needs
-
-fill-requires : tie.Need-fill-requires Inv-loop μ-loop
-fill-requires c κs = let p = c .before .before .before .before .before .before .before .before .before .pre in (omega (arith, narrow (p .1)), p .1)
+μ-loop register kinds n w work₀ answer₀ count sizes from to numbers sets held₀ first₀ i₀ work answer held first i = count - i
 
 loop-holds : tie.Need-loop-holds Inv-loop μ-loop
-loop-holds c = let p = c .before .before .before .before .before .before .before .before .before .before .before .pre in (adding-start _ _ _ _ _ _ (p .0), held-none (p .1) _)
+loop-holds c = let p = c .before .before .before .before .before .before .before .before .before .pre in (adding-start _ _ _ _ _ _ (p .0), held-none (p .1) _)
 
 array-read-wide : tie.Need-array-read-wide Inv-loop μ-loop
 array-read-wide c = omega (arith, c .before .loop .inv .0 .few)
@@ -60,22 +52,19 @@ array-read-add-member-2 c = let h = c .before .before .before .before .loop .inv
 slice-aggregate-add-member-3 : tie.Need-slice-aggregate-add-member-3 Inv-loop μ-loop
 slice-aggregate-add-member-3 c = search needs
 
-slice-aggregate-add-member-4 : tie.Need-slice-aggregate-add-member-4 Inv-loop μ-loop
-slice-aggregate-add-member-4 c = search needs
-
 add-member-requires : tie.Need-add-member-requires Inv-loop μ-loop
 add-member-requires c κs =
-    let r = c .before .before .before .before .before .before .before .before .before .before .before .before .before .before .before .before .before .before .before .before .pre in
-    let i = c .before .before .before .before .before .before .before .before .loop .inv .0 in
-    let h = c .before .before .before .before .before .before .before .loop-test .taken in
-    let e = c .before .before .before .before .before .before .wide .ensures .0 in
-    let f : length (c .before .before .before .before .before .before .before .before .before .before .before .before .before .before .before .before .before .before .before .before .args .q .numbers) ≡ 6144 = search (needs, c .before .before .before .before .before .before .before .before .before .before .before .before .before .before .before .before .before .before .before .before .good) in
-    let g : length (c .before .before .before .before .before .before .before .before .before .before .before .before .before .before .before .before .before .before .before .before .args .q .sets) ≡ 6144 = search (needs, c .before .before .before .before .before .before .before .before .before .before .before .before .before .before .before .before .before .before .before .before .good) in
+    let r = c .before .before .before .before .before .before .before .before .before .before .before .before .before .before .before .before .before .pre in
+    let i = c .before .before .before .before .before .before .before .loop .inv .0 in
+    let h = c .before .before .before .before .before .before .loop-test .taken in
+    let e = c .before .before .before .before .before .wide .ensures .0 in
+    let f : length (c .before .before .before .before .before .before .before .before .before .before .before .before .before .before .before .before .before .args .q .numbers) ≡ 6144 = search needs in
+    let g : length (c .before .before .before .before .before .before .before .before .before .before .before .before .before .before .before .before .before .args .q .sets) ≡ 6144 = search needs in
     let s = symbols-end i h _ e in
-    ((r .1, omega (arith, r .2, i .kept .len), omega (arith, r .3, i .area .len), omega (arith, f, s), omega (arith, g, s), size-few i h _ e), (makes-path i h _ e, (c .before .before .before .before .before .before .before .before .loop .inv .1, c .before .before .before .before .before .before .before .before .before .before .fill .ensures)))
+    ((r .1, omega (arith, r .2, i .kept .len), omega (arith, r .3, i .area .len), omega (arith, f, s), omega (arith, g, s), size-few i h _ e), (makes-path i h _ e, (c .before .before .before .before .before .before .before .loop .inv .1, r .4)))
 
 add-first : tie.Need-add-first Inv-loop μ-loop
-add-first c = omega (arith, symbols-end (c .before .before .before .before .before .before .before .before .before .before .before .before .before .before .loop .inv .0) (c .before .before .before .before .before .before .before .before .before .before .before .before .before .loop-test .taken) _ (c .before .before .before .before .before .before .before .before .before .before .before .before .wide .ensures .0))
+add-first c = omega (arith, symbols-end (c .before .before .before .before .before .before .before .before .before .before .before .before .before .loop .inv .0) (c .before .before .before .before .before .before .before .before .before .before .before .before .loop-test .taken) _ (c .before .before .before .before .before .before .before .before .before .before .before .wide .ensures .0))
 
 add-i : tie.Need-add-i Inv-loop μ-loop
 add-i c = search needs
@@ -84,7 +73,7 @@ loop-less : tie.Need-loop-less Inv-loop μ-loop
 loop-less c = search needs
 
 loop-again : tie.Need-loop-again Inv-loop μ-loop
-loop-again c = let v = c .before .before .before .before .before .add-member .ensures in (adding-more (c .before .before .before .before .before .before .before .before .before .before .before .before .before .before .loop .inv .0) (c .before .before .before .before .before .before .before .before .before .before .before .before .before .loop-test .taken) _ (c .before .before .before .before .before .before .before .before .before .before .before .before .wide .ensures .0) (v .1), v .0)
+loop-again c = let v = c .before .before .before .before .before .add-member .ensures in (adding-more (c .before .before .before .before .before .before .before .before .before .before .before .before .before .loop .inv .0) (c .before .before .before .before .before .before .before .before .before .before .before .before .loop-test .taken) _ (c .before .before .before .before .before .before .before .before .before .before .before .wide .ensures .0) (v .1), v .0)
 
 same-length : tie.Need-same-length Inv-loop μ-loop
 same-length c = search needs
@@ -101,8 +90,6 @@ add-members-spec =
     (tie.spec
     Inv-loop
     μ-loop
-    slice-aggregate-fill
-    fill-requires
     loop-holds
     array-read-wide
     wide-requires
@@ -113,7 +100,6 @@ add-members-spec =
     mul-add-member-2
     array-read-add-member-2
     slice-aggregate-add-member-3
-    slice-aggregate-add-member-4
     add-member-requires
     add-first
     add-i

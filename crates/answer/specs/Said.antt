@@ -46,3 +46,7 @@ pub record Adds (r : Register) (n w : ℕ) (f : ℕ → ℕ → Bool) (work work
 -- the members are those of a file
 abbrev pub Readable : Members → Type 0
 Readable q = WellFormed (given q)
+
+-- the members in arrays that are lent
+abbrev pub lent : ℕ → List ℕ → List ℕ → List ℕ → List ℕ → List ℕ → Members
+lent count sizes from to numbers sets = record { count = count; sizes = sizes; from = from; to = to; numbers = numbers; sets = sets }

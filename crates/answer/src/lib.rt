@@ -23,7 +23,7 @@ ghost use Rattle.evaluation.specs.Ground.{Ground, symbols-in, MakePath};
 ghost use Rattle.kind_rows.specs.Kinds.{KindRows};
 ghost use Rattle.chains.specs.Chain.{Held};
 ghost use Rattle.answer.specs.Calls.{answered, asked, members-of, plain-call, narrowed-call};
-ghost use Rattle.answer.specs.Said.{Answers, Fills, Adds, Walks, Readable};
+ghost use Rattle.answer.specs.Said.{Answers, Fills, Adds, Walks, Readable, lent};
 
 // The words of a row of n records.
 pub fn row_words(n: usize) -> usize
@@ -213,39 +213,41 @@ fn wide(x: u8) -> usize
     x as usize
 }
 
-// The answer takes in the pairs of each member.
+// The answer takes in the pairs of each member, whose arrays are lent.
 fn add_members(
-    q: Members,
+    count: usize,
+    sizes: &[u8],
+    from: &[u64],
+    to: &[u64],
+    numbers: &[u8],
+    sets: &[u64],
     register: &[u8],
-    kinds: &[u64],
     n: usize,
     w: usize,
     work: &mut [u64],
     answer: &mut [u64],
 )
-    requires { ⌜ Readable q × Ground (now register) n w × (28 * (n * w) ≤ length (now work)) × (n * w ≤ length (now answer)) × KindRows (register-in (now register)) n w (now kinds) ⌝ }
-    ensures { λ _. ⌜ Adds (register-in (now (register .entry))) n w (narrowed-answer (register-in (now (register .entry))) (members-of (given q)))
+    requires { ⌜ Readable (lent count (now sizes) (now from) (now to) (now numbers) (now sets)) × Ground (now register) n w × (28 * (n * w) ≤ length (now work)) × (n * w ≤ length (now answer)) ⌝ }
+    requires { ⌜ (128 ≤ length (now sizes)) × (128 ≤ length (now from)) × (128 ≤ length (now to)) × (6144 ≤ length (now numbers)) × (6144 ≤ length (now sets)) ⌝ }
+    ensures { λ _. ⌜ Adds (register-in (now (register .entry))) n w
+        (narrowed-answer (register-in (now (register .entry))) (members-of (given (lent count (now (sizes .entry)) (now (from .entry)) (now (to .entry)) (now (numbers .entry)) (now (sets .entry))))))
         (now (work .entry)) (now (work .exit)) (now (answer .entry)) (now (answer .exit)) ⌝ }
 {
-    let count = q.count;
-    let sizes = q.sizes;
-    let from = q.from;
-    let to = q.to;
-    let numbers = q.numbers;
-    let sets = q.sets;
+    let mut kinds = [0u64; kind_rows::TABLE];
+    kind_rows::fill(&mut kinds, register, n, w);
     let mut held = [chains::NONE; chains::HELD];
     let mut first = 0;
     for i in 0..count {
         let size = wide(sizes[i]);
         add_member(
-            &numbers,
-            &sets,
+            numbers,
+            sets,
             first,
             size,
             from[i],
             to[i],
             register,
-            kinds,
+            &kinds,
             n,
             w,
             &mut held,
@@ -269,11 +271,25 @@ pub fn set_members(
     ensures { λ _. ⌜ Fills n w (narrowed-answer (register-in (now (register .entry))) (members-of (given q))) outcome.Accepted
         (now (work .entry)) (now (work .exit)) (now (answer .entry)) (now (answer .exit)) ⌝ }
 {
-    let room = n * w;
-    rows::clear(answer, 0, room);
-    let mut kinds = [0u64; kind_rows::TABLE];
-    kind_rows::fill(&mut kinds, register, n, w);
-    add_members(q, register, &kinds, n, w, work, answer);
+    let sizes = q.sizes;
+    let from = q.from;
+    let to = q.to;
+    let numbers = q.numbers;
+    let sets = q.sets;
+    rows::clear(answer, 0, n * w);
+    add_members(
+        q.count,
+        &sizes,
+        &from,
+        &to,
+        &numbers,
+        &sets,
+        register,
+        n,
+        w,
+        work,
+        answer,
+    );
 }
 
 // 14; or the pairs of the members.

@@ -276,7 +276,8 @@ pub fn set_members(
     let to = q.to;
     let numbers = q.numbers;
     let sets = q.sets;
-    rows::clear(answer, 0, n * w);
+    let room = n * w;
+    rows::clear(answer, 0, room);
     add_members(
         q.count,
         &sizes,

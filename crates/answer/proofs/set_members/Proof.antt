@@ -13,8 +13,8 @@ use Rattle.answer.proofs.set_members.Lts as lts
 use Rattle.answer.proofs.add_members.Reads as add-members-reads
 use Rattle.rows.proofs.clear.Reads as clear-reads
 
-mul-clear : tie.Need-mul-clear
-mul-clear c = omega (arith, small (c .before .before .before .before .before .before .before .before .before .pre .1))
+mul-room : tie.Need-mul-room
+mul-room c = omega (arith, small (c .before .before .before .before .before .before .before .before .pre .1))
 
 clear-requires : tie.Need-clear-requires
 clear-requires c κs = omega (arith, c .before .before .before .before .before .before .before .before .before .pre .3)
@@ -57,7 +57,7 @@ pub set-members-spec : {M : Type 1} → statement M
 set-members-spec =
     tie.close
     (tie.spec
-    mul-clear
+    mul-room
     clear-requires
     slice-aggregate-add-members
     slice-aggregate-add-members-2

@@ -1,18 +1,17 @@
 -- A chain's symbols make its path.
 -- Assumes nothing.
-use mathlib.Core.Path.{_≡_, refl, sym, ap, ap₂, subst, _∙_}
-use mathlib.Core.Bool.{Bool, true, false, cond}
+use mathlib.Core.Path.{_≡_, refl, ap, subst, _∙_}
+use mathlib.Core.Bool.{cond}
 use mathlib.Core.List.{List, [], _∷_}
 use mathlib.Core.Logic.{⊎-elim}
 use mathlib.Core.Option.{some}
-use Prim.Native.Nat.{ℕ, zero, suc, _+_, _-_, _*_, _≤_, _<_}
-use native.Mathlib.Nat.{add-zero}
+use Prim.Native.Nat.{ℕ, zero, suc, _+_, _*_, _≤_, _<_}
 use native.Mathlib.Omega.{arith}
-use lib.Dec.{ltb, eqb}
+use lib.Dec.{eqb}
 use lib.ListN.{getD}
 use borrow.Author.Count.{below-more}
 use borrow.Author.Tests.{lt-ltb, le-ltb}
-use Rattle.theory.specs.PathExpr.{forward, reverse, through, PathExpr, step, join, Symbol, s-step, s-join}
+use Rattle.theory.specs.PathExpr.{through, PathExpr, join, Symbol}
 use Rattle.theory.specs.Postfix.{Stack, push, go-on, read, single-path, path-of}
 use Rattle.symbols.specs.Symbols.{symbol-numbered}
 use Rattle.symbols.proofs.Numbers.{forward-number, reverse-number, through-number}

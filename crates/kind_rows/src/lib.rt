@@ -1,6 +1,5 @@
 // The records of each kind of a register, as rows of a table that is made once: the records of a set of kinds are then the union of a few rows.
-ghost use mathlib.Core.Path.{_≡_};
-ghost use Prim.Native.Nat.{ℕ, _*_, _≤_};
+ghost use Prim.Native.Nat.{_*_, _≤_};
 ghost use lib.ListN.{length};
 ghost use Rattle.register.specs.Form.{register-in};
 ghost use Rattle.rows.specs.Row.{Row};

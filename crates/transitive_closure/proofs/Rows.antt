@@ -15,9 +15,7 @@ use borrow.Author.Tests.{eq-eqb, ne-eqb, eqb-true}
 use Rattle.bits.specs.Bit.{bitOf, without}
 use Rattle.bits.proofs.Bits.{bit-and, bit-without, bit-high}
 use Rattle.theory.specs.Lists.{some?, range}
-use Rattle.theory.specs.TransitiveClosure.{look, closure?}
 use Rattle.theory.proofs.Tests.{of-true, to-true, bool-eq}
-use Rattle.rows.specs.Kept.{Kept}
 use Rattle.rows.specs.Row.{row-bit, Row, Put, common, Least}
 use Rattle.rows.proofs.Words.{kept-refl, kept-trans, kept-set, le-or-lt}
 use Rattle.rows.proofs.Rows.{eq-or-ne, row-is, row-then}

@@ -23,7 +23,7 @@ use Rattle.relation.proofs.Pair.{made-row}
 use Rattle.transitive_closure.specs.Finishing.{closure-at, amount, Ready, Stage}
 use Rattle.transitive_closure.proofs.Amounts.{amount-less}
 use Rattle.transitive_closure.proofs.Paths.{closure-in, closure-edge, closure-trans, closure-ind}
-use Rattle.transitive_closure.proofs.Rows.{or-second, or-either, and-yes, off, both-ways, lost, gone-off}
+use Rattle.transitive_closure.proofs.Rows.{or-either, and-yes, off, both-ways, lost, gone-off}
 
 -- a row that is empty is empty in the closure
 empty-row : {xs live pending finished : List ℕ} {b n w : ℕ} (k t : ℕ) → Ready xs live pending finished b n w → row-bit live 0 k ≡ false → closure-at xs b n w k t ≡ true → ⊥

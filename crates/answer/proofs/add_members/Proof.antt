@@ -1,6 +1,5 @@
 -- `answer::add_members` meets its contract: a turn adds one member's pairs, and what is held stays so.
 -- Assumes nothing.
-use mathlib.Core.Path.{_≡_}
 use Rattle.register.specs.Form.{register-in}
 use Rattle.chains.specs.Chain.{Held}
 use Rattle.chains.proofs.Walking.{held-none}

@@ -7,7 +7,7 @@ use Rattle.relation.specs.Pairs.{pair-at, Made}
 use Rattle.relation.proofs.Making.{row-le, made-none, made-all}
 use Rattle.chains.proofs.Marked.{joined-more, clean-marked}
 use borrow.Author.Needs.{needs}
-use Prim.Native.Nat.{ℕ, _+_, _-_, _*_, _≤_, _<_}
+use Prim.Native.Nat.{_-_, _≤_}
 use native.Mathlib.Omega.{arith}
 use Rattle.chains.proofs.join_marked.Statement.{statement}
 use Rattle.chains.proofs.join_marked.Tie as tie

@@ -7,7 +7,7 @@ use Rattle.rows.proofs.Rows.{row-without}
 use Rattle.rows.proofs.Words.{wrote-none, wrote-more, wrote-all, unwritten}
 use Rattle.rows.specs.Kept.{Wrote}
 use borrow.Author.Needs.{needs}
-use Prim.Native.Nat.{ℕ, _+_, _-_, _*_, _≤_, _<_}
+use Prim.Native.Nat.{_+_, _-_, _≤_}
 use native.Mathlib.Omega.{arith}
 use Rattle.rows.proofs.exclude_words.Statement.{statement}
 use Rattle.rows.proofs.exclude_words.Tie as tie

@@ -2,7 +2,7 @@
 -- Assumes nothing.
 use Rattle.rows.proofs.Leasts.{Passed, passed-none, passed-more, least-here, least-none}
 use borrow.Author.Needs.{needs}
-use Prim.Native.Nat.{ℕ, _+_, _-_, _*_, _≤_, _<_}
+use Prim.Native.Nat.{_-_, _≤_}
 use native.Mathlib.Omega.{arith}
 use Rattle.rows.proofs.first_by_word.Statement.{statement}
 use Rattle.rows.proofs.first_by_word.Tie as tie

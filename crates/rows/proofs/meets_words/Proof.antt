@@ -4,7 +4,7 @@ use lib.Bits.{bitAnd, and-le-l}
 use lib.ListN.{getD}
 use Rattle.rows.proofs.Folded.{Folded, common-words, folded-none, folded-more, folded-common}
 use borrow.Author.Needs.{needs}
-use Prim.Native.Nat.{ℕ, _+_, _-_, _*_, _≤_, _<_}
+use Prim.Native.Nat.{_+_, _-_, _≤_}
 use native.Mathlib.Omega.{arith}
 use Rattle.rows.proofs.meets_words.Statement.{statement}
 use Rattle.rows.proofs.meets_words.Tie as tie

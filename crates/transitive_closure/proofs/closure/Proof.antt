@@ -1,14 +1,12 @@
 -- `transitive_closure::closure` meets its contract: where no row is pending each is the closure's.
 -- Assumes nothing.
-use mathlib.Core.Path.{_≡_, sym, _∙_}
-use mathlib.Core.Bool.{_&&_}
+use mathlib.Core.Path.{_≡_, _∙_}
 use lib.ListN.{length}
 use Rattle.rows.specs.Row.{row-bit, common, Least}
 use Rattle.transitive_closure.specs.Finishing.{amount, Stage}
-use Rattle.transitive_closure.proofs.Rows.{and-yes, off}
 use Rattle.transitive_closure.proofs.Stages.{ready-start, stage-none, stage-then, stage-less, stage-all, pending-first, pending-none}
 use borrow.Author.Needs.{needs}
-use Prim.Native.Nat.{ℕ, _+_, _-_, _*_, _≤_, _<_}
+use Prim.Native.Nat.{_*_}
 use native.Mathlib.Omega.{arith}
 use Rattle.transitive_closure.proofs.closure.Statement.{statement}
 use Rattle.transitive_closure.proofs.closure.Tie as tie

@@ -1,6 +1,5 @@
 -- `transitive_closure::take_finished` meets its contract: what is left loses first what row k has and then k.
 -- Assumes nothing.
-use native.Mathlib.Omega.{arith}
 use Rattle.transitive_closure.proofs.Rows.{took-finished}
 use borrow.Author.Needs.{needs}
 use Rattle.transitive_closure.proofs.take_finished.Statement.{statement}

@@ -1,6 +1,5 @@
 -- `transitive_closure::take_pending` meets its contract: the row has the bits of both, and of what is left k alone is gone.
 -- Assumes nothing.
-use native.Mathlib.Omega.{arith}
 use borrow.Author.Needs.{needs}
 use Rattle.transitive_closure.proofs.take_pending.Statement.{statement}
 use Rattle.transitive_closure.proofs.take_pending.Tie as tie

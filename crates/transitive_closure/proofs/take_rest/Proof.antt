@@ -1,11 +1,6 @@
 -- `transitive_closure::take_rest` meets its contract: each bit of the word is a finished row that the row has.
 -- Assumes nothing.
 use native.Mathlib.Omega.{arith}
-use Prim.Native.Nat.{ℕ, _+_, _*_, _<_}
-use mathlib.Core.Path.{_≡_}
-use mathlib.Core.Bool.{true}
-use Rattle.bits.specs.Bit.{bitOf}
-use Rattle.rows.specs.Row.{row-bit}
 use Rattle.transitive_closure.proofs.Rows.{word-bits, in-range, grown-none, grown-word}
 use borrow.Author.Needs.{needs}
 use Rattle.transitive_closure.proofs.take_rest.Statement.{statement}

@@ -7,7 +7,7 @@ use Rattle.transitive_closure.specs.Finishing.{amount, Stage, Trail, Ahe
 use Rattle.transitive_closure.proofs.Stages.{stage-none, stage-then}
 use Rattle.transitive_closure.proofs.Trails.{trail-none}
 use borrow.Author.Needs.{needs}
-use Prim.Native.Nat.{ℕ, _+_, _-_, _*_, _≤_, _<_}
+use Prim.Native.Nat.{_+_, _*_}
 use native.Mathlib.Omega.{arith}
 use Rattle.transitive_closure.proofs.walk.Statement.{statement}
 use Rattle.transitive_closure.proofs.walk.Tie as tie

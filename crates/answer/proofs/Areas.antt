@@ -19,7 +19,7 @@ use Rattle.rows.specs.Row.{row-bit, Row}
 use Rattle.rows.proofs.Words.{le-or-lt}
 use Rattle.rows.proofs.Areas.{written-over}
 use Rattle.relation.specs.Pairs.{pair-at, Made}
-use Rattle.relation.proofs.Making.{row-le, made-clear}
+use Rattle.relation.proofs.Making.{row-le, made-clear, row-shift}
 use Rattle.evaluation.specs.Stack.{Stored}
 
 -- word j lies in row s
@@ -64,17 +64,10 @@ stored-words {xs} {ys} n f k h past fits l =
     word j b = let p = place n (row-words n) j b in rw (p .is) (at-place (p .s) (p .m) (p .row) (p .word))
 
 -- ---- a relation copied as one row of all its words
-shift : (xs : List ℕ) (k t : ℕ) → row-bit xs (0 + k) t ≡ row-bit xs 0 (64 * k + t)
-unfolding row-bit
-shift xs k t =
-    let d : (64 * k + t) / 64 ≡ k + t / 64 = omega arith in
-    let e : (64 * k + t) % 64 ≡ t % 64 = omega arith in
-    rw (d, e, zero-add k, zero-add (k + t / 64))
-
 pub stored-copied : {ws xs ys : List ℕ} {n w : ℕ} {f : ℕ → ℕ → Bool} → Row 0 (n * w) (row-bit ws 0) xs ys → Stored ws 0 n w f → Stored ys 0 n w f
 stored-copied {ws} {xs} {ys} {n} {w} r h = record {
   pair = λ s t hs ht.
-      shift ys (s * w) t ∙ r .bit (64 * (s * w) + t) (let e = row-le w hs in omega arith) ∙ sym (shift ws (s * w) t) ∙ h .pair s t hs ht;
+      row-shift ys 0 (s * w) t ∙ r .bit (64 * (s * w) + t) (let e = row-le w hs in omega arith) ∙ sym (row-shift ws 0 (s * w) t) ∙ h .pair s t hs ht;
 }
 
 -- a relation that was cleared, and then took in the pairs f

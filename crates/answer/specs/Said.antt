@@ -1,7 +1,7 @@
 -- What the code's outcome and areas say.
 -- Assumes nothing.
 use mathlib.Core.Path.{_≡_}
-use mathlib.Core.Bool.{Bool, true, false, _||_, cond}
+use mathlib.Core.Bool.{Bool, _||_, cond}
 use mathlib.Core.List.{List}
 use Prim.Native.Nat.{ℕ, _*_}
 use lib.Dec.{ltb}
@@ -32,11 +32,6 @@ pub record Fills (n w : ℕ) (f : ℕ → ℕ → Bool) (o : declared·Outcome.O
   pub outcome : outcome-said o ≡ cond (ltb (length answer) (n * w)) (refuses source.Work 14 (n * w)) (accepts tt)
   pub area : answer′ ≡ cond (ltb (length answer) (n * w)) answer (sets answer 0 (answer-words n f))
   pub kept : Kept 0 (28 * (n * w)) work work′
-
--- whether a member was walked: then its pairs came to the answer's, and else the answer is as it was
-pub record Walks (n w : ℕ) (f : ℕ → ℕ → Bool) (b : Bool) (answer answer′ : List ℕ) : Type 0 where
-  pub pairs : b ≡ true → Made 0 n w (λ s t. pair-at answer 0 w s t || f s t) answer answer′
-  pub same : b ≡ false → answer′ ≡ answer
 
 -- the member's pairs came to the answer's
 pub record Adds (r : Register) (n w : ℕ) (f : ℕ → ℕ → Bool) (work work′ answer answer′ : List ℕ) : Type 0 where

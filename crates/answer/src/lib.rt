@@ -21,8 +21,9 @@ ghost use Rattle.rows.specs.Kept.{Kept};
 ghost use Rattle.evaluation.specs.Ground.{Ground, symbols-in, MakePath};
 ghost use Rattle.kind_rows.specs.Kinds.{KindRows};
 ghost use Rattle.chains.specs.Chain.{Held};
+ghost use Rattle.chains.specs.Route.{Routed, Leads};
 ghost use Rattle.answer.specs.Calls.{answered, asked, members-of, plain-call, narrowed-call};
-ghost use Rattle.answer.specs.Said.{Answers, Fills, Adds, Walks, Readable, lent};
+ghost use Rattle.answer.specs.Said.{Answers, Fills, Adds, Readable, lent};
 
 // The words of a row of n records.
 pub fn row_words(n: usize) -> usize
@@ -106,36 +107,31 @@ pub fn plain_answer(
     }
 }
 
-// The answer takes in the pairs of a member that is a chain of steps, walked from the records of its from set alone. False where it is none,
-// or where there is no room to hold its steps: the answer is then as it was.
-fn add_chain(
+// Makes the route from which a member's pairs are read: over its steps where it is a chain and there is room to hold them, and else without a
+// link, over its own relation, which is evaluated at the start. The number of links.
+fn member_route(
     numbers: &[u8],
     sets: &[u64],
     first: usize,
     size: usize,
-    from: u64,
-    to: u64,
     register: &[u8],
     kinds: &[u64],
     n: usize,
     w: usize,
     held: &mut [u8],
     work: &mut [u64],
-    answer: &mut [u64],
-) -> bool
-    requires { ⌜ Ground (now register) n w × (28 * (n * w) ≤ length (now work)) × (n * w ≤ length (now answer)) × (first + size ≤ length (now numbers)) × (first + size ≤ length (now sets)) × (size ≤ 48) ⌝ }
+    bases: &mut [usize],
+    masks: &mut [u64],
+) -> usize
+    requires { ⌜ Ground (now register) n w × (28 * (n * w) ≤ length (now work)) × (first + size ≤ length (now numbers)) × (first + size ≤ length (now sets)) × (size ≤ 48) × (length (now bases) ≡ 24) × (length (now masks) ≡ 384) ⌝ }
+    requires { ⌜ MakePath (now numbers) (now sets) size first ⌝ }
     requires { ⌜ Held (register-in (now register)) n w (now held) (now work) × KindRows (register-in (now register)) n w (now kinds) ⌝ }
-    ensures { λ b. ⌜ Held (register-in (now (register .entry))) n w (now (held .exit)) (now (work .exit)) × Kept 0 (28 * (n * w)) (now (work .entry)) (now (work .exit))
+    ensures { λ m. ⌜ Held (register-in (now (register .entry))) n w (now (held .exit)) (now (work .exit)) × Kept 0 (28 * (n * w)) (now (work .entry)) (now (work .exit))
+        × Routed (now (work .exit)) (now (bases .exit)) (now (masks .exit)) n w m
         × ((p : PathExpr) → path-of (symbols-in (now (numbers .entry)) (now (sets .entry)) size first) ≡ some p
-        → Walks n w (λ s t. member-answer (register-in (now (register .entry))) s t (member from p to)) b (now (answer .entry)) (now (answer .exit))) ⌝ }
+        → Leads (register-in (now (register .entry))) (now (work .exit)) (now (bases .exit)) (now (masks .exit)) n w m p) ⌝ }
 {
-    if !chains::chained(numbers, first, size) {
-        return false;
-    }
-    let mut sources = [0u64; 16];
-    kind_rows::records_of(&mut sources, kinds, w, from);
-    let m = size / 2;
-    let b = chains::walk(
+    if chains::route(
         work,
         register,
         kinds,
@@ -145,16 +141,15 @@ fn add_chain(
         numbers,
         sets,
         first,
-        m,
-        &sources,
-    );
-    if chains::RELATIONS * (n * w) <= b {
-        return false;
+        size,
+        bases,
+        masks,
+    ) {
+        return size / 2;
     }
-    let mut targets = [0u64; 16];
-    kind_rows::records_of(&mut targets, kinds, w, to);
-    relation::add_between(answer, work, b, n, w, &sources, &targets);
-    true
+    evaluation::evaluate(work, n, w, register, numbers, sets, first, size);
+    bases[0] = 0;
+    0
 }
 
 // The answer takes in the pairs of a member whose `size` symbols begin with the first.
@@ -181,29 +176,23 @@ fn add_member(
         → Adds (register-in (now (register .entry))) n w (λ s t. member-answer (register-in (now (register .entry))) s t (member from p to))
         (now (work .entry)) (now (work .exit)) (now (answer .entry)) (now (answer .exit))) ⌝ }
 {
-    if add_chain(
+    let mut bases = [0usize; chains::STEPS];
+    let mut masks = [0u64; chains::MASKS];
+    let m = member_route(
         numbers,
         sets,
         first,
         size,
-        from,
-        to,
         register,
         kinds,
         n,
         w,
         held,
         work,
-        answer,
-    ) {
-        return;
-    }
-    evaluation::evaluate(work, n, w, register, numbers, sets, first, size);
-    let mut sources = [0u64; 16];
-    let mut targets = [0u64; 16];
-    kind_rows::records_of(&mut sources, kinds, w, from);
-    kind_rows::records_of(&mut targets, kinds, w, to);
-    relation::add_between(answer, work, 0, n, w, &sources, &targets);
+        &mut bases,
+        &mut masks,
+    );
+    chains::add_pairs(answer, work, kinds, n, w, &bases, &masks, m, from, to);
 }
 
 fn wide(x: u8) -> usize

@@ -1,6 +1,10 @@
 -- the path of a chain's symbols
 pub mod Symbols
--- rows that are marked
-pub mod Marked
--- steps that are held, and rows that are walked
-pub mod Walking
+-- steps that are held
+pub mod Holding
+-- rows that take in more
+pub mod Gains
+-- routes over relations
+pub mod Routes
+-- the route of a chain
+pub mod Laying

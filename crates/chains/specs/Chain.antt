@@ -1,9 +1,9 @@
--- Members that are chains: a step, and then any number of a step and a join through a set. Of rows on the way: no caller needs to read this.
+-- Members that are chains: a step, and then any number of a step and a join through a set; where their relations lie. Of words on the way:
+-- no caller needs to read this.
 -- Assumes nothing.
 use mathlib.Core.Path.{_≡_}
-use mathlib.Core.Bool.{true, cond}
+use mathlib.Core.Bool.{cond}
 use mathlib.Core.List.{List}
-use mathlib.Core.Logic.{_⊎_}
 use Prim.Native.Nat.{ℕ, zero, suc, _+_, _-_, _*_, _/_, _<_}
 use lib.Dec.{ltb}
 use lib.ListN.{length, getD}
@@ -11,9 +11,10 @@ use Rattle.theory.specs.PathExpr.{forward, reverse, through, PathExpr, step, jo
 use Rattle.theory.specs.TransitiveClosure.{look}
 use Rattle.theory.specs.Register.{Register}
 use Rattle.theory.specs.Evaluation.{evaluate}
+use Rattle.rows.specs.Kept.{Kept}
 use Rattle.rows.specs.Row.{row-bit}
-use Rattle.relation.specs.Pairs.{pair-at}
 use Rattle.evaluation.specs.Stack.{Stored}
+use Rattle.kind_rows.specs.Kinds.{in-set}
 
 -- the step of a number
 abbrev pub step-numbered : ℕ → PathExpr
@@ -35,16 +36,27 @@ pub record Held (r : Register) (n w : ℕ) (held xs : List ℕ) : Type 0 where
   pub few : length held ≡ 4
   pub stored : (k c : ℕ) → k < 4 → getD held k 0 ≡ c → c < 128 → Stored xs ((24 + k) * (n * w)) n w (look (evaluate r (step-numbered c)))
 
--- the marked rows of the relation at b are those of a path
-pub record Walked (r : Register) (n w : ℕ) (marks xs : List ℕ) (b : ℕ) (p : PathExpr) : Type 0 where
-  pub pair : (s t : ℕ) → s < n → t / 64 < w → row-bit marks 0 s ≡ true → pair-at xs b w s t ≡ look (evaluate r p) s t
-
 -- what is held stays so
 pub record Holds (held held′ : List ℕ) : Type 0 where
   pub more : (k : ℕ) → k < 4 → getD held k 0 < 128 → getD held′ k 0 ≡ getD held k 0
 
--- the marked rows at b are a path's: they were walked to the start, or the path is a step that is held
-abbrev pub Source : Register → ℕ → ℕ → List ℕ → List ℕ → List ℕ → ℕ → PathExpr → Type 0
-Source r n w marks held xs b p =
-    ((b ≡ 0) × Walked r n w marks xs 0 p)
-    ⊎ ((k : ℕ) × (k < 4) × (getD held k 0 < 128) × (b ≡ (24 + k) * (n * w)) × (p ≡ step-numbered (getD held k 0)))
+-- the j-th relation of a route is the step of number c, which is held
+abbrev pub Leg : ℕ → ℕ → List ℕ → List ℕ → ℕ → ℕ → Type 0
+Leg n w held bases j c = (k : ℕ) × (k < 4) × (getD held k 0 ≡ c) × (getD bases j 0 ≡ (24 + k) * (n * w))
+
+-- the j-th mask of a route has the records of the kinds of a set
+abbrev pub Joint : ℕ → List ℕ → List ℕ → ℕ → ℕ → Type 0
+Joint w kinds masks j set = (z : ℕ) → z / 64 < w → row-bit masks (16 * j) z ≡ in-set kinds w set z
+
+-- link j has come to a route, and nothing else of it changed
+pub record Linked (n w : ℕ) (kinds : List ℕ) (number set j : ℕ) (held bases bases′ masks masks′ : List ℕ) : Type 0 where
+  pub leg : Leg n w held bases′ (j + 1) number
+  pub joint : Joint w kinds masks′ j set
+  pub bases-kept : Kept (j + 1) (j + 1 + 1) bases bases′
+  pub masks-kept : Kept (16 * j) (16 * j + w) masks masks′
+
+-- the route of a chain of m links: its first step, and of each link the step and the set
+pub record Laid (n w : ℕ) (kinds numbers sets : List ℕ) (first m : ℕ) (held bases masks : List ℕ) : Type 0 where
+  pub start : Leg n w held bases 0 (getD numbers first 0)
+  pub leg : (j : ℕ) → j < m → Leg n w held bases (j + 1) (getD numbers (first + 2 * j + 1) 0)
+  pub joint : (j : ℕ) → j < m → Joint w kinds masks j (getD sets (first + 2 * j + 2) 0)

@@ -1,19 +1,21 @@
-// Members that are chains of steps, walked from the records of their from set alone: a step, and then any number of a step and a join through
-// a set. Each step is loaded once, and held past the relations of a stack for the members to come.
+// Members that are chains of steps: a step, and then any number of a step and a join through a set. Each step is loaded once, and held past
+// the relations of a stack for the members to come. A chain is then a route over those relations, which is walked record by record from the
+// from set: a row goes through all links in a few words, and no relation is made on the way.
 ghost use mathlib.Core.Path.{_≡_};
-ghost use mathlib.Core.Bool.{true, cond, _&&_};
+ghost use mathlib.Core.Bool.{true, false, _&&_, _||_};
+ghost use mathlib.Core.Option.{some};
 ghost use Prim.Native.Nat.{ℕ, _+_, _*_, _/_, _<_, _≤_};
 ghost use lib.ListN.{length, getD};
-ghost use Rattle.theory.specs.Lists.{some?, range};
-ghost use Rattle.theory.specs.PathExpr.{PathExpr, join, through};
-ghost use Rattle.theory.specs.Evaluation.{join?};
+ghost use Rattle.theory.specs.PathExpr.{PathExpr};
+ghost use Rattle.theory.specs.Postfix.{path-of};
 ghost use Rattle.register.specs.Form.{register-in};
 ghost use Rattle.rows.specs.Kept.{Kept};
 ghost use Rattle.rows.specs.Row.{row-bit, Row};
 ghost use Rattle.relation.specs.Pairs.{pair-at, Made, CleanRow};
-ghost use Rattle.evaluation.specs.Ground.{Ground};
-ghost use Rattle.kind_rows.specs.Kinds.{KindRows};
-ghost use Rattle.chains.specs.Chain.{step-numbered, Chained, chain-path, Held, Holds, Source, Walked};
+ghost use Rattle.evaluation.specs.Ground.{Ground, symbols-in};
+ghost use Rattle.kind_rows.specs.Kinds.{KindRows, in-set, OfRecords};
+ghost use Rattle.chains.specs.Chain.{Chained, Held, Holds, Linked, Laid};
+ghost use Rattle.chains.specs.Route.{routed, Routed, Leads, between, Gained};
 
 // How many steps are held: as many relations as the work words have past those of a stack.
 pub const HELD: usize = 4;
@@ -21,14 +23,19 @@ pub const HELD: usize = 4;
 // The relations of a stack, past which they lie.
 const STACKED: usize = 24;
 
-// The relations of the work words.
-pub const RELATIONS: usize = STACKED + HELD;
-
 // The number in place of a step's where none is held.
 pub const NONE: u8 = 255;
 
+// The most steps of a chain, and the words of the masks between them.
+pub const STEPS: usize = 24;
+
+pub const MASKS: usize = STEPS * ROW;
+
+// The words of the largest registers' rows.
+const ROW: usize = 16;
+
 // Whether the symbols of a member are a chain.
-pub fn chained(numbers: &[u8], first: usize, size: usize) -> bool
+fn chained(numbers: &[u8], first: usize, size: usize) -> bool
     requires { ⌜ (first + size ≤ length (now numbers)) × (size ≤ 48) ⌝ }
     ensures { λ r. ⌜ (r ≡ true → (size ≡ 2 * (size / 2) + 1) × Chained (now (numbers .entry)) first (size / 2)) ⌝ }
 {
@@ -90,53 +97,8 @@ fn hold(work: &mut [u64], register: &[u8], n: usize, w: usize, held: &mut [u8], 
     free
 }
 
-// Where s is marked, the row at d becomes the one at e joined with the relation at q.
-fn join_marked_row(
-    work: &mut [u64],
-    d: usize,
-    e: usize,
-    q: usize,
-    n: usize,
-    w: usize,
-    s: usize,
-    mask: &[u64],
-    marks: &[u64],
-)
-    requires { ⌜ (d + w ≤ length (now work)) × (e + w ≤ length (now work)) × (q + n * w ≤ length (now work)) × (w ≤ 16) × (n ≤ 64 * w) × (w ≤ length (now mask)) × (s / 64 < length (now marks))
-        × (row-bit (now marks) 0 s ≡ true → CleanRow (now work) e n w) ⌝ }
-    ensures { λ _. ⌜ Row d w (λ t. cond (row-bit (now (marks .entry)) 0 s)
-        (some? (λ z. row-bit (now (work .entry)) e z && (pair-at (now (work .entry)) q w z t && row-bit (now (mask .entry)) 0 z)) (range n))
-        (row-bit (now (work .entry)) d t)) (now (work .entry)) (now (work .exit)) ⌝ }
-{
-    if rows::has(marks, 0, s) {
-        relation::follow_row(work, d, e, q, n, w, mask);
-    }
-}
-
-// The marked rows of the relation at 0 become those of the one at b joined with the one at q, through the records that the mask has.
-fn join_marked(
-    work: &mut [u64],
-    b: usize,
-    q: usize,
-    n: usize,
-    w: usize,
-    mask: &[u64],
-    marks: &[u64],
-)
-    requires { ⌜ (n * w ≤ q) × (b + n * w ≤ length (now work)) × (q + n * w ≤ length (now work)) × (w ≤ 16) × (n ≤ 64 * w) × (w ≤ length (now mask)) × (w ≤ length (now marks))
-        × ((s : ℕ) → s < n → row-bit (now marks) 0 s ≡ true → CleanRow (now work) (b + s * w) n w) ⌝ }
-    ensures { λ _. ⌜ Made 0 n w (λ s t. cond (row-bit (now (marks .entry)) 0 s)
-        (join? n (row-bit (now (mask .entry)) 0) (pair-at (now (work .entry)) b w) (pair-at (now (work .entry)) q w) s t)
-        (pair-at (now (work .entry)) 0 w s t)) (now (work .entry)) (now (work .exit)) ⌝ }
-{
-    for s in 0..n {
-        join_marked_row(work, s * w, b + s * w, q, n, w, s, mask, marks);
-    }
-}
-
-// One link more: the marked rows at b are followed along a step, through the records whose kind is in the set, to the start. False where
-// there is no room to hold the step.
-fn extend(
+// One link more: where its step lies, and the records of the set through which it is joined. False where there is no room to hold the step.
+fn link(
     work: &mut [u64],
     register: &[u8],
     kinds: &[u64],
@@ -145,27 +107,28 @@ fn extend(
     held: &mut [u8],
     number: u8,
     set: u64,
-    b: usize,
-    marks: &[u64],
+    bases: &mut [usize],
+    masks: &mut [u64],
+    j: usize,
 ) -> bool
-    requires { ⌜ Ground (now register) n w × (28 * (n * w) ≤ length (now work)) × Held (register-in (now register)) n w (now held) (now work) × (number < 128) × (w ≤ length (now marks)) × KindRows (register-in (now register)) n w (now kinds) ⌝ }
-    requires { ⌜ ((p : PathExpr) × Source (register-in (now register)) n w (now marks) (now held) (now work) b p) ⌝ }
-    ensures { λ r. ⌜ Held (register-in (now (register .entry))) n w (now (held .exit)) (now (work .exit)) × Kept 0 (28 * (n * w)) (now (work .entry)) (now (work .exit))
-        × (r ≡ true → (p : PathExpr) → Source (register-in (now (register .entry))) n w (now (marks .entry)) (now (held .entry)) (now (work .entry)) b p
-        → Walked (register-in (now (register .entry))) n w (now (marks .entry)) (now (work .exit)) 0 (join (through set) p (step-numbered number))) ⌝ }
+    requires { ⌜ Ground (now register) n w × (28 * (n * w) ≤ length (now work)) × Held (register-in (now register)) n w (now held) (now work) × (number < 128) × KindRows (register-in (now register)) n w (now kinds) ⌝ }
+    requires { ⌜ (j < 23) × (length (now bases) ≡ 24) × (length (now masks) ≡ 384) ⌝ }
+    ensures { λ r. ⌜ Held (register-in (now (register .entry))) n w (now (held .exit)) (now (work .exit)) × Holds (now (held .entry)) (now (held .exit)) × Kept (24 * (n * w)) (28 * (n * w)) (now (work .entry)) (now (work .exit))
+        × (r ≡ true → Linked n w (now (kinds .entry)) number set j (now (held .exit)) (now (bases .entry)) (now (bases .exit)) (now (masks .entry)) (now (masks .exit))) ⌝ }
 {
     let k = hold(work, register, n, w, held, number);
     if k == HELD {
         return false;
     }
-    let mut mask = [0u64; 16];
+    bases[j + 1] = (STACKED + k) * (n * w);
+    let mut mask = [0u64; ROW];
     kind_rows::records_of(&mut mask, kinds, w, set);
-    join_marked(work, b, (STACKED + k) * (n * w), n, w, &mask, marks);
+    rows::copy(masks, ROW * j, &mask, 0, w);
     true
 }
 
-// Where the marked rows of a chain of m links lie; past the relations of the work words where there is no room to hold its steps.
-pub fn walk(
+// Where the steps of a chain of m links lie, and the records of the sets between them. False where there is no room to hold the steps.
+fn lay(
     work: &mut [u64],
     register: &[u8],
     kinds: &[u64],
@@ -176,26 +139,193 @@ pub fn walk(
     sets: &[u64],
     first: usize,
     m: usize,
-    marks: &[u64],
-) -> usize
-    requires { ⌜ Ground (now register) n w × (28 * (n * w) ≤ length (now work)) × Held (register-in (now register)) n w (now held) (now work) × (w ≤ length (now marks)) × KindRows (register-in (now register)) n w (now kinds) ⌝ }
-    requires { ⌜ Chained (now numbers) first m × (first + 2 * m < length (now numbers)) × (first + 2 * m < length (now sets)) × (m ≤ 24) ⌝ }
-    ensures { λ b. ⌜ Held (register-in (now (register .entry))) n w (now (held .exit)) (now (work .exit)) × Kept 0 (28 * (n * w)) (now (work .entry)) (now (work .exit))
-        × (b < 28 * (n * w) → (b + n * w ≤ 28 * (n * w)) × Walked (register-in (now (register .entry))) n w (now (marks .entry)) (now (work .exit)) b (chain-path (now (numbers .entry)) (now (sets .entry)) first m)) ⌝ }
+    bases: &mut [usize],
+    masks: &mut [u64],
+) -> bool
+    requires { ⌜ Ground (now register) n w × (28 * (n * w) ≤ length (now work)) × Held (register-in (now register)) n w (now held) (now work) × KindRows (register-in (now register)) n w (now kinds) ⌝ }
+    requires { ⌜ Chained (now numbers) first m × (first + 2 * m < length (now numbers)) × (first + 2 * m < length (now sets)) × (m < 24) × (length (now bases) ≡ 24) × (length (now masks) ≡ 384) ⌝ }
+    ensures { λ r. ⌜ Held (register-in (now (register .entry))) n w (now (held .exit)) (now (work .exit)) × Kept (24 * (n * w)) (28 * (n * w)) (now (work .entry)) (now (work .exit))
+        × (r ≡ true → Laid n w (now (kinds .entry)) (now (numbers .entry)) (now (sets .entry)) first m (now (held .exit)) (now (bases .exit)) (now (masks .exit))) ⌝ }
 {
-    let none = RELATIONS * (n * w);
     let k = hold(work, register, n, w, held, numbers[first]);
     if k == HELD {
-        return none;
+        return false;
     }
-    let mut b = (STACKED + k) * (n * w);
+    bases[0] = (STACKED + k) * (n * w);
     for j in 0..m {
         let number = numbers[first + 2 * j + 1];
         let set = sets[first + 2 * j + 2];
-        if !extend(work, register, kinds, n, w, held, number, set, b, marks) {
-            return none;
+        if !link(
+            work,
+            register,
+            kinds,
+            n,
+            w,
+            held,
+            number,
+            set,
+            bases,
+            masks,
+            j,
+        ) {
+            return false;
         }
-        b = 0;
     }
-    b
+    true
+}
+
+// Makes the route of a member of `size` symbols, whose links are half as many. False where it is no chain, or there is no room to hold its steps.
+pub fn route(
+    work: &mut [u64],
+    register: &[u8],
+    kinds: &[u64],
+    n: usize,
+    w: usize,
+    held: &mut [u8],
+    numbers: &[u8],
+    sets: &[u64],
+    first: usize,
+    size: usize,
+    bases: &mut [usize],
+    masks: &mut [u64],
+) -> bool
+    requires { ⌜ Ground (now register) n w × (28 * (n * w) ≤ length (now work)) × Held (register-in (now register)) n w (now held) (now work) × KindRows (register-in (now register)) n w (now kinds) ⌝ }
+    requires { ⌜ (first + size ≤ length (now numbers)) × (first + size ≤ length (now sets)) × (size ≤ 48) × (length (now bases) ≡ 24) × (length (now masks) ≡ 384) ⌝ }
+    ensures { λ r. ⌜ Held (register-in (now (register .entry))) n w (now (held .exit)) (now (work .exit)) × Kept (24 * (n * w)) (28 * (n * w)) (now (work .entry)) (now (work .exit))
+        × (r ≡ true → Routed (now (work .exit)) (now (bases .exit)) (now (masks .exit)) n w (size / 2)
+        × ((p : PathExpr) → path-of (symbols-in (now (numbers .entry)) (now (sets .entry)) size first) ≡ some p
+        → Leads (register-in (now (register .entry))) (now (work .exit)) (now (bases .exit)) (now (masks .exit)) n w (size / 2) p)) ⌝ }
+{
+    if !chained(numbers, first, size) {
+        return false;
+    }
+    lay(
+        work,
+        register,
+        kinds,
+        n,
+        w,
+        held,
+        numbers,
+        sets,
+        first,
+        size / 2,
+        bases,
+        masks,
+    )
+}
+
+// The row, which is empty, becomes row s of a route of m links, of which there is one at least: it goes through all of them before the next.
+fn walk_row(
+    row: &mut [u64],
+    work: &[u64],
+    s: usize,
+    n: usize,
+    w: usize,
+    bases: &[usize],
+    masks: &[u64],
+    m: usize,
+)
+    requires { ⌜ Routed (now work) (now bases) (now masks) n w m × (0 < m) × (s < n) × (w ≤ length (now row)) × ((t : ℕ) → t / 64 < w → row-bit (now row) 0 t ≡ false) ⌝ }
+    ensures { λ _. ⌜ Row 0 w (routed (now (work .entry)) (now (bases .entry)) (now (masks .entry)) n w m s) (now (row .entry)) (now (row .exit)) ⌝ }
+{
+    relation::take_row(row, work, bases[0] + s * w, work, bases[1], n, w, masks, 0);
+    for j in 1..m {
+        relation::follow(row, work, bases[j + 1], n, w, masks, ROW * j);
+    }
+}
+
+// Row s of the answer takes in that of a route, as far as the mask has its records.
+fn add_row(
+    answer: &mut [u64],
+    work: &[u64],
+    s: usize,
+    n: usize,
+    w: usize,
+    bases: &[usize],
+    masks: &[u64],
+    m: usize,
+    to: &[u64],
+)
+    requires { ⌜ Routed (now work) (now bases) (now masks) n w m × (s < n) × (n * w ≤ length (now answer)) × (w ≤ length (now to)) ⌝ }
+    ensures { λ _. ⌜ Row (s * w) w (λ t. row-bit (now (answer .entry)) (s * w) t
+        || (routed (now (work .entry)) (now (bases .entry)) (now (masks .entry)) n w m s t && row-bit (now (to .entry)) 0 t)) (now (answer .entry)) (now (answer .exit)) ⌝ }
+{
+    if m == 0 {
+        rows::unite_masked(answer, s * w, work, bases[0] + s * w, to, w);
+        return;
+    }
+    let mut row = [0u64; ROW];
+    walk_row(&mut row, work, s, n, w, bases, masks, m);
+    rows::unite_masked(answer, s * w, &row, 0, to, w);
+}
+
+// The rows of the answer for the records of word i of the mask `from` take in those of a route.
+fn add_word(
+    answer: &mut [u64],
+    work: &[u64],
+    n: usize,
+    w: usize,
+    bases: &[usize],
+    masks: &[u64],
+    m: usize,
+    from: &[u64],
+    i: usize,
+    to: &[u64],
+)
+    requires { ⌜ Routed (now work) (now bases) (now masks) n w m × (n * w ≤ length (now answer)) × (i < w) × (w ≤ length (now from)) × CleanRow (now from) 0 n w × (w ≤ length (now to)) ⌝ }
+    ensures { λ _. ⌜ Gained (64 * i) (64 * i + 64) n w (between (routed (now (work .entry)) (now (bases .entry)) (now (masks .entry)) n w m) (now (from .entry)) (now (to .entry))) (now (answer .entry)) (now (answer .exit)) ⌝ }
+{
+    let mut y = from[i];
+    let mut p = 0;
+    while y != 0 {
+        let k = bits::lowest(y);
+        add_row(answer, work, 64 * i + p + k, n, w, bases, masks, m, to);
+        p = p + k + 1;
+        y = (y >> k) >> 1;
+    }
+}
+
+// The answer takes in the pairs of a route of m links whose ends the two masks have.
+fn add_rows(
+    answer: &mut [u64],
+    work: &[u64],
+    n: usize,
+    w: usize,
+    bases: &[usize],
+    masks: &[u64],
+    m: usize,
+    from: &[u64],
+    to: &[u64],
+)
+    requires { ⌜ Routed (now work) (now bases) (now masks) n w m × (n * w ≤ length (now answer)) × (w ≤ length (now from)) × CleanRow (now from) 0 n w × (w ≤ length (now to)) ⌝ }
+    ensures { λ _. ⌜ Made 0 n w (λ s t. pair-at (now (answer .entry)) 0 w s t || between (routed (now (work .entry)) (now (bases .entry)) (now (masks .entry)) n w m) (now (from .entry)) (now (to .entry)) s t) (now (answer .entry)) (now (answer .exit)) ⌝ }
+{
+    for i in 0..w {
+        add_word(answer, work, n, w, bases, masks, m, from, i, to);
+    }
+}
+
+// The answer takes in the pairs of a route of m links whose ends are of the kinds of two sets.
+pub fn add_pairs(
+    answer: &mut [u64],
+    work: &[u64],
+    kinds: &[u64],
+    n: usize,
+    w: usize,
+    bases: &[usize],
+    masks: &[u64],
+    m: usize,
+    from: u64,
+    to: u64,
+)
+    requires { ⌜ Routed (now work) (now bases) (now masks) n w m × (n * w ≤ length (now answer)) × (64 * w ≤ length (now kinds)) × OfRecords n w (now kinds) ⌝ }
+    ensures { λ _. ⌜ Made 0 n w (λ s t. pair-at (now (answer .entry)) 0 w s t || (routed (now (work .entry)) (now (bases .entry)) (now (masks .entry)) n w m s t
+        && (in-set (now (kinds .entry)) w from s && in-set (now (kinds .entry)) w to t))) (now (answer .entry)) (now (answer .exit)) ⌝ }
+{
+    let mut sources = [0u64; ROW];
+    let mut targets = [0u64; ROW];
+    kind_rows::records_of(&mut sources, kinds, w, from);
+    kind_rows::records_of(&mut targets, kinds, w, to);
+    add_rows(answer, work, n, w, bases, masks, m, &sources, &targets);
 }

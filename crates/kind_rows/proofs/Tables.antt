@@ -27,14 +27,15 @@ use Rattle.relation.proofs.Making.{made-clear}
 use Rattle.relation.proofs.Pair.{made-row}
 use Rattle.evaluation.specs.Ground.{Ground}
 use Rattle.evaluation.proofs.Grounds.{limits}
-use Rattle.kind_rows.specs.Kinds.{KindRows, in-set}
+use Rattle.kind_rows.specs.Kinds.{KindRows, in-set, OfRecords}
 
 -- no record yet
 pub kinds-none : {w : ℕ} {xs ys : List ℕ} (r : Register) → Wrote 0 (64 * w) (λ j. 0) xs ys → 64 * w ≤ length ys → KindRows r 0 w ys
 kinds-none {w} r p l = record { room = l; row = λ k t hk ht. made-clear {n = 64} p .pair k t hk ht ∙ sym (ap (λ (b : Bool). b && eqb (kind r t) k) (le-ltb t 0 (omega arith))) }
 
 -- record m is in the row of its kind
-pub kinds-more : {r : Register} {m w : ℕ} {xs ys : List ℕ} (k : ℕ) → KindRows r m w xs → Put (k * w) m (λ j. row-bit xs (k * w) j || eqb j m) xs ys → k ≡ kind r m → k < 64 → m / 64 < w → KindRows r (m + 1) w ys
+pub kinds-more : {r : Register} {m w : ℕ} {xs ys : List ℕ} (k : ℕ) → KindRows r m w xs → Put (k * w) m (λ j. row-bit xs (k * w) j || eqb j m) xs ys → k ≡ kind r m → k < 64 → m / 64 < w
+    → KindRows r (m + 1) w ys
 kinds-more {r} {m} {w} {xs} {ys} k p q e hk hm =
     record { room = omega (arith, p .room, at .kept .len); row = λ i t hi ht. made .pair i t hi ht ∙ ⊎-elim (λ (o : i ≡ k). here i t o ht) (λ (o : i ≡ k → ⊥). there i t hi o ht) (eq-or-ne i k) }
   where
@@ -81,16 +82,23 @@ set-taken {w} {ms′ = ms′} xs set p q =
     ap (λ (b : Bool). b || some? (λ i. bitOf set i && pair-at xs 0 w (0 + i) t) (range 64)) (row-zero p .bit t h)
     ∙ some-same (λ i. bitOf set i && pair-at xs 0 w (0 + i) t) (λ k. bitOf set k && pair-at xs 0 w k t) 64 (λ z l. ap (λ (k : ℕ). bitOf set z && pair-at xs 0 w k t) (zero-add z)))
 
+-- no record of n or more
+set-past : {r : Register} {n w : ℕ} {kinds : List ℕ} (set : ℕ) → KindRows r n w kinds → (t : ℕ) → n ≤ t → t / 64 < w → in-set kinds w set t ≡ false
+set-past {r} {n} {w} {kinds} set p t l h =
+    some-none (λ k. bitOf set k && pair-at kinds 0 w k t) 64
+    (λ k hk. ap (λ (b : Bool). bitOf set k && b) (p .row k t hk h ∙ ap (λ (b : Bool). b && eqb (kind r t) k) (le-ltb t n l)) ∙ and-false (bitOf set k))
+
+pub of-records : {r : Register} {n w : ℕ} {kinds : List ℕ} → KindRows r n w kinds → OfRecords n w kinds
+of-records {n = n} p set t h e = ⊎-elim (λ (l : n ≤ t). absurd (false≢true (sym (set-past set p t l h) ∙ e))) (λ (l : t < n). l) (le-or-lt n t)
+
 -- the records whose kind is in the set
-pub set-mask : {s : List ℕ} {n w : ℕ} {kinds ms ms′ : List ℕ} (ground : Ground s n w) (set : ℕ) → KindRows (register-in s) n w kinds → Row 0 w (in-set kinds w set) ms ms′
-    → Row 0 w (mask-of (λ t. has set (kind (register-in s) t)) n) ms ms′
+pub set-has : {s : List ℕ} {n w : ℕ} {kinds : List ℕ} (ground : Ground s n w) (set : ℕ) → KindRows (register-in s) n w kinds → (t : ℕ) → t / 64 < w
+    → in-set kinds w set t ≡ mask-of (λ t. has set (kind (register-in s) t)) n t
 unfolding has
-set-mask {s} {n} {w} {kinds} ground set p q = row-is q (λ t h. ⊎-elim (λ (l : n ≤ t). past t l h) (λ (l : t < n). below t l h) (le-or-lt n t))
+set-has {s} {n} {w} {kinds} ground set p t h = ⊎-elim (λ (l : n ≤ t). past t l h) (λ (l : t < n). below t l h) (le-or-lt n t)
   where
     past : (t : ℕ) → n ≤ t → t / 64 < w → in-set kinds w set t ≡ mask-of (λ t. has set (kind (register-in s) t)) n t
-    past t l h =
-        some-none (λ k. bitOf set k && pair-at kinds 0 w k t) 64 (λ k hk. ap (λ (b : Bool). bitOf set k && b) (p .row k t hk h ∙ ap (λ (b : Bool). b && eqb (kind (register-in s) t) k) (le-ltb t n l)) ∙ and-false (bitOf set k))
-        ∙ sym (mask-past (λ t. has set (kind (register-in s) t)) n t l)
+    past t l h = set-past set p t l h ∙ sym (mask-past (λ t. has set (kind (register-in s) t)) n t l)
 
     at : (t k : ℕ) → t < n → k < 64 → t / 64 < w → pair-at kinds 0 w k t ≡ eqb (kind (register-in s) t) k
     at t k l hk h = p .row k t hk h ∙ ap (λ (b : Bool). b && eqb (kind (register-in s) t) k) (lt-ltb t n l)

@@ -1,14 +1,13 @@
 -- Loops over the rows of a relation that combine each row with another one.
 -- Assumes nothing.
-use mathlib.Core.Path.{_≡_, refl, sym, ap, ap₂}
-use mathlib.Core.Bool.{Bool, true, false, _&&_, _||_, or-false}
+use mathlib.Core.Path.{_≡_, sym, ap, ap₂}
+use mathlib.Core.Bool.{Bool}
 use mathlib.Core.List.{List}
 use mathlib.Core.Logic.{inr}
 use Prim.Native.Nat.{ℕ, _+_, _*_, _/_, _≤_, _<_}
-use native.Mathlib.Nat.{zero-add}
 use native.Mathlib.Omega.{arith}
 use Rattle.rows.specs.Row.{row-bit, Row}
-use Rattle.rows.proofs.Rows.{kept-bit, row-is, row-same}
+use Rattle.rows.proofs.Rows.{kept-bit, row-is}
 use Rattle.relation.specs.Pairs.{pair-at, Made}
 use Rattle.relation.proofs.Making.{row-shift, made-more, made-whole}
 
@@ -17,13 +16,6 @@ use Rattle.relation.proofs.Making.{row-shift, made-more, made-whole}
 pub row-copied : {d w : ℕ} {os rs xs ys : List ℕ} (op : Bool → Bool → Bool) (s : ℕ) → Row 0 w (row-bit xs s) os rs
     → Row d w (λ t. op (row-bit xs d t) (row-bit rs 0 t)) xs ys → Row d w (λ t. op (row-bit xs d t) (row-bit xs s t)) xs ys
 row-copied {d} {xs = xs} op s p r = row-is r (λ t h. ap (op (row-bit xs d t)) (p .bit t h))
-
--- it takes in g where b holds, and is left alone where it does not
-pub gained-yes : {d w : ℕ} {b : Bool} {xs ys : List ℕ} (g : Bool → ℕ → Bool) → Row d w (λ t. row-bit xs d t || g true t) xs ys → b ≡ true → Row d w (λ t. row-bit xs d t || g b t) xs ys
-gained-yes g r e = rw e r
-
-pub gained-no : {b : Bool} (d w : ℕ) (xs : List ℕ) (g : Bool → ℕ → Bool) → b ≡ false → ((t : ℕ) → g false t ≡ false) → Row d w (λ t. row-bit xs d t || g b t) xs xs
-gained-no d w xs g e f = rw e (row-is (row-same d w xs) (λ t h. rw (f t) (sym (or-false (row-bit xs d t)))))
 
 -- ---- the loop
 -- a row that it has not come to is as it was
@@ -34,16 +26,6 @@ row-ahead {w = w} r t m l h = kept-bit r w t (m .kept) (inr l) h
 pub combined-more : {b s w : ℕ} {xs ys zs : List ℕ} (op : Bool → Bool → Bool) (g : ℕ → ℕ → Bool) (h : ℕ → Bool) → Made b s w (λ i t. op (pair-at xs b w i t) (g i t)) xs ys
     → Row (b + s * w) w (λ t. op (row-bit ys (b + s * w) t) (h t)) ys zs → ((t : ℕ) → t / 64 < w → h t ≡ g s t) → Made b (s + 1) w (λ i t. op (pair-at xs b w i t) (g i t)) xs zs
 combined-more {b} {s} {w} op g h m r e = made-more m (row-is r (λ t l. ap₂ op (row-ahead (b + s * w) t m (omega arith) l) (e t l)))
-
--- with the pairs of the relation at q of ws whose ends the masks fs and ts have
-pub between-more : {s w : ℕ} {xs ys zs : List ℕ} (ws fs ts : List ℕ) (q : ℕ) → Made 0 s w (λ i t. pair-at xs 0 w i t || (pair-at ws q w i t && (row-bit fs 0 i && row-bit ts 0 t))) xs ys
-    → Row (s * w) w (λ t. row-bit ys (s * w) t || (row-bit ws (q + s * w) t && (row-bit fs 0 s && row-bit ts 0 t))) ys zs
-    → Made 0 (s + 1) w (λ i t. pair-at xs 0 w i t || (pair-at ws q w i t && (row-bit fs 0 i && row-bit ts 0 t))) xs zs
-between-more {s} {w} {xs} {ys} {zs} ws fs ts q m r =
-    combined-more _||_ (λ i t. pair-at ws q w i t && (row-bit fs 0 i && row-bit ts 0 t)) (λ t. pair-at ws q w s t && (row-bit fs 0 s && row-bit ts 0 t)) m at (λ t l. refl)
-  where
-    at : Row (0 + s * w) w (λ t. row-bit ys (0 + s * w) t || (row-bit ws (q + s * w) t && (row-bit fs 0 s && row-bit ts 0 t))) ys zs
-    at = rw (zero-add (s * w)) r
 
 -- the words of the relations at p and q, combined as one row each
 pub both-whole : {p n w : ℕ} {xs ys : List ℕ} (op : Bool → Bool → Bool) (q : ℕ) → Row p (n * w) (λ t. op (row-bit xs p t) (row-bit xs q t)) xs ys

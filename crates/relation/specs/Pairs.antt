@@ -29,6 +29,6 @@ Clean xs b n w = (s : ℕ) → s < n → CleanRow xs (b + s * w) n w
 unfoldable pub taken : List ℕ → List ℕ → ℕ → ℕ → ℕ → ℕ → ℕ → ℕ → Bool
 taken rs xs q w g v p t = row-bit rs 0 t || some? (λ i. bitOf v i && pair-at xs q w (g + i) t) (range p)
 
--- row r and the rows z of the relation at q, for each z below k that the row at d and the mask have
-unfoldable pub taken-row : List ℕ → List ℕ → List ℕ → ℕ → ℕ → ℕ → ℕ → ℕ → Bool
-taken-row rs xs ms d q w k t = row-bit rs 0 t || some? (λ z. row-bit xs d z && (pair-at xs q w z t && row-bit ms 0 z)) (range k)
+-- row r and the rows z of the relation at q, for each z below k that the row at d of fs and the one at m of the mask have
+unfoldable pub taken-row : List ℕ → List ℕ → ℕ → List ℕ → ℕ → ℕ → List ℕ → ℕ → ℕ → ℕ → Bool
+taken-row rs fs d xs q w ms m k t = row-bit rs 0 t || some? (λ z. row-bit fs d z && (pair-at xs q w z t && row-bit ms m z)) (range k)

@@ -20,8 +20,8 @@ pub fn set_pair(work: &mut [u64], b: usize, n: usize, w: usize, s: usize, t: usi
     rows::set(work, b + s * w, t);
 }
 
-// The row takes in row g + i of the relation at q, for each bit i of v.
-pub fn take_word(row: &mut [u64], work: &[u64], q: usize, n: usize, w: usize, g: usize, v: u64)
+// As `take_word`, by a loop over the bits.
+fn take_bits(row: &mut [u64], work: &[u64], q: usize, n: usize, w: usize, g: usize, v: u64)
     requires { ⌜ (w ≤ length (now row)) × (q + n * w ≤ length (now work)) × ((i : ℕ) → bitOf v i ≡ true → g + i < n) ⌝ }
     ensures { λ _. ⌜ Row 0 w (taken (now (row .entry)) (now (work .entry)) q w g v 64) (now (row .entry)) (now (row .exit)) ⌝ }
 {
@@ -36,6 +36,19 @@ pub fn take_word(row: &mut [u64], work: &[u64], q: usize, n: usize, w: usize, g:
     }
 }
 
+// The row takes in row g + i of the relation at q, for each bit i of v. Rows of 16 words, the largest registers', have a loop of their own, in
+// which their length is constant.
+pub fn take_word(row: &mut [u64], work: &[u64], q: usize, n: usize, w: usize, g: usize, v: u64)
+    requires { ⌜ (w ≤ length (now row)) × (q + n * w ≤ length (now work)) × ((i : ℕ) → bitOf v i ≡ true → g + i < n) ⌝ }
+    ensures { λ _. ⌜ Row 0 w (taken (now (row .entry)) (now (work .entry)) q w g v 64) (now (row .entry)) (now (row .exit)) ⌝ }
+{
+    if w == 16 {
+        take_bits(row, work, q, n, 16, g, v);
+        return;
+    }
+    take_bits(row, work, q, n, w, g, v);
+}
+
 // As `take_word`; most words have no bit, and are told before anything else.
 fn take_some(row: &mut [u64], work: &[u64], q: usize, n: usize, w: usize, g: usize, v: u64)
     requires { ⌜ (w ≤ length (now row)) × (q + n * w ≤ length (now work)) × ((i : ℕ) → bitOf v i ≡ true → g + i < n) ⌝ }
@@ -46,34 +59,54 @@ fn take_some(row: &mut [u64], work: &[u64], q: usize, n: usize, w: usize, g: usi
     }
 }
 
-// The row takes in row z of the relation at q, for each z that the row at d and the mask have.
-fn take_row(row: &mut [u64], work: &[u64], d: usize, q: usize, n: usize, w: usize, mask: &[u64])
-    requires { ⌜ (w ≤ length (now row)) × (d + w ≤ length (now work)) × (q + n * w ≤ length (now work)) × (w ≤ 16) × (w ≤ length (now mask)) × CleanRow (now work) d n w ⌝ }
-    ensures { λ _. ⌜ Row 0 w (taken-row (now (row .entry)) (now (work .entry)) (now (mask .entry)) d q w (64 * w)) (now (row .entry)) (now (row .exit)) ⌝ }
+// The row takes in row z of the relation at q, for each z that the row at d of `from` and the one at m of the mask have.
+pub fn take_row(
+    row: &mut [u64],
+    from: &[u64],
+    d: usize,
+    work: &[u64],
+    q: usize,
+    n: usize,
+    w: usize,
+    mask: &[u64],
+    m: usize,
+)
+    requires { ⌜ (w ≤ length (now row)) × (d + w ≤ length (now from)) × (q + n * w ≤ length (now work)) × (w ≤ 16) × (m + w ≤ length (now mask)) × CleanRow (now from) d n w ⌝ }
+    ensures { λ _. ⌜ Row 0 w (taken-row (now (row .entry)) (now (from .entry)) d (now (work .entry)) q w (now (mask .entry)) m (64 * w)) (now (row .entry)) (now (row .exit)) ⌝ }
 {
     for i in 0..w {
-        let v = work[d + i] & mask[i];
+        let v = from[d + i] & mask[m + i];
         take_some(row, work, q, n, w, 64 * i, v);
     }
 }
 
-// The row at d becomes the union of the rows z of the relation at q, for each z that the row at s and the mask have.
-pub fn follow_row(work: &mut [u64], d: usize, s: usize, q: usize, n: usize, w: usize, mask: &[u64])
-    requires { ⌜ (d + w ≤ length (now work)) × (s + w ≤ length (now work)) × (q + n * w ≤ length (now work)) × (w ≤ 16) × (n ≤ 64 * w) × (w ≤ length (now mask)) × CleanRow (now work) s n w ⌝ }
-    ensures { λ _. ⌜ Row d w (λ t. some? (λ z. row-bit (now (work .entry)) s z && (pair-at (now (work .entry)) q w z t && row-bit (now (mask .entry)) 0 z)) (range n)) (now (work .entry)) (now (work .exit)) ⌝ }
+// The row becomes the union of the rows z of the relation at q, for each z that it and the row at m of the mask have.
+pub fn follow(row: &mut [u64], work: &[u64], q: usize, n: usize, w: usize, mask: &[u64], m: usize)
+    requires { ⌜ (w ≤ length (now row)) × (q + n * w ≤ length (now work)) × (w ≤ 16) × (n ≤ 64 * w) × (m + w ≤ length (now mask)) × CleanRow (now row) 0 n w ⌝ }
+    ensures { λ _. ⌜ Row 0 w (λ t. some? (λ z. row-bit (now (row .entry)) 0 z && (pair-at (now (work .entry)) q w z t && row-bit (now (mask .entry)) m z)) (range n)) (now (row .entry)) (now (row .exit)) ⌝ }
+{
+    let mut next = [0u64; 16];
+    take_row(&mut next, row, 0, work, q, n, w, mask, m);
+    rows::copy(row, 0, &next, 0, w);
+}
+
+// The row at d becomes the union of the rows z of the relation at q, for each z that it and the mask have.
+fn follow_row(work: &mut [u64], d: usize, q: usize, n: usize, w: usize, mask: &[u64])
+    requires { ⌜ (d + w ≤ q) × (q + n * w ≤ length (now work)) × (w ≤ 16) × (n ≤ 64 * w) × (w ≤ length (now mask)) × CleanRow (now work) d n w ⌝ }
+    ensures { λ _. ⌜ Row d w (λ t. some? (λ z. row-bit (now (work .entry)) d z && (pair-at (now (work .entry)) q w z t && row-bit (now (mask .entry)) 0 z)) (range n)) (now (work .entry)) (now (work .exit)) ⌝ }
 {
     let mut joined = [0u64; 16];
-    take_row(&mut joined, work, s, q, n, w, mask);
+    take_row(&mut joined, work, d, work, q, n, w, mask, 0);
     rows::copy(work, d, &joined, 0, w);
 }
 
-// The row at d is followed from itself. An empty one stays.
+// As `follow_row`; an empty row stays, and is told before anything else.
 fn join_row(work: &mut [u64], d: usize, q: usize, n: usize, w: usize, mask: &[u64])
     requires { ⌜ (d + w ≤ q) × (q + n * w ≤ length (now work)) × (w ≤ 16) × (n ≤ 64 * w) × (w ≤ length (now mask)) × CleanRow (now work) d n w ⌝ }
     ensures { λ _. ⌜ Row d w (λ t. some? (λ z. row-bit (now (work .entry)) d z && (pair-at (now (work .entry)) q w z t && row-bit (now (mask .entry)) 0 z)) (range n)) (now (work .entry)) (now (work .exit)) ⌝ }
 {
     if rows::any(work, d, w) {
-        follow_row(work, d, d, q, n, w, mask);
+        follow_row(work, d, q, n, w, mask);
     }
 }
 
@@ -178,42 +211,5 @@ pub fn branch_left(work: &mut [u64], p: usize, q: usize, n: usize, w: usize)
 {
     for s in 0..n {
         branch_row(work, p + s * w, q + s * w, n, w);
-    }
-}
-
-// Where the mask `from` has s, the row at d of the answer takes in those bits of the row at e of the work that the mask `to` has.
-fn add_row(
-    answer: &mut [u64],
-    work: &[u64],
-    d: usize,
-    e: usize,
-    w: usize,
-    s: usize,
-    from: &[u64],
-    to: &[u64],
-)
-    requires { ⌜ (d + w ≤ length (now answer)) × (e + w ≤ length (now work)) × (s / 64 < length (now from)) × (w ≤ length (now to)) ⌝ }
-    ensures { λ _. ⌜ Row d w (λ t. row-bit (now (answer .entry)) d t || (row-bit (now (work .entry)) e t && (row-bit (now (from .entry)) 0 s && row-bit (now (to .entry)) 0 t))) (now (answer .entry)) (now (answer .exit)) ⌝ }
-{
-    if rows::has(from, 0, s) {
-        rows::unite_masked(answer, d, work, e, to, w);
-    }
-}
-
-// The relation at the start of the answer takes in the pairs of the one at q of the work whose ends the two masks have.
-pub fn add_between(
-    answer: &mut [u64],
-    work: &[u64],
-    q: usize,
-    n: usize,
-    w: usize,
-    from: &[u64],
-    to: &[u64],
-)
-    requires { ⌜ (n * w ≤ length (now answer)) × (q + n * w ≤ length (now work)) × (n ≤ 64 * w) × (w ≤ length (now from)) × (w ≤ length (now to)) ⌝ }
-    ensures { λ _. ⌜ Made 0 n w (λ s t. pair-at (now (answer .entry)) 0 w s t || (pair-at (now (work .entry)) q w s t && (row-bit (now (from .entry)) 0 s && row-bit (now (to .entry)) 0 t))) (now (answer .entry)) (now (answer .exit)) ⌝ }
-{
-    for s in 0..n {
-        add_row(answer, work, s * w, q + s * w, w, s, from, to);
     }
 }

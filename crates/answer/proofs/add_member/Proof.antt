@@ -1,24 +1,39 @@
--- `answer::add_member` meets its contract: it is walked as a chain, or evaluated as any path.
+-- `answer::add_member` meets its contract: the pairs of its route between the two sets are the member's.
 -- Assumes nothing.
-use native.Mathlib.Omega.{arith}
-use Rattle.evaluation.proofs.Grounds.{rows-hold, narrow}
-use Rattle.kind_rows.proofs.Tables.{set-mask}
-use mathlib.Core.Path.{ap}
-use lib.ListN.{length}
-use Rattle.chains.proofs.Walking.{held-kept}
-use Rattle.answer.proofs.Masked.{added, added-same}
+use mathlib.Core.Path.{refl}
+use Rattle.kind_rows.proofs.Tables.{of-records}
+use Rattle.answer.proofs.Masked.{added}
 use borrow.Author.Needs.{needs}
 use Rattle.answer.proofs.add_member.Statement.{statement}
 use Rattle.answer.proofs.add_member.Tie as tie
 use Rattle.answer.proofs.add_member.Reads as reads
 use Rattle.answer.proofs.add_member.Lts as lts
-use Rattle.answer.proofs.add_chain.Reads as add-chain-reads
-use Rattle.evaluation.proofs.evaluate.Reads as evaluate-reads
-use Rattle.kind_rows.proofs.records_of.Reads as records-of-reads
-use Rattle.relation.proofs.add_between.Reads as add-between-reads
+use Rattle.answer.proofs.member_route.Reads as member-route-reads
+use Rattle.chains.proofs.add_pairs.Reads as add-pairs-reads
 
-add-chain-requires : tie.Need-add-chain-requires
-add-chain-requires c κs = let p = c .before .before .before .before .before .before .before .before .before .before .pre in (p .0, p .1 .1)
+slice-aggregate-member-route : tie.Need-slice-aggregate-member-route
+slice-aggregate-member-route c = search needs
+
+slice-aggregate-member-route-2 : tie.Need-slice-aggregate-member-route-2
+slice-aggregate-member-route-2 c = search needs
+
+member-route-requires : tie.Need-member-route-requires
+member-route-requires c κs =
+    let p = c .before .before .before .before .before .before .before .before .before .before .before .pre in
+    ((p .0 .0, p .0 .1, p .0 .3, p .0 .4, p .0 .5, refl, refl), p .1)
+
+slice-aggregate-add-pairs : tie.Need-slice-aggregate-add-pairs
+slice-aggregate-add-pairs c = search needs
+
+slice-aggregate-add-pairs-2 : tie.Need-slice-aggregate-add-pairs-2
+slice-aggregate-add-pairs-2 c = search needs
+
+add-pairs-requires : tie.Need-add-pairs-requires
+add-pairs-requires c κs =
+    let c10 = c .before .before .before .before .before .before .before .before .before .before in
+    let c22 = c10 .before .before .before .before .before .before .before .before .before .before .before .before in
+    let p = c22 .pre in
+    (c10 .member-route .ensures .2, p .0 .2, p .1 .1 .1 .room, of-records (p .1 .1 .1))
 
 same-length : tie.Need-same-length
 same-length c = search needs
@@ -30,97 +45,26 @@ same-length-3 : tie.Need-same-length-3
 same-length-3 c = search needs
 
 returns : tie.Need-returns
-returns c = let v = c .before .before .before .before .before .before .before .add-chain .ensures in (v .0, λ x e. record { pairs = v .2 x e .pairs (c .if1 .taken); kept = v .1 })
-
-evaluate-requires : tie.Need-evaluate-requires
-evaluate-requires c κs =
-    let c8 = c .before .before .before .before .before .before .before .before in
-    let c19 = c8 .before .before .before .before .before .before .before .before .before .before .before in
-    let p = c19 .pre in
-    ((p .0 .0, omega (arith, p .0 .1, c8 .add-chain .ensures .1 .len), p .0 .3, p .0 .4, p .0 .5), p .1 .0)
-
-slice-aggregate-records-of : tie.Need-slice-aggregate-records-of
-slice-aggregate-records-of c = search needs
-
-records-of-requires : tie.Need-records-of-requires
-records-of-requires c κs =
-    let c23 = c .before .before .before .before .before .before .before .before .before .before .before .before .before .before .before .before .before .before .before .before .before .before .before in
-    let p = c23 .pre in
-    (narrow (p .0 .0), p .1 .1 .1 .room)
-
-slice-aggregate-records-of-2 : tie.Need-slice-aggregate-records-of-2
-slice-aggregate-records-of-2 c = search needs
-
-records-of-requires-2 : tie.Need-records-of-requires-2
-records-of-requires-2 c κs =
-    let c26 = c .before .before .before .before .before .before .before .before .before .before .before .before .before .before .before .before .before .before .before .before .before .before .before .before .before .before in
-    let p = c26 .pre in
-    (narrow (p .0 .0), p .1 .1 .1 .room)
-
-slice-aggregate-add-between : tie.Need-slice-aggregate-add-between
-slice-aggregate-add-between c = search needs
-
-slice-aggregate-add-between-2 : tie.Need-slice-aggregate-add-between-2
-slice-aggregate-add-between-2 c = search needs
-
-add-between-requires : tie.Need-add-between-requires
-add-between-requires c κs =
-    let c5 = c .before .before .before .before .before in
-    let c8 = c5 .before .before .before in
-    let c12 = c8 .before .before .before .before in
-    let c14 = c12 .before .before in
-    let c21 = c14 .before .before .before .before .before .before .before in
-    let c32 = c21 .before .before .before .before .before .before .before .before .before .before .before in
-    let p = c32 .pre in
-    let v = c21 .add-chain .ensures in
-    let e = c12 .evaluate .ensures (p .1 .0 .0) (p .1 .0 .1) .kept .len in
-    let w = narrow (p .0 .0) in
-    (omega (arith, p .0 .2, ap length (v .2 (p .1 .0 .0) (p .1 .0 .1) .same (c14 .if1 .left))), omega (arith, e, p .0 .1, v .1 .len), rows-hold (p .0 .0), omega (arith, w, c8 .records-of .ensures .kept .len), omega (arith, w, c5 .records-of2 .ensures .kept .len))
-
-same-length-4 : tie.Need-same-length-4
-same-length-4 c = search needs
-
-same-length-5 : tie.Need-same-length-5
-same-length-5 c = search needs
-
-same-length-6 : tie.Need-same-length-6
-same-length-6 c = search needs
-
-returns-2 : tie.Need-returns-2
-returns-2 c =
+returns c =
     let c2 = c .before .before in
-    let c8 = c2 .before .before .before .before .before .before in
-    let c11 = c8 .before .before .before in
-    let c15 = c11 .before .before .before .before in
-    let c17 = c15 .before .before in
-    let c24 = c17 .before .before .before .before .before .before .before in
-    let c35 = c24 .before .before .before .before .before .before .before .before .before .before .before in
-    let a = c35 .args in
-    let p = c35 .pre in
-    let g = p .0 .0 in
-    let k = p .1 .1 .1 in
-    let v = c24 .add-chain .ensures in
-    let d = c15 .evaluate .ensures in
-    (held-kept g (v .0) (d (p .1 .0 .0) (p .1 .0 .1) .kept) (omega arith), λ x e. added-same (v .2 x e .same (c17 .if1 .left)) (added g (a .from) (a .to) x (v .1) (d x e) (set-mask g (a .from) k (c11 .records-of .ensures)) (set-mask g (a .to) k (c8 .records-of2 .ensures)) (c2 .add-between .ensures)))
+    let c13 = c2 .before .before .before .before .before .before .before .before .before .before .before in
+    let c25 = c13 .before .before .before .before .before .before .before .before .before .before .before .before in
+    let a = c25 .args in
+    let p = c25 .pre in
+    let v = c13 .member-route .ensures in
+    (v .0, λ x e. record { pairs = added (p .0 .0) _ _ _ (c13 .member-route .result) (a .from) (a .to) x (p .1 .1 .1) (v .3 x e) (c2 .add-pairs .ensures); kept = v .1 })
 
 pub add-member-spec : {M : Type 1} → statement M
 add-member-spec =
     tie.close
     (tie.spec
-    add-chain-requires
+    slice-aggregate-member-route
+    slice-aggregate-member-route-2
+    member-route-requires
+    slice-aggregate-add-pairs
+    slice-aggregate-add-pairs-2
+    add-pairs-requires
     same-length
     same-length-2
     same-length-3
-    returns
-    evaluate-requires
-    slice-aggregate-records-of
-    records-of-requires
-    slice-aggregate-records-of-2
-    records-of-requires-2
-    slice-aggregate-add-between
-    slice-aggregate-add-between-2
-    add-between-requires
-    same-length-4
-    same-length-5
-    same-length-6
-    returns-2)
+    returns)

@@ -2,7 +2,7 @@
 -- Assumes nothing.
 use Rattle.register.specs.Form.{register-in}
 use Rattle.chains.specs.Chain.{Held}
-use Rattle.chains.proofs.Walking.{held-none}
+use Rattle.chains.proofs.Holding.{held-none}
 use Rattle.evaluation.proofs.Grounds.{narrow}
 use Rattle.answer.specs.Said.{lent}
 use Rattle.answer.proofs.Adding.{Adding, adding-start, adding-more, adding-end, makes-path, size-few, symbols-end}

@@ -6,7 +6,7 @@ use lib.Seq.{getD-set-same}
 use Prim.Native.Nat.{_*_, _<_}
 use Rattle.rows.proofs.Words.{kept-refl, kept-in}
 use Rattle.evaluation.proofs.Grounds.{small}
-use Rattle.chains.proofs.Walking.{past, before-end, held-more, holds-same, holds-more}
+use Rattle.chains.proofs.Holding.{past, before-end, held-more, holds-same, holds-more}
 use borrow.Author.Needs.{needs}
 use Rattle.chains.proofs.hold.Statement.{statement}
 use Rattle.chains.proofs.hold.Tie as tie
@@ -82,8 +82,13 @@ returns-3 c =
     let p = c14 .pre in
     let f = c6 .place2 .result in
     let z = a .n * a .w in
-    let l : f < 4 = omega (arith, c6 .place2 .ensures .0, c5 .if2 .left) in
-    (c6 .place2 .ensures .0, λ h. getD-set-same (a .held .now) f (a .number) 0 (omega (arith, p .2 .few)), held-more (p .0) f (a .number) (p .2) (c2 .step .ensures) refl (c3 .step-link .ensures .0) (p .3) l, holds-more (a .held .now) f (a .number) (c6 .place2 .ensures .1 l), kept-in (c2 .step .ensures .kept) (past f z) (before-end f z l))
+    let l : f < 4 = omega (arith, c6 .place2 .ensures .0, c5 .if2 .left) in (
+      c6 .place2 .ensures .0,
+      λ h. getD-set-same (a .held .now) f (a .number) 0 (omega (arith, p .2 .few)),
+      held-more (p .0) f (a .number) (p .2) (c2 .step .ensures) refl (c3 .step-link .ensures .0) (p .3) l,
+      holds-more (a .held .now) f (a .number) (c6 .place2 .ensures .1 l),
+      kept-in (c2 .step .ensures .kept) (past f z) (before-end f z l),
+    )
 
 pub hold-spec : {M : Type 1} → statement M
 hold-spec =

@@ -1,7 +1,7 @@
 -- `relation::follow_row` meets its contract: a row that was empty took in the rows that are named.
 -- Assumes nothing.
 use native.Mathlib.Omega.{arith}
-use Rattle.relation.proofs.Joining.{words-all}
+use Rattle.relation.proofs.Joining.{words-put}
 use borrow.Author.Needs.{needs}
 use Rattle.relation.proofs.follow_row.Statement.{statement}
 use Rattle.relation.proofs.follow_row.Tie as tie
@@ -31,7 +31,7 @@ returns c =
     let c6 = c2 .before .before .before .before in
     let c11 = c6 .before .before .before .before .before in
     let a = c11 .args in
-    words-all (a .mask .now) 16 (a .s) (a .q) (a .n) (a .w) (c6 .take-row .ensures) (c2 .copy .ensures) (omega arith) (omega arith) (c11 .pre .6)
+    words-put (a .work .now) (a .d) (a .work .now) (a .q) (a .w) (a .mask .now) 0 16 (a .d) (a .n) (c6 .take-row .ensures) (c2 .copy .ensures) (omega arith) (omega arith) (c11 .pre .5)
 
 pub follow-row-spec : {M : Type 1} → statement M
 follow-row-spec =

@@ -21,7 +21,7 @@ same-length : tie.Need-same-length
 same-length c = search needs
 
 returns : tie.Need-returns
-returns c = search needs
+returns c = c .before .before .follow-row .ensures
 
 same-length-2 : tie.Need-same-length-2
 same-length-2 c = search needs

@@ -2,9 +2,10 @@
 -- Assumes nothing.
 use mathlib.Core.Path.{_≡_, refl, sym, ap, _∙_, subst}
 use mathlib.Core.Bool.{Bool, true, false, cond}
+use mathlib.Core.Logic.{⊎-elim}
 use mathlib.Core.List.{List, [], _∷_, List·Memᴰ as In, List·Memᴰ·head as here, List·Memᴰ·tail as there}
 use Prim.Native.Nat.{ℕ, zero, suc, _+_, _≤_, _<_, max}
-use native.Mathlib.Nat.{add-zero}
+use native.Mathlib.Nat.{add-zero, eq-or-lt-of-le}
 use native.Mathlib.Omega.{arith}
 use native.Mathlib.Decide.{decLe}
 use lib.Dec.{eqb, eqb→eq, eqb-refl, leb, leb→le, le→leb}
@@ -30,8 +31,19 @@ largest-at w (t ∷ ts) h = go (decLe (largest w ts) (w t)) (λ k. largest-at w 
     go (yes k) rest = (t, here refl, omega arith)
     go (no k) rest = let r = rest (omega arith) in (r .0, there (r .1), omega (arith, r .2))
 
+largest-none : (w : Triple → ℕ) (ts : List Triple) → ((t : Triple) → w t ≡ 0) → largest w ts ≡ 0
+largest-none w [] e = refl
+largest-none w (t ∷ ts) e = omega (arith, e t, largest-none w ts e)
+
 to-kind-at : (w : Triple → ℕ) (t : Triple) → to-kind (t .to) w t ≡ w t
 to-kind-at w t = ap (λ b. cond b (w t) 0) (to-true (eqb (t .to) (t .to)) (eqb-refl (t .to)))
+
+to-kind-none : (k : ℕ) (w : Triple → ℕ) (t : Triple) → w t ≡ 0 → to-kind k w t ≡ 0
+to-kind-none k w t e = ap (λ (n : ℕ). cond (eqb (t .to) k) n 0) e ∙ go (eqb (t .to) k)
+  where
+    go : (b : Bool) → _≡_ {A = ℕ} (cond b 0 0) 0
+    go true = refl
+    go false = refl
 
 to-kind-pos : (k : ℕ) (w : Triple → ℕ) (t : Triple) → 0 < to-kind k w t → (t .to ≡ k) × (to-kind k w t ≡ w t)
 to-kind-pos k w t h = go (eqb (t .to) k) refl h
@@ -81,6 +93,16 @@ module _ (fs : List Triple) where
       let q = extended-pos (best fs n (y .from)) (size (y .path)) (omega (arith, r .2, p .1)) in
       let x = best-at n (y .from) (q .0) in
       (joined (x .0) y, pairs-in end-to-end? joined (x .1) (r .1) (eq→eqb (x .0 .to) (y .from) (x .2)), p .0, omega (arith, x .3, q .1, p .1, r .2))
+
+  -- without a walk of n + 1 triples there is none of more
+  pub best-none : (n : ℕ) → ((k : ℕ) → best fs n k ≡ 0) → (m k : ℕ) → n ≤ m → best fs m k ≡ 0
+  best-none n e zero k l = let q : n ≡ 0 = omega arith in subst (λ (i : ℕ). best fs i k ≡ 0) q (e k)
+  best-none n e (suc m) k l =
+      let w : Triple → ℕ = λ u. extended (best fs m (u .from)) (size (u .path)) in
+      ⊎-elim
+      (λ (q : n ≡ suc m). subst (λ (i : ℕ). best fs i k ≡ 0) q (e k))
+      (λ (h : n < suc m). largest-none (to-kind k w) fs (λ t. to-kind-none k w t (ap (λ (b : ℕ). extended b (size (t .path))) (best-none n e m (t .from) (omega arith)))))
+      (eq-or-lt-of-le l)
 
   -- ---- all walks are short where those of up to 25 triples are
   level-short : ((n k : ℕ) → n ≤ 24 → best fs n k ≤ 48) → (n : ℕ) {t : Triple} → In t (level fs n) → (n ≤ 24) × (size (t .path) ≤ 48)

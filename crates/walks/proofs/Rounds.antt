@@ -23,8 +23,8 @@ use Rattle.nodes.specs.Paths.{triple-of}
 use Rattle.nodes.specs.Parts.{part-of}
 use Rattle.nodes.proofs.Triples.{triple-from, triple-to}
 use Rattle.nodes.proofs.Growing.{part-next, part-over}
-use Rattle.walks.specs.Sizes.{Part, largest, to-kind, extended, size-of, weight, Raised, Raising, Small}
-use Rattle.walks.proofs.Longest.{best, rounds-short, round-long}
+use Rattle.walks.specs.Sizes.{Part, largest, to-kind, extended, size-of, weight, Raised, Raising, AtMost, Small}
+use Rattle.walks.proofs.Longest.{best, best-none, rounds-short, round-long}
 
 -- ---- one number
 pub raised-not : {xs : List ℕ} {k v : ℕ} → v ≤ getD xs k 0 → Raised k v xs xs
@@ -91,13 +91,13 @@ module _ {qs ws : List ℕ} {s e : ℕ} (h : Part qs ws s e) where
     pub round-next : {w : Triple → ℕ} {v : ℕ} {xs ys zs : List ℕ} → v ≡ w (triple-of qs ws i) → Going w (from s) (from i) xs ys → Raised (x .to .0) v ys zs → Going w (from s) (from (i + 1)) xs zs
     round-next q r d = round-turn (from (i + 1)) r (part-next qs ws i e l) to-is q d
 
--- ---- whether each number is small
-pub small-all : (xs : List ℕ) (i : ℕ) → length xs ≤ i → ((k : ℕ) → k < i → getD xs k 0 ≤ 48) → Small xs
-small-all xs i l h k =
-    ⊎-elim (λ (m : i ≤ k). let e : getD xs k 0 ≡ 0 = List·getD-eq-default xs 0 (omega arith) in omega arith) (λ (m : k < i). h k m) (le-or-lt i k)
+-- ---- whether each number is at most m
+pub at-most-all : {m : ℕ} (xs : List ℕ) (i : ℕ) → length xs ≤ i → ((k : ℕ) → k < i → getD xs k 0 ≤ m) → AtMost m xs
+at-most-all xs i l h k =
+    ⊎-elim (λ (o : i ≤ k). let e : getD xs k 0 ≡ 0 = List·getD-eq-default xs 0 (omega arith) in omega arith) (λ (o : k < i). h k o) (le-or-lt i k)
 
-pub small-more : (xs : List ℕ) (i : ℕ) → ((k : ℕ) → k < i → getD xs k 0 ≤ 48) → getD xs i 0 ≤ 48 → (k : ℕ) → k < i + 1 → getD xs k 0 ≤ 48
-small-more xs i h m k l = ⊎-elim (λ (e : k ≡ i). rw e m) (λ (n : k < i). h k n) (eq-or-lt-of-le (omega arith))
+pub at-most-more : {m : ℕ} (xs : List ℕ) (i : ℕ) → ((k : ℕ) → k < i → getD xs k 0 ≤ m) → getD xs i 0 ≤ m → (k : ℕ) → k < i + 1 → getD xs k 0 ≤ m
+at-most-more xs i h o k l = ⊎-elim (λ (e : k ≡ i). rw e o) (λ (n : k < i). h k n) (eq-or-lt-of-le (omega arith))
 
 -- ---- the rounds
 -- after n rounds: the largest walk of n + 1 triples to each kind, and none was over 48 yet
@@ -151,6 +151,12 @@ module _ {fs : List Triple} where
 
   pub rounds-over : {n : ℕ} {xs : List ℕ} → Rounds fs n xs → 24 ≤ n → true ≡ short? (walks 24 fs fs)
   rounds-over g l = sym (rounds-short fs (λ m k h. g .below m k (omega arith)))
+
+  -- no walk is left, so there is no longer one
+  pub rounds-none : {n : ℕ} {xs : List ℕ} → Rounds fs n xs → AtMost 0 xs → true ≡ short? (walks 24 fs fs)
+  rounds-none {n} g z =
+      let none : (k : ℕ) → best fs n k ≡ 0 = λ k. omega (arith, z k, g .is k) in
+      sym (rounds-short fs (λ m k h. ⊎-elim (λ (l : m ≤ n). g .below m k l) (λ (l : n < m). omega (arith, best-none fs n none m k (omega arith))) (le-or-lt m n)))
 
   pub rounds-small : {n : ℕ} {xs : List ℕ} → Rounds fs n xs → Small xs
   rounds-small {n} g k = omega (arith, g .is k, g .below n k (omega arith))

@@ -48,6 +48,10 @@ pub record Raising (w : Triple → ℕ) (ts : List Triple) (xs ys : List ℕ) : 
   pub same-length : length ys ≡ length xs
   pub at : (k : ℕ) → getD ys k 0 ≡ max (getD xs k 0) (largest (to-kind k w) ts)
 
+-- none is over m
+abbrev pub AtMost : ℕ → List ℕ → Type 0
+AtMost m xs = (k : ℕ) → getD xs k 0 ≤ m
+
 -- none is over 48
 abbrev pub Small : List ℕ → Type 0
-Small xs = (k : ℕ) → getD xs k 0 ≤ 48
+Small xs = AtMost 48 xs

@@ -9,7 +9,7 @@ ghost use Rattle.rows.specs.Row.{row-bit, Row, mask-of};
 ghost use Rattle.nodes.specs.Tests.{Decides};
 ghost use Rattle.nodes.specs.Parts.{part-of};
 ghost use Rattle.walks.specs.Kinds.{Edges, Linked, TellsAcyclic, TellsMeets};
-ghost use Rattle.walks.specs.Sizes.{Part, extended, size-of, weight, Raised, Raising, Small};
+ghost use Rattle.walks.specs.Sizes.{Part, extended, size-of, weight, Raised, Raising, AtMost, Small};
 
 // A bit for the kinds of each triple of the nodes from s to e.
 fn edges(words: &[u64], question: &[u8], s: usize, e: usize, work: &mut [u64])
@@ -131,13 +131,13 @@ fn round(words: &[u64], question: &[u8], s: usize, e: usize, best: &[u64], next:
     }
 }
 
-// Is each number at most 48?
-fn small(best: &[u64]) -> bool
-    ensures { λ r. ⌜ Decides (Small (now (best .entry))) r ⌝ }
+// Is each number at most m?
+fn at_most(best: &[u64], m: u64) -> bool
+    ensures { λ r. ⌜ Decides (AtMost m (now (best .entry))) r ⌝ }
 {
     let mut i = 0;
     while i < best.len() {
-        if 48 < best[i] {
+        if m < best[i] {
             return false;
         }
         i += 1;
@@ -145,21 +145,24 @@ fn small(best: &[u64]) -> bool
     true
 }
 
-// Has each walk over the nodes from s to e a path of at most 48 symbols? One of more than 25 triples has more.
+// Has each walk over the nodes from s to e a path of at most 48 symbols? One of more than 25 triples has more; where there is none of n, there is none of more.
 pub fn walks_short(words: &[u64], question: &[u8], s: usize, e: usize) -> bool
     requires { ⌜ Part (now question) (now words) s e ⌝ }
     ensures { λ r. ⌜ r ≡ short? (walks 24 (part-of (now (question .entry)) (now (words .entry)) s (e - s)) (part-of (now (question .entry)) (now (words .entry)) s (e - s))) ⌝ }
 {
     let mut best = [0u64; 64];
     first_round(words, question, s, e, &mut best);
-    if !small(&best) {
+    if !at_most(&best, 48) {
         return false;
     }
     let mut n: usize = 0;
     while n < 24 {
+        if at_most(&best, 0) {
+            return true;
+        }
         let mut next = [0u64; 64];
         round(words, question, s, e, &best, &mut next);
-        if !small(&next) {
+        if !at_most(&next, 48) {
             return false;
         }
         best = next;

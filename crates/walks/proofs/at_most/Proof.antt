@@ -1,21 +1,21 @@
--- `walks::small` meets its contract.
+-- `walks::at_most` meets its contract: the numbers passed are at most m.
 -- Assumes nothing.
 use Rattle.nodes.proofs.Comparing.{decides-yes, decides-no}
-use Rattle.walks.proofs.Rounds.{small-all, small-more}
+use Rattle.walks.proofs.Rounds.{at-most-all, at-most-more}
 use lib.ListN.{length, getD}
 use borrow.Author.Needs.{needs}
 use Prim.Native.Nat.{ℕ, _-_, _≤_, _<_}
 use native.Mathlib.Omega.{arith}
-use Rattle.walks.proofs.small.Statement.{statement}
-use Rattle.walks.proofs.small.Tie as tie
-use Rattle.walks.proofs.small.Reads as reads
-use Rattle.walks.proofs.small.Lts as lts
+use Rattle.walks.proofs.at_most.Statement.{statement}
+use Rattle.walks.proofs.at_most.Tie as tie
+use Rattle.walks.proofs.at_most.Reads as reads
+use Rattle.walks.proofs.at_most.Lts as lts
 
 abbrev Inv-loop : tie.InvT-loop
-Inv-loop best i₀ i = (i ≤ length best) × ((k : ℕ) → k < i → getD best k 0 ≤ 48)
+Inv-loop best m i₀ i = (i ≤ length best) × ((k : ℕ) → k < i → getD best k 0 ≤ m)
 
 abbrev μ-loop : tie.MeasureT-loop
-μ-loop best i₀ i = length best - i
+μ-loop best m i₀ i = length best - i
 
 loop-holds : tie.Need-loop-holds Inv-loop μ-loop
 loop-holds c = (omega arith, λ k l. absurd (omega arith))
@@ -36,13 +36,13 @@ loop-less : tie.Need-loop-less Inv-loop μ-loop
 loop-less c = search needs
 
 loop-again : tie.Need-loop-again Inv-loop μ-loop
-loop-again c = (omega arith, small-more (c .before .before .before .before .args .best .now) (c .before .before .before .loop .i) (c .before .before .before .loop .inv .1) (c .if1 .left))
+loop-again c = (omega arith, at-most-more (c .before .before .before .before .args .best .now) (c .before .before .before .loop .i) (c .before .before .before .loop .inv .1) (c .if1 .left))
 
 returns-2 : tie.Need-returns-2 Inv-loop μ-loop
-returns-2 c = decides-yes (small-all (c .before .before .args .best .now) (c .before .loop .i) (c .loop-test .left) (c .before .loop .inv .1))
+returns-2 c = decides-yes (at-most-all (c .before .before .args .best .now) (c .before .loop .i) (c .loop-test .left) (c .before .loop .inv .1))
 
-pub small-spec : {M : Type 1} → statement M
-small-spec =
+pub at-most-spec : {M : Type 1} → statement M
+at-most-spec =
     tie.close
     (tie.spec
     Inv-loop

@@ -6,6 +6,7 @@ use mathlib.Core.Bool.{Bool}
 use mathlib.Core.List.{List}
 use Prim.Native.Nat.{ℕ, _+_, _/_, _<_}
 use lib.ListN.{length}
+use Rattle.theory.specs.Lists.{some?, range}
 use Rattle.theory.specs.TransitiveClosure.{look}
 use Rattle.theory.specs.PathExpr.{PathExpr}
 use Rattle.theory.specs.Inference.{Triple, triple, adjacent?, reach, meets-cyclic?, acyclic?}
@@ -30,3 +31,7 @@ TellsAcyclic xs a b r = (ts : List Triple) → Linked ts xs → (p : PathExpr) �
 -- .. whether a walk from a to b meets one
 abbrev pub TellsMeets : List ℕ → ℕ → ℕ → Bool → Type 0
 TellsMeets xs a b r = (ts : List Triple) → Linked ts xs → r ≡ meets-cyclic? 64 (reach 64 ts) a b
+
+-- .. whether one from a to any kind does
+abbrev pub TellsMeetsAny : List ℕ → ℕ → Bool → Type 0
+TellsMeetsAny xs a r = (ts : List Triple) → Linked ts xs → r ≡ some? (meets-cyclic? 64 (reach 64 ts) a) (range 64)

@@ -8,7 +8,7 @@ ghost use Rattle.theory.specs.Narrowing.{short?};
 ghost use Rattle.rows.specs.Row.{row-bit, Row, mask-of};
 ghost use Rattle.nodes.specs.Tests.{Decides};
 ghost use Rattle.nodes.specs.Parts.{part-of};
-ghost use Rattle.walks.specs.Kinds.{Edges, Linked, TellsAcyclic, TellsMeets};
+ghost use Rattle.walks.specs.Kinds.{Edges, Linked, TellsAcyclic, TellsMeets, TellsMeetsAny};
 ghost use Rattle.walks.specs.Sizes.{Part, extended, size-of, weight, Raised, Raising, AtMost, Small};
 
 // A bit for the kinds of each triple of the nodes from s to e.
@@ -80,6 +80,14 @@ pub fn meets(work: &[u64], a: Kind, b: Kind) -> bool
     ensures { λ r. ⌜ TellsMeets (now (work .entry)) (a .0) (b .0) r ⌝ }
 {
     rows::has(work, a.0 as usize, b.0 as usize)
+}
+
+// Does a walk from a to any kind meet one?
+pub fn meets_any(work: &[u64], a: Kind) -> bool
+    requires { ⌜ (length (now work) ≡ 128) × (a .0 < 64) ⌝ }
+    ensures { λ r. ⌜ TellsMeetsAny (now (work .entry)) (a .0) r ⌝ }
+{
+    rows::any(work, a.0 as usize, 1)
 }
 
 // Raises what stands at k to v, where it is less.

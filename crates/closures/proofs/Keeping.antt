@@ -11,6 +11,7 @@ use Rattle.theory.specs.PathExpr.{PathExpr, closure, codes, size}
 use Rattle.theory.specs.Inference.{Triple, triple, triple?, between, reach, meets-cyclic?}
 use Rattle.theory.specs.Growth.{kept-closures}
 use Rattle.rows.specs.Row.{row-bit}
+use Rattle.rows.proofs.Ranges.{some-no}
 use Rattle.nodes.specs.declared.Node.{Node}
 use Rattle.nodes.specs.Table.{word-of, InRange, node-at}
 use Rattle.nodes.specs.Paths.{original, triple-of, Copied}
@@ -22,7 +23,8 @@ use Rattle.symbols.proofs.Numbers.{length-codes}
 use Rattle.rules.specs.Outcome.{Done}
 use Rattle.rules.proofs.Grows.{grows-start, none-added, one-added}
 use Rattle.rules.proofs.Ranging.{Ranging, ranging-room}
-use Rattle.walks.specs.Kinds.{Linked, TellsMeets}
+use Rattle.walks.specs.Kinds.{Linked, TellsMeets, TellsMeetsAny}
+use Rattle.walks.proofs.Wider.{each-none}
 use Rattle.closures.specs.Kept.{kept-at, kept-from, kept-all}
 use Rattle.closures.specs.Asks.{AddKept}
 
@@ -99,6 +101,10 @@ module _ {qs ws xs : List ℕ} {s count o n a b : ℕ} (h : AddKept qs ws xs s c
     kept-added f x = one-added (triple a path b) (kept-at xs (original qs o n) a b) (h .0 .room) x (rw (x .words-are) triple-is) (rw (sym told ∙ f))
 
 -- ---- from one kind, and from each
+kept-from-none : (xs : List ℕ) (p : PathExpr) (a K : ℕ) → ((b : ℕ) → b < K → row-bit xs a b ≡ false) → kept-from xs p a 0 K ≡ []
+unfolding kept-from kept-at
+kept-from-none xs p a K e = each-none (kept-at xs p a) 0 (K - 0) (λ b l m. rw (e b (omega arith)))
+
 module _ {qs ws₀ xs : List ℕ} {s start o n : ℕ} (h : AddKept qs ws₀ xs s start o n) where
   pub kept-from-start : (K a : ℕ) → Ranging qs ws₀ ws₀ (s + start) s start (adjoin-all triple? (part-of qs ws₀ s start) (kept-from xs (original qs o n) a 0 K)) (kept-at xs (original qs o n) a) 0 K
   unfolding kept-from
@@ -107,6 +113,14 @@ module _ {qs ws₀ xs : List ℕ} {s start o n : ℕ} (h : AddKept qs ws₀ xs s
   pub kept-all-start : (K : ℕ) → Ranging qs ws₀ ws₀ (s + start) s start (adjoin-all triple? (part-of qs ws₀ s start) (kept-all xs (original qs o n) 0 K)) (λ a. kept-from xs (original qs o n) a 0 K) 0 K
   unfolding kept-all
   kept-all-start K = record { to = omega arith; grows = grows-start (kept-all xs (original qs o n) 0 K) (h .room) }
+
+  -- no walk from kind a meets a cyclic kind
+  pub kept-from-skipped : {a : ℕ} {r : Bool} → a < 64 → TellsMeetsAny xs a r → r ≡ false
+      → Done qs ws₀ ws₀ (s + start) s start (adjoin-all triple? (part-of qs ws₀ s start) (kept-from xs (original qs o n) a 0 64))
+  kept-from-skipped {a} l tells f =
+      let g = h .graph in
+      none-added (kept-from xs (original qs o n) a 0 64) (h .room)
+      (kept-from-none xs (original qs o n) a 64 (λ b m. g .linked .met a b l m ∙ some-no (meets-cyclic? 64 (reach 64 (g .of)) a) 64 b (sym (tells (g .of) (g .linked)) ∙ f) m))
 
   pub kept-asks : {ws : List ℕ} {u count j e : ℕ} {all : List Triple} {f : ℕ → List Triple} → Ranging qs ws₀ ws u s count all f j e → AddKept qs ws xs s count o n
   kept-asks g = record { room = ranging-room g (h .room); graph = h .graph; copied = h .copied; place = h .place; symbols = h .symbols }

@@ -87,7 +87,7 @@ fn add_kept(
     nodes::add(words, question, s, count, node)
 }
 
-// The same from kind a to each kind, up to the 129th; the new count.
+// The same from kind a to each kind, up to the 129th; the new count. From most kinds there is none, which one word tells.
 fn add_kept_from(
     words: &mut [u64],
     question: &[u8],
@@ -101,6 +101,9 @@ fn add_kept_from(
     requires { ⌜ AddKept (now question) (now words) (now work) s start o n × (a .0 < 64) ⌝ }
     ensures { λ r. ⌜ Done (now (question .entry)) (now (words .entry)) (now (words .exit)) (s + start) s r (adjoin-all triple? (part-of (now (question .entry)) (now (words .entry)) s start) (kept-from (now (work .entry)) (original (now (question .entry)) o n) (a .0) 0 64)) ⌝ }
 {
+    if !walks::meets_any(work, a) {
+        return start;
+    }
     let mut count = start;
     let mut b: usize = 0;
     while b < 64 {

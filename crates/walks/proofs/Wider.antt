@@ -27,12 +27,12 @@ module _ {A : Type 0} (f : ℕ → List A) where
   each-same g [] e = refl
   each-same g (k ∷ ks) e = ap₂ (λ (l m : List A). l ++ m) (e k) (each-same g ks e)
 
-  each-none : (i n : ℕ) → ((k : ℕ) → i ≤ k → f k ≡ []) → concat-map f (tabulate (λ k. k) i n) ≡ []
+  pub each-none : (i n : ℕ) → ((k : ℕ) → i ≤ k → k < i + n → f k ≡ []) → concat-map f (tabulate (λ k. k) i n) ≡ []
   each-none i zero e = refl
-  each-none i (suc n) e = ap₂ (λ (l m : List A). l ++ m) (e i (omega arith)) (each-none (suc i) n (λ k l. e k (omega arith)))
+  each-none i (suc n) e = ap₂ (λ (l m : List A). l ++ m) (e i (omega arith) (omega arith)) (each-none (suc i) n (λ k l m. e k (omega arith) (omega arith)))
 
   each-some : (i m n : ℕ) → ((k : ℕ) → i + m ≤ k → f k ≡ []) → concat-map f (tabulate (λ k. k) i (m + n)) ≡ concat-map f (tabulate (λ k. k) i m)
-  each-some i zero n e = rw (zero-add n) (each-none i n (λ k l. e k (omega arith)))
+  each-some i zero n e = rw (zero-add n) (each-none i n (λ k l m. e k (omega arith)))
   each-some i (suc m) n e = rw (suc-add m n) (ap (λ (l : List A). f i ++ l) (each-some (suc i) m n (λ k l. e k (omega arith))))
 
   each-cut : (m n : ℕ) → m ≤ n → ((k : ℕ) → m ≤ k → f k ≡ []) → concat-map f (range n) ≡ concat-map f (range m)
@@ -52,7 +52,7 @@ module _ (K N : ℕ) (h : K ≤ N) (p : PathExpr) (f g : ℕ → ℕ → Bool) (
       each-same (λ a. concat-map (cell f a) (range K)) (λ a. concat-map (cell g a) (range N)) (range K)
       (λ a. each-same (cell f a) (cell g a) (range K) (λ b. ap (λ (c : Bool). guard c (triple a p b ∷ [])) (same a b))
       ∙ sym (each-cut (cell g a) K N h (λ b l. out a b (λ r. omega (arith, r .1)))))
-      ∙ sym (each-cut (λ a. concat-map (cell g a) (range N)) K N h (λ a l. each-none (cell g a) 0 N (λ b m. out a b (λ r. omega (arith, r .0)))))
+      ∙ sym (each-cut (λ a. concat-map (cell g a) (range N)) K N h (λ a l. each-none (cell g a) 0 N (λ b m o. out a b (λ r. omega (arith, r .0)))))
 
 -- ---- the graphs
 module _ (K N : ℕ) (ts : List Triple) (inside : Inside K ts) (h : K ≤ N) where

@@ -94,6 +94,19 @@ word-all {rs} xs q w g v p r e h = row-is r (λ t l. ap (λ (b : Bool). row-bit 
 pub word-empty : (rs xs : List ℕ) (q w g v : ℕ) → v ≡ 0 → Row 0 w (taken rs xs q w g v 64) rs rs
 word-empty rs xs q w g v e = word-all xs q w g v 0 (word-none rs xs q w g v) (div-one v ∙ e) (omega arith)
 
+-- a row of words that are 0 has no bit
+pub row-blank : (m t : ℕ) → t / 64 < m → row-bit (replicate m 0) 0 t ≡ false
+unfolding row-bit
+row-blank m t h = ap (λ (x : ℕ). bitOf x (t % 64)) (getD-replicate m (0 + t / 64) 0 0 (omega arith)) ∙ bit-zero (t % 64)
+
+-- by way of a row that was empty
+pub word-aside : {rs ys zs : List ℕ} (xs : List ℕ) (k q w g v : ℕ) → Row 0 w (taken (replicate k 0) xs q w g v 64) (replicate k 0) ys
+    → Row 0 w (λ t. row-bit rs 0 t || row-bit ys 0 t) rs zs → w ≤ k → Row 0 w (taken rs xs q w g v 64) rs zs
+unfolding taken
+word-aside {rs} xs k q w g v p r h =
+    row-is r (λ t l.
+    ap (λ (b : Bool). row-bit rs 0 t || b) (p .bit t l ∙ ap (λ (b : Bool). b || some? (by-bit xs q w g v t) (range 64)) (row-blank k t (omega arith))))
+
 -- ---- the words of the row at d of fs, under the row at m of the mask
 pub row-word : (xs : List ℕ) (r i j : ℕ) → j < 64 → row-bit xs r (64 * i + j) ≡ bitOf (getD xs (r + i) 0) j
 unfolding row-bit
@@ -123,11 +136,6 @@ mask-last true true false = refl
 mask-last true false true = refl
 mask-last true false false = refl
 mask-last false m x = refl
-
--- a row of words that are 0 has no bit
-pub row-blank : (m t : ℕ) → t / 64 < m → row-bit (replicate m 0) 0 t ≡ false
-unfolding row-bit
-row-blank m t h = ap (λ (x : ℕ). bitOf x (t % 64)) (getD-replicate m (0 + t / 64) 0 0 (omega arith)) ∙ bit-zero (t % 64)
 
 module _ (fs : List ℕ) (d : ℕ) (xs : List ℕ) (q w : ℕ) (ms : List ℕ) (m : ℕ) where
   pub words-none : (rs : List ℕ) → Row 0 w (taken-row rs fs d xs q w ms m 0) rs rs

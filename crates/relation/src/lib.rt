@@ -36,8 +36,33 @@ fn take_bits(row: &mut [u64], work: &[u64], q: usize, n: usize, w: usize, g: usi
     }
 }
 
-// The row takes in row g + i of the relation at q, for each bit i of v. Rows of 16 words, the largest registers', have a loop of their own, in
-// which their length is constant.
+// As `take_word`, by way of a row of its own, which nothing else can reach: it stays in registers while the rows come to it.
+fn take_aside(row: &mut [u64], work: &[u64], q: usize, n: usize, w: usize, g: usize, v: u64)
+    requires { ⌜ (w ≤ length (now row)) × (w ≤ 16) × (q + n * w ≤ length (now work)) × ((i : ℕ) → bitOf v i ≡ true → g + i < n) ⌝ }
+    ensures { λ _. ⌜ Row 0 w (taken (now (row .entry)) (now (work .entry)) q w g v 64) (now (row .entry)) (now (row .exit)) ⌝ }
+{
+    let mut all = [0u64; 16];
+    take_bits(&mut all, work, q, n, w, g, v);
+    rows::unite(row, 0, &all, 0, w);
+}
+
+// As `take_word`, for a word of many bits. Of constant length where `rows::copy` is.
+pub fn gather(row: &mut [u64], work: &[u64], q: usize, n: usize, w: usize, g: usize, v: u64)
+    requires { ⌜ (w ≤ length (now row)) × (q + n * w ≤ length (now work)) × ((i : ℕ) → bitOf v i ≡ true → g + i < n) ⌝ }
+    ensures { λ _. ⌜ Row 0 w (taken (now (row .entry)) (now (work .entry)) q w g v 64) (now (row .entry)) (now (row .exit)) ⌝ }
+{
+    match w {
+        1 => take_aside(row, work, q, n, 1, g, v),
+        2 => take_aside(row, work, q, n, 2, g, v),
+        4 => take_aside(row, work, q, n, 4, g, v),
+        8 => take_aside(row, work, q, n, 8, g, v),
+        16 => take_aside(row, work, q, n, 16, g, v),
+        _ => take_bits(row, work, q, n, w, g, v),
+    }
+}
+
+// The row takes in row g + i of the relation at q, for each bit i of v. The loop for rows of 16 words, the largest registers', is one that is
+// taken in where it is called.
 pub fn take_word(row: &mut [u64], work: &[u64], q: usize, n: usize, w: usize, g: usize, v: u64)
     requires { ⌜ (w ≤ length (now row)) × (q + n * w ≤ length (now work)) × ((i : ℕ) → bitOf v i ≡ true → g + i < n) ⌝ }
     ensures { λ _. ⌜ Row 0 w (taken (now (row .entry)) (now (work .entry)) q w g v 64) (now (row .entry)) (now (row .exit)) ⌝ }
@@ -46,7 +71,7 @@ pub fn take_word(row: &mut [u64], work: &[u64], q: usize, n: usize, w: usize, g:
         take_bits(row, work, q, n, 16, g, v);
         return;
     }
-    take_bits(row, work, q, n, w, g, v);
+    gather(row, work, q, n, w, g, v);
 }
 
 // As `take_word`; most words have no bit, and are told before anything else.

@@ -47,7 +47,7 @@ fn take_all_finished(
         (now (row .entry)) (now (left .entry)) (now (row .exit)) (now (left .exit)) ⌝ }
 {
     let mut all = [0u64; 16];
-    relation::take_word(&mut all, work, b, n, w, 64 * i, v);
+    relation::gather(&mut all, work, b, n, w, 64 * i, v);
     rows::unite(row, 0, &all, 0, w);
     rows::exclude(left, 0, &all, 0, w);
     let x = left[i];

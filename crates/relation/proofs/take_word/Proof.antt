@@ -1,4 +1,4 @@
--- `relation::take_word` meets its contract: both loops are the same.
+-- `relation::take_word` meets its contract: whichever way it goes, the same rows are taken in.
 -- Assumes nothing.
 use mathlib.Core.Path.{_≡_}
 use borrow.Author.Needs.{needs}
@@ -6,6 +6,7 @@ use Rattle.relation.proofs.take_word.Statement.{statement}
 use Rattle.relation.proofs.take_word.Tie as tie
 use Rattle.relation.proofs.take_word.Reads as reads
 use Rattle.relation.proofs.take_word.Lts as lts
+use Rattle.relation.proofs.gather.Reads as gather-reads
 use Rattle.relation.proofs.take_bits.Reads as take-bits-reads
 
 take-bits-requires : tie.Need-take-bits-requires
@@ -17,8 +18,8 @@ same-length c = search needs
 returns : tie.Need-returns
 returns c = let e : c .before .before .before .before .before .before .before .args .w ≡ 16 = c .before .before .before .before .if1 .taken in rw e (c .before .before .take-bits .ensures)
 
-take-bits-requires-2 : tie.Need-take-bits-requires-2
-take-bits-requires-2 c κs = search needs
+gather-requires : tie.Need-gather-requires
+gather-requires c κs = search needs
 
 same-length-2 : tie.Need-same-length-2
 same-length-2 c = search needs
@@ -29,4 +30,4 @@ returns-2 c = search needs
 pub take-word-spec : {M : Type 1} → statement M
 take-word-spec =
     tie.close
-    (tie.spec take-bits-requires same-length returns take-bits-requires-2 same-length-2 returns-2)
+    (tie.spec take-bits-requires same-length returns gather-requires same-length-2 returns-2)

@@ -8,18 +8,18 @@ use Rattle.transitive_closure.proofs.take_all_finished.Statement.{state
 use Rattle.transitive_closure.proofs.take_all_finished.Tie as tie
 use Rattle.transitive_closure.proofs.take_all_finished.Reads as reads
 use Rattle.transitive_closure.proofs.take_all_finished.Lts as lts
-use Rattle.relation.proofs.take_word.Reads as take-word-reads
+use Rattle.relation.proofs.gather.Reads as gather-reads
 use Rattle.rows.proofs.exclude.Reads as exclude-reads
 use Rattle.rows.proofs.unite.Reads as unite-reads
 
-slice-aggregate-take-word : tie.Need-slice-aggregate-take-word
-slice-aggregate-take-word c = search needs
+slice-aggregate-gather : tie.Need-slice-aggregate-gather
+slice-aggregate-gather c = search needs
 
-mul-take-word : tie.Need-mul-take-word
-mul-take-word c = search needs
+mul-gather : tie.Need-mul-gather
+mul-gather c = search needs
 
-take-word-requires : tie.Need-take-word-requires
-take-word-requires c κs = search needs
+gather-requires : tie.Need-gather-requires
+gather-requires c κs = search needs
 
 slice-aggregate-unite : tie.Need-slice-aggregate-unite
 slice-aggregate-unite c = search needs
@@ -59,15 +59,15 @@ returns c =
     let c12 = c8 .before .before .before .before in
     let c17 = c12 .before .before .before .before .before in
     let a = c17 .args in
-    took-word {m = 16} (a .work .now) (a .b) (a .i) (a .v) (c12 .take-word .ensures) (c8 .unite .ensures) (c3 .exclude .ensures) (omega arith) (omega arith) (omega (arith, c3 .exclude .ensures .kept .len))
+    took-word {m = 16} (a .work .now) (a .b) (a .i) (a .v) (c12 .gather .ensures) (c8 .unite .ensures) (c3 .exclude .ensures) (omega arith) (omega arith) (omega (arith, c3 .exclude .ensures .kept .len))
 
 pub take-all-finished-spec : {M : Type 1} → statement M
 take-all-finished-spec =
     tie.close
     (tie.spec
-    slice-aggregate-take-word
-    mul-take-word
-    take-word-requires
+    slice-aggregate-gather
+    mul-gather
+    gather-requires
     slice-aggregate-unite
     unite-requires
     slice-aggregate-exclude

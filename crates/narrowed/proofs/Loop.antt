@@ -9,19 +9,21 @@ use lib.Dec.{eqb}
 use native.Mathlib.Omega.{arith}
 use Rattle.theory.specs.PathExpr.{before?}
 use Rattle.fields.specs.Answer.{Answer, got, refused}
+use Rattle.fields.specs.declared.Refusal.{Refusal}
+use Rattle.fields.specs.Said.{refusal-said, number-of, place-of}
 use Rattle.fields.specs.Reading.{Field, ends, wrong, body, field-at, word, read}
 use Rattle.symbols.specs.Symbols.{Numbered, numbered}
 use Rattle.narrowed.specs.Form.{Flat, narrowed-form, order-codes}
 use Rattle.narrowed.specs.declared.Standing.{Standing}
 use Rattle.narrowed.specs.declared.Standing.the-variants.{Head, Between, Within}
-use Rattle.narrowed.specs.Said.{go, more, last, arrays, marked, due-of, judged, turned, turned-by, Able, Move, counted, members-in, outcome-said, Packed, Reads, segment-codes}
+use Rattle.narrowed.specs.Said.{go, more, last, arrays, marked, due-of, judged, turned, turned-by, Able, Move, counted, members-in, Packed, Reads, Blank, ReadsInto, outcome-said, segment-codes}
 use Rattle.narrowed.specs.declared.Outcome.{Outcome}
 use Rattle.narrowed.specs.declared.Outcome.the-variants as outcome
 use Rattle.narrowed.specs.declared.Members.{Members}
 use Rattle.narrowed.specs.declared.Marks.{Marks}
 use Rattle.narrowed.specs.Said as said
 use Rattle.symbols.specs.declared.Stack.{Stack}
-use Rattle.fields.proofs.Bools.{not-got}
+use Rattle.fields.proofs.Bools.{not-got, told-refused}
 use Rattle.fields.proofs.Fields.{found}
 use Rattle.narrowed.proofs.Moves.{moves, count-go, open-go}
 use Rattle.narrowed.proofs.Tracks.{Tracks, tracks-start, total, open-list, Shut, tracks-ends, tracks-wrong, tracks-able, tracks-stop, tracks-go, tracks-open, tracks-more, last-few, last-members, last-total, last-opened, tracks-order, tracks-done}
@@ -39,9 +41,20 @@ pub record Reading (s : List ℕ) (st : Standing) (at done prev first used : ℕ
 reading-start : (s : List ℕ) → Reading s Head 0 0 0 0 0 (replicate 128 0) (replicate 128 0) (replicate 128 0) (replicate 6144 0) (replicate 6144 0)
 reading-start s = record { P = []; ms = []; f = 0; t = 0; xs = []; tracks = tracks-start s; filled = filled-start }
 
--- a refusal hands out no member
-pub reads-refused : {a : Answer (List Flat)} {i j : ℕ} {o : Outcome} {q : Members} → a ≡ refused i j → outcome-said o ≡ refused i j → Packed [] q → Reads a o q
-reads-refused {q = q} e h p = record { outcome = h ∙ ap counted (sym e); members = subst (λ b. Packed (members-in b) q) (sym e) p }
+-- of a refused file nothing is said of the arrays
+pub into-refused : {a : Answer (List Flat)} {r : Refusal} {sizes from to numbers sets : List ℕ} → a ≡ refusal-said r → ReadsInto a (outcome.Refused r) sizes from to numbers sets
+into-refused e = record { outcome = ap counted (sym e); members = λ n h. let z : _≡_ {A = ℕ} 0 1 = cc in absurd (omega arith) }
+
+-- ---- the arrays by value
+module _ {a : Answer (List Flat)} {o : Outcome} {sizes from to numbers sets : List ℕ} (h : ReadsInto a o sizes from to numbers sets) {x : Outcome} {q : Members} where
+  -- a refusal hands out no member
+  pub reads-refused : {r : Refusal} → o ≡ outcome.Refused r → (x ≡ outcome.Refused r) × Packed [] q → Reads a x q
+  reads-refused {r} e f =
+      let g = told-refused _ a (number-of r) (place-of r) (sym (ap outcome-said e) ∙ h .outcome) in
+      record { outcome = ap outcome-said (f .0) ∙ ap counted (sym g); members = subst (λ b. Packed (members-in b) q) (sym g) (f .1) }
+
+  pub reads-accepted : {n : ℕ} → o ≡ outcome.Accepted n → (x ≡ outcome.Accepted n) × (q ≡ arrays n sizes from to numbers sets) → Reads a x q
+  reads-accepted e f = rw (f .0, f .1) (record { outcome = sym (ap outcome-said e) ∙ h .outcome; members = h .members _ e })
 
 module _ {s : List ℕ} {st : Standing} {at done prev first used : ℕ} {sizes from to numbers sets : List ℕ} (r : Reading s st at done prev first used sizes from to numbers sets) where
   -- no member is open
@@ -223,8 +236,10 @@ pub last-moves : (c k l p : ℕ) → last c k l p ≡ said.ends → ⊥
 last-moves c k l p e = let z : _≡_ {A = ℕ} 0 1 = cc in absurd (omega arith)
 
 module _ {s : List ℕ} {st : Standing} {at done prev first used : ℕ} {sizes from to numbers sets : List ℕ} (r : Reading s st at done prev first used sizes from to numbers sets) where
-  pub turn-ends : turned st at s ≡ got said.ends → Reads (read narrowed-form s) (outcome.Accepted done) (arrays done sizes from to numbers sets)
-  turn-ends e = let a = reading-ends r (turn-end s st at e) in record { outcome = a .0; members = a .1 }
+  pub turn-ends : turned st at s ≡ got said.ends → ReadsInto (read narrowed-form s) (outcome.Accepted done) sizes from to numbers sets
+  turn-ends e =
+      let a = reading-ends r (turn-end s st at e) in
+      record { outcome = a .0; members = λ n h. let z : done ≡ n = cc in subst (λ (i : ℕ). Packed (members-in (read narrowed-form s)) (arrays i sizes from to numbers sets)) z (a .1) }
 
   pub turn-stop : (i j : ℕ) → turned st at s ≡ refused i j → read narrowed-form s ≡ refused i j
   unfolding turned
@@ -287,8 +302,14 @@ Long a b c n m = (length a ≡ 128) × (length b ≡ 128) × (length c ≡ 128) 
 abbrev pub At : List ℕ → List ℕ → List ℕ → List ℕ → List ℕ → List ℕ → Marks → Type 0
 At s a b c n m k = Reading s (k .st) (k .at) (k .done) (k .prev) (k .first) (k .used) a b c n m × Long a b c n m
 
-pub at-start : (s : List ℕ) → At s (replicate 128 0) (replicate 128 0) (replicate 128 0) (replicate 6144 0) (replicate 6144 0) (marked Head 0 0 0 0 0)
-at-start s = (reading-start s, (length-replicate {A = ℕ} 128 0, length-replicate {A = ℕ} 128 0, length-replicate {A = ℕ} 128 0, length-replicate {A = ℕ} 6144 0, length-replicate {A = ℕ} 6144 0))
+pub blank-long : {a b c n m : List ℕ} → Blank a b c n m → Long a b c n m
+blank-long h =
+    let short : length {A = ℕ} (replicate 128 0) ≡ 128 = length-replicate {A = ℕ} 128 0 in
+    let long : length {A = ℕ} (replicate 6144 0) ≡ 6144 = length-replicate {A = ℕ} 6144 0 in
+    (ap length (h .sizes) ∙ short, ap length (h .from) ∙ short, ap length (h .to) ∙ short, ap length (h .numbers) ∙ long, ap length (h .sets) ∙ long)
+
+pub at-start : (s : List ℕ) {a b c n m : List ℕ} → Blank a b c n m → At s a b c n m (marked Head 0 0 0 0 0)
+at-start s h = (rw (h .sizes, h .from, h .to, h .numbers, h .sets) (reading-start s), blank-long h)
 
 module _ (s sizes from to numbers sets : List ℕ) (k : Marks) (h : At s sizes from to numbers sets k) where
   abbrev place : ℕ

@@ -5,7 +5,7 @@ use mathlib.Core.Bool.{false, cond, _&&_}
 use mathlib.Core.List.{List, [], map}
 use Prim.Native.Nat.{ℕ, _+_, _-_, _<_}
 use lib.Dec.{leb, eqb}
-use lib.ListN.{length, getD, take, drop}
+use lib.ListN.{length, getD, take, drop, replicate}
 use Rattle.theory.specs.Lists.{concat-map}
 use Rattle.fields.specs.declared.File.the-variants as file
 use Rattle.fields.specs.declared.Due.{Due}
@@ -18,7 +18,7 @@ use Rattle.fields.specs.Said.{refusal-said}
 use Rattle.symbols.specs.Symbols.{Numbered, order-code, symbol-in, symbol-length, arity, push, due-symbols}
 use Rattle.narrowed.specs.declared.Members.{Members}
 use Rattle.narrowed.specs.declared.Outcome.{Outcome}
-use Rattle.narrowed.specs.declared.Outcome.the-variants as outcome
+use Rattle.narrowed.specs.declared.Outcome.the-variants.{Accepted, Refused}
 use Rattle.narrowed.specs.declared.Marks.{Marks}
 use Rattle.narrowed.specs.declared.Standing.{Standing}
 use Rattle.narrowed.specs.declared.Standing.the-variants.{Head, Between, Within}
@@ -54,8 +54,8 @@ pub record Packed (ms : List Flat) (q : Members) : Type 0 where
 
 -- ---- the outcome
 abbrev pub outcome-said : Outcome → Answer ℕ
-outcome-said (outcome.Accepted n) = got n
-outcome-said (outcome.Refused r) = refusal-said r
+outcome-said (Accepted n) = got n
+outcome-said (Refused r) = refusal-said r
 
 abbrev pub counted : Answer (List Flat) → Answer ℕ
 counted a = onward (λ ms. got (length ms)) a
@@ -68,6 +68,23 @@ members-in (refused n p) = []
 pub record Reads (a : Answer (List Flat)) (o : Outcome) (q : Members) : Type 0 where
   pub outcome : outcome-said o ≡ counted a
   pub members : Packed (members-in a) q
+
+-- ---- the same, into arrays that are lent
+abbrev pub arrays : ℕ → List ℕ → List ℕ → List ℕ → List ℕ → List ℕ → Members
+arrays count sizes from to numbers sets = record { count = count; sizes = sizes; from = from; to = to; numbers = numbers; sets = sets }
+
+-- as they start
+pub record Blank (a b c n m : List ℕ) : Type 0 where
+  pub sizes : a ≡ replicate 128 0
+  pub from : b ≡ replicate 128 0
+  pub to : c ≡ replicate 128 0
+  pub numbers : n ≡ replicate 6144 0
+  pub sets : m ≡ replicate 6144 0
+
+-- the members of an accepted file; of a refused one nothing is said
+pub record ReadsInto (a : Answer (List Flat)) (o : Outcome) (sizes from to numbers sets : List ℕ) : Type 0 where
+  pub outcome : outcome-said o ≡ counted a
+  pub members : (n : ℕ) → o ≡ Accepted n → Packed (members-in a) (arrays n sizes from to numbers sets)
 
 -- ---- one turn: what the code computes on the way; nothing that is handed on rests on it
 abbrev pub due-of : Standing → Due
@@ -140,6 +157,3 @@ turned st at s = turned-by st at s (field-at (due-of st) s at)
 
 abbrev pub marked : Standing → ℕ → ℕ → ℕ → ℕ → ℕ → Marks
 marked st at done prev first used = record { st = st; at = at; done = done; prev = prev; first = first; used = used }
-
-abbrev pub arrays : ℕ → List ℕ → List ℕ → List ℕ → List ℕ → List ℕ → Members
-arrays count sizes from to numbers sets = record { count = count; sizes = sizes; from = from; to = to; numbers = numbers; sets = sets }

@@ -1,4 +1,4 @@
-// Reads a narrowed question's file: its members, by value.
+// Reads a narrowed question's file: its members, into arrays that are lent or by value.
 use fields::Due;
 use fields::File;
 use fields::Refusal;
@@ -15,7 +15,7 @@ ghost use Rattle.fields.specs.Table.{tag-length};
 ghost use Rattle.fields.specs.Reading.{read as read-file, word};
 ghost use Rattle.symbols.specs.Symbols.{order-code, symbol-length};
 ghost use Rattle.narrowed.specs.Form.{narrowed-form};
-ghost use Rattle.narrowed.specs.Said.{Reads, segment-codes, due-of, count-of, open-move, symbol-move, judged, Ready, turn-said, Packed, Able, turned, marked, arrays};
+ghost use Rattle.narrowed.specs.Said.{Reads, Blank, ReadsInto, segment-codes, due-of, count-of, open-move, symbol-move, judged, Ready, turn-said, Packed, Able, turned, marked, arrays};
 
 // The number of members, or why the file is refused.
 pub enum Outcome {
@@ -335,7 +335,52 @@ fn keep(numbers: &mut [u8], sets: &mut [u64], i: usize, c: u8, m: u64)
     sets[i] = m;
 }
 
-// Reads a narrowed question's file.
+// Reads a narrowed question's file into arrays that are lent, all zero. Of a refused file they hold what was read of it.
+pub fn read_into(
+    s: &[u8],
+    sizes: &mut [u8],
+    from: &mut [u64],
+    to: &mut [u64],
+    numbers: &mut [u8],
+    sets: &mut [u64],
+) -> Outcome
+    requires { ⌜ Blank (now sizes) (now from) (now to) (now numbers) (now sets) ⌝ }
+    ensures { λ o. ⌜ ReadsInto (read-file narrowed-form (now (s .entry))) o (now (sizes .exit)) (now (from .exit)) (now (to .exit)) (now (numbers .exit)) (now (sets .exit)) ⌝ }
+{
+    let mut k = start();
+    loop {
+        let st = k.st;
+        match look(s, st, k.at) {
+            Turn::Ends => {
+                return Outcome::Accepted(k.done);
+            }
+            Turn::Stop(r) => {
+                return Outcome::Refused(r);
+            }
+            Turn::Go(w) => {
+                k = past(k, next_at(s, k.at), w);
+            }
+            Turn::Open(n, f, t, w) => {
+                keep_head(sizes, from, to, k.done, n, f, t);
+                k = past(k, next_at(s, k.at), w);
+            }
+            Turn::More(c, m, w) => {
+                keep(numbers, sets, k.used, c, m);
+                k = one_more(k, next_at(s, k.at), w);
+            }
+            Turn::Last(c, m, l, p) => {
+                keep(numbers, sets, k.used, c, m);
+                if earlier(numbers, k.prev, k.first, k.used + 1) {
+                    k = closed(k, next_at(s, k.at), l);
+                } else {
+                    return Outcome::Refused(Refusal::NotAscending(p));
+                }
+            }
+        }
+    }
+}
+
+// The same, with the arrays by value.
 pub fn read(s: &[u8]) -> Narrowed
     ensures { λ r. ⌜ Reads (read-file narrowed-form (now (s .entry))) (r .outcome) (r .members) ⌝ }
 {
@@ -344,35 +389,8 @@ pub fn read(s: &[u8]) -> Narrowed
     let mut to = [0u64; 128];
     let mut numbers = [0u8; 6144];
     let mut sets = [0u64; 6144];
-    let mut k = start();
-    loop {
-        let st = k.st;
-        match look(s, st, k.at) {
-            Turn::Ends => {
-                return accepted(k.done, sizes, from, to, numbers, sets);
-            }
-            Turn::Stop(r) => {
-                return refused(r);
-            }
-            Turn::Go(w) => {
-                k = past(k, next_at(s, k.at), w);
-            }
-            Turn::Open(n, f, t, w) => {
-                keep_head(&mut sizes, &mut from, &mut to, k.done, n, f, t);
-                k = past(k, next_at(s, k.at), w);
-            }
-            Turn::More(c, m, w) => {
-                keep(&mut numbers, &mut sets, k.used, c, m);
-                k = one_more(k, next_at(s, k.at), w);
-            }
-            Turn::Last(c, m, l, p) => {
-                keep(&mut numbers, &mut sets, k.used, c, m);
-                if earlier(&numbers, k.prev, k.first, k.used + 1) {
-                    k = closed(k, next_at(s, k.at), l);
-                } else {
-                    return refused(Refusal::NotAscending(p));
-                }
-            }
-        }
+    match read_into(s, &mut sizes, &mut from, &mut to, &mut numbers, &mut sets) {
+        Outcome::Refused(r) => refused(r),
+        Outcome::Accepted(count) => accepted(count, sizes, from, to, numbers, sets),
     }
 }

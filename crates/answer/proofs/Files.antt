@@ -19,7 +19,6 @@ use Rattle.fields.specs.Writing.{Bytes}
 use Rattle.question.specs.declared.Outcome as question·Outcome
 use Rattle.question.specs.declared.Outcome.the-variants as question·outcome
 use Rattle.question.specs.Form.{question-symbols}
-use Rattle.question.specs.Said.{Reads}
 use Rattle.question.proofs.Paths.{accepted-question}
 use Rattle.question.proofs.Told.{Told}
 use Rattle.register.specs.declared.Outcome as register·Outcome
@@ -31,13 +30,12 @@ use Rattle.narrowed.specs.declared.Members.{Members}
 use Rattle.narrowed.specs.Form.{Flat, narrowed-form}
 use Rattle.narrowed.specs.Formed.{WellFormed}
 use Rattle.narrowed.specs.Given.{given}
-use Rattle.narrowed.specs.Said.{Packed, members-in, outcome-said as narrowed-said}
-use Rattle.narrowed.specs.Said as narrowed·Said
+use Rattle.narrowed.specs.Said.{Packed, ReadsInto, members-in, outcome-said as narrowed-said}
 use Rattle.narrowed.proofs.Handed.{heads, packed-given}
 use Rattle.narrowed.proofs.Back.{accepted-formed}
 use Rattle.evaluation.specs.Ground.{symbols-in, MakePath}
 use Rattle.evaluation.proofs.Numbers.{set-ignored}
-use Rattle.answer.specs.Said.{Readable}
+use Rattle.answer.specs.Said.{Readable, lent}
 
 -- ---- a question
 -- codes in an array, with sets that are 0
@@ -64,17 +62,21 @@ question-accepted s codes count cs t =
     record { few = omega (arith, t .many, few); full = ap length (t .array) ∙ pad-length 32 cs few; symbols = back; makes = (p, ap path-of back ∙ q .path) }
 
 -- ---- a narrowed question
-module _ (s : List ℕ) (o : narrowed·Outcome.Outcome) (q : Members) (h : narrowed·Said.Reads (read narrowed-form s) o q) where
+module _ (s : List ℕ) (o : narrowed·Outcome.Outcome) (sizes from to numbers sets : List ℕ) (h : ReadsInto (read narrowed-form s) o sizes from to numbers sets) where
   pub file-refused : (x : Refusal) → o ≡ narrowed·outcome.Refused x → read narrowed-form s ≡ refused (number-of x) (place-of x)
   file-refused x e = told-refused _ (read narrowed-form s) (number-of x) (place-of x) (sym (ap narrowed-said e) ∙ h .outcome)
 
-  -- the members handed on are those of the file
-  pub file-given : (ms : List Flat) → read narrowed-form s ≡ got ms → WellFormed ms → given q ≡ ms
-  file-given ms a f = packed-given q ms f (subst (λ (l : List Flat). Packed l q) (ap members-in a) (h .members))
+  module _ (n : ℕ) (e : o ≡ narrowed·outcome.Accepted n) where
+    abbrev q : Members
+    q = lent n sizes from to numbers sets
 
-  pub file-accepted : Bytes s → (n : ℕ) → o ≡ narrowed·outcome.Accepted n → (read narrowed-form s ≡ got (given q)) × Readable q
-  file-accepted bytes n e =
-      let (ms, a, b) = onward-got (λ ms. got (length ms)) (read narrowed-form s) n (sym (h .outcome) ∙ ap narrowed-said e) in
-      let f = accepted-formed s bytes ms a in
-      let g = file-given ms a f in
-      (a ∙ ap got (sym g), subst WellFormed (sym g) f)
+    -- the members in the arrays are those of the file
+    pub file-given : (ms : List Flat) → read narrowed-form s ≡ got ms → WellFormed ms → given q ≡ ms
+    file-given ms a f = packed-given q ms f (subst (λ (l : List Flat). Packed l q) (ap members-in a) (h .members n e))
+
+    pub file-accepted : Bytes s → (read narrowed-form s ≡ got (given q)) × Readable q
+    file-accepted bytes =
+        let (ms, a, b) = onward-got (λ ms. got (length ms)) (read narrowed-form s) n (sym (h .outcome) ∙ ap narrowed-said e) in
+        let f = accepted-formed s bytes ms a in
+        let g = file-given ms a f in
+        (a ∙ ap got (sym g), subst WellFormed (sym g) f)

@@ -3,7 +3,7 @@
 use mathlib.Core.Path.{_≡_}
 use mathlib.Core.Bool.{Bool, _||_, cond}
 use mathlib.Core.List.{List}
-use Prim.Native.Nat.{ℕ, _*_}
+use Prim.Native.Nat.{ℕ, _*_, _≤_}
 use lib.Dec.{ltb}
 use lib.ListN.{length}
 use lib.Seq.{sets}
@@ -45,3 +45,7 @@ Readable q = WellFormed (given q)
 -- the members in arrays that are lent
 abbrev pub lent : ℕ → List ℕ → List ℕ → List ℕ → List ℕ → List ℕ → Members
 lent count sizes from to numbers sets = record { count = count; sizes = sizes; from = from; to = to; numbers = numbers; sets = sets }
+
+-- of the lengths that they need
+abbrev pub Long : List ℕ → List ℕ → List ℕ → List ℕ → List ℕ → Type 0
+Long sizes from to numbers sets = (128 ≤ length sizes) × (128 ≤ length from) × (128 ≤ length to) × (6144 ≤ length numbers) × (6144 ≤ length sets)

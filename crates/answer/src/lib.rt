@@ -2,7 +2,6 @@
 use fields::Outcome;
 use fields::Refusal;
 use fields::Source;
-use narrowed::Members;
 ghost use mathlib.Core.Path.{_≡_};
 ghost use mathlib.Core.Option.{some};
 ghost use Prim.Native.Nat.{_+_, _*_, _<_, _≤_};
@@ -23,7 +22,7 @@ ghost use Rattle.kind_rows.specs.Kinds.{KindRows};
 ghost use Rattle.chains.specs.Chain.{Held};
 ghost use Rattle.chains.specs.Route.{Routed, Leads};
 ghost use Rattle.answer.specs.Calls.{answered, asked, members-of, plain-call, narrowed-call};
-ghost use Rattle.answer.specs.Said.{Answers, Fills, Adds, Readable, lent};
+ghost use Rattle.answer.specs.Said.{Answers, Fills, Adds, Readable, Long, lent};
 
 // The words of a row of n records.
 pub fn row_words(n: usize) -> usize
@@ -248,31 +247,33 @@ fn add_members(
 
 // The pairs of the members, as the answer's words.
 pub fn set_members(
-    q: Members,
+    count: usize,
+    sizes: &[u8],
+    from: &[u64],
+    to: &[u64],
+    numbers: &[u8],
+    sets: &[u64],
     register: &[u8],
     n: usize,
     w: usize,
     work: &mut [u64],
     answer: &mut [u64],
 )
-    requires { ⌜ Readable q × Ground (now register) n w × (28 * (n * w) ≤ length (now work)) × (n * w ≤ length (now answer)) ⌝ }
-    ensures { λ _. ⌜ Fills n w (narrowed-answer (register-in (now (register .entry))) (members-of (given q))) outcome.Accepted
+    requires { ⌜ Readable (lent count (now sizes) (now from) (now to) (now numbers) (now sets)) × Ground (now register) n w × (28 * (n * w) ≤ length (now work)) × (n * w ≤ length (now answer)) ⌝ }
+    requires { ⌜ Long (now sizes) (now from) (now to) (now numbers) (now sets) ⌝ }
+    ensures { λ _. ⌜ Fills n w
+        (narrowed-answer (register-in (now (register .entry))) (members-of (given (lent count (now (sizes .entry)) (now (from .entry)) (now (to .entry)) (now (numbers .entry)) (now (sets .entry)))))) outcome.Accepted
         (now (work .entry)) (now (work .exit)) (now (answer .entry)) (now (answer .exit)) ⌝ }
 {
-    let sizes = q.sizes;
-    let from = q.from;
-    let to = q.to;
-    let numbers = q.numbers;
-    let sets = q.sets;
     let room = n * w;
     rows::clear(answer, 0, room);
     add_members(
-        q.count,
-        &sizes,
-        &from,
-        &to,
-        &numbers,
-        &sets,
+        count,
+        sizes,
+        from,
+        to,
+        numbers,
+        sets,
         register,
         n,
         w,
@@ -283,35 +284,61 @@ pub fn set_members(
 
 // 14; or the pairs of the members.
 fn narrowed_words(
-    q: Members,
+    count: usize,
+    sizes: &[u8],
+    from: &[u64],
+    to: &[u64],
+    numbers: &[u8],
+    sets: &[u64],
     register: &[u8],
     n: usize,
     w: usize,
     work: &mut [u64],
     answer: &mut [u64],
 ) -> Outcome
-    requires { ⌜ Readable q × Ground (now register) n w × (28 * (n * w) ≤ length (now work)) ⌝ }
-    ensures { λ o. ⌜ Fills n w (narrowed-answer (register-in (now (register .entry))) (members-of (given q))) o
+    requires { ⌜ Readable (lent count (now sizes) (now from) (now to) (now numbers) (now sets)) × Ground (now register) n w × (28 * (n * w) ≤ length (now work)) ⌝ }
+    requires { ⌜ Long (now sizes) (now from) (now to) (now numbers) (now sets) ⌝ }
+    ensures { λ o. ⌜ Fills n w
+        (narrowed-answer (register-in (now (register .entry))) (members-of (given (lent count (now (sizes .entry)) (now (from .entry)) (now (to .entry)) (now (numbers .entry)) (now (sets .entry)))))) o
         (now (work .entry)) (now (work .exit)) (now (answer .entry)) (now (answer .exit)) ⌝ }
 {
     let room = n * w;
     if answer.len() < room {
         return Outcome::Refused(Source::Work, Refusal::AreaShort(room));
     }
-    set_members(q, register, n, w, work, answer);
+    set_members(
+        count,
+        sizes,
+        from,
+        to,
+        numbers,
+        sets,
+        register,
+        n,
+        w,
+        work,
+        answer,
+    );
     Outcome::Accepted
 }
 
 // 15; or what comes of it, after which the work words are zero.
 fn narrowed_in(
-    q: Members,
+    count: usize,
+    sizes: &[u8],
+    from: &[u64],
+    to: &[u64],
+    numbers: &[u8],
+    sets: &[u64],
     register: &[u8],
     n: usize,
     work: &mut [u64],
     answer: &mut [u64],
 ) -> Outcome
-    requires { ⌜ Readable q × Accepted (now register) × (records (register-in (now register)) ≡ n) ⌝ }
-    ensures { λ o. ⌜ Answers (answered (register-in (now (register .entry))) (narrowed-answer (register-in (now (register .entry))) (members-of (given q)))
+    requires { ⌜ Readable (lent count (now sizes) (now from) (now to) (now numbers) (now sets)) × Accepted (now register) × (records (register-in (now register)) ≡ n) ⌝ }
+    requires { ⌜ Long (now sizes) (now from) (now to) (now numbers) (now sets) ⌝ }
+    ensures { λ o. ⌜ Answers (answered (register-in (now (register .entry)))
+        (narrowed-answer (register-in (now (register .entry))) (members-of (given (lent count (now (sizes .entry)) (now (from .entry)) (now (to .entry)) (now (numbers .entry)) (now (sets .entry))))))
         (now (work .entry)) (now (answer .entry))) o (now (work .exit)) (now (answer .exit)) ⌝ }
 {
     let w = row_words(n);
@@ -319,7 +346,19 @@ fn narrowed_in(
     if work.len() < room {
         return Outcome::Refused(Source::Work, Refusal::WorkShort(room));
     }
-    let o = narrowed_words(q, register, n, w, work, answer);
+    let o = narrowed_words(
+        count,
+        sizes,
+        from,
+        to,
+        numbers,
+        sets,
+        register,
+        n,
+        w,
+        work,
+        answer,
+    );
     rows::clear(work, 0, room);
     o
 }
@@ -333,14 +372,34 @@ pub fn narrowed_answer(
 ) -> Outcome
     ensures { λ o. ⌜ Answers (narrowed-call (now (narrowed .entry)) (now (register .entry)) (now (work .entry)) (now (answer .entry))) o (now (work .exit)) (now (answer .exit)) ⌝ }
 {
-    let q = narrowed::read(narrowed);
-    let outcome = q.outcome;
-    let members = q.members;
-    match outcome {
+    let mut sizes = [0u8; 128];
+    let mut from = [0u64; 128];
+    let mut to = [0u64; 128];
+    let mut numbers = [0u8; 6144];
+    let mut sets = [0u64; 6144];
+    match narrowed::read_into(
+        narrowed,
+        &mut sizes,
+        &mut from,
+        &mut to,
+        &mut numbers,
+        &mut sets,
+    ) {
         narrowed::Outcome::Refused(r) => Outcome::Refused(Source::Narrowed, r),
-        narrowed::Outcome::Accepted(_) => match register::read(register) {
+        narrowed::Outcome::Accepted(count) => match register::read(register) {
             register::Outcome::Refused(r) => Outcome::Refused(Source::Register, r),
-            register::Outcome::Accepted(n, _) => narrowed_in(members, register, n, work, answer),
+            register::Outcome::Accepted(n, _) => narrowed_in(
+                count,
+                &sizes,
+                &from,
+                &to,
+                &numbers,
+                &sets,
+                register,
+                n,
+                work,
+                answer,
+            ),
         },
     }
 }

@@ -1,23 +1,24 @@
--- `answer::narrowed_words` meets its contract.
+-- `answer::narrowed_words` meets its contract: 14, or the words that `set_members` wrote.
 -- Assumes nothing.
+use native.Mathlib.Omega.{arith}
+use Rattle.evaluation.proofs.Grounds.{small}
+use Rattle.answer.proofs.Answered.{fills-short}
 use borrow.Author.Needs.{needs}
 use Rattle.answer.proofs.narrowed_words.Statement.{statement}
 use Rattle.answer.proofs.narrowed_words.Tie as tie
-use Rattle.answer.proofs.narrowed_words.Reads as reads
-use Rattle.answer.proofs.narrowed_words.Lts as lts
-use Rattle.answer.proofs.set_members.Reads as set-members-reads
-use Rattle.answer.proofs.Answered.{fills-short}
-use Rattle.evaluation.proofs.Grounds.{small}
-use native.Mathlib.Omega.{arith}
 
 mul-room : tie.Need-mul-room
-mul-room c = omega (arith, small (c .before .before .before .pre .1))
+mul-room c = omega (arith, small (c .before .before .before .before .before .before .before .before .pre .0 .1))
 
 returns : tie.Need-returns
 returns c = fills-short _ _ (c .if1 .taken)
 
 set-members-requires : tie.Need-set-members-requires
-set-members-requires c κs = let r = c .before .before .before .before .before .before .pre in (r .0, r .1, r .2, c .before .before .if1 .left)
+set-members-requires c κs =
+    let c2 = c .before .before in
+    let c11 = c2 .before .before .before .before .before .before .before .before .before in
+    let (r, long) = c11 .pre in
+    ((r .0, r .1, r .2, c2 .if1 .left), long)
 
 same-length : tie.Need-same-length
 same-length c = search needs
@@ -30,4 +31,11 @@ returns-2 c = c .before .before .before .before .set-members .ensures
 
 pub narrowed-words-spec : {M : Type 1} → statement M
 narrowed-words-spec =
-    tie.close (tie.spec mul-room returns set-members-requires same-length same-length-2 returns-2)
+    tie.close
+    (tie.spec
+    mul-room
+    returns
+    set-members-requires
+    same-length
+    same-length-2
+    returns-2)

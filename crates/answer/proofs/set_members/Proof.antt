@@ -1,48 +1,24 @@
 -- `answer::set_members` meets its contract: the answer was cleared, and each member's pairs were added.
 -- Assumes nothing.
-use mathlib.Core.Path.{_≡_}
-use lib.ListN.{length}
 use native.Mathlib.Omega.{arith}
 use Rattle.evaluation.proofs.Grounds.{small}
 use Rattle.answer.proofs.Answered.{fills-narrowed}
 use borrow.Author.Needs.{needs}
 use Rattle.answer.proofs.set_members.Statement.{statement}
 use Rattle.answer.proofs.set_members.Tie as tie
-use Rattle.answer.proofs.set_members.Reads as reads
-use Rattle.answer.proofs.set_members.Lts as lts
-use Rattle.answer.proofs.add_members.Reads as add-members-reads
-use Rattle.rows.proofs.clear.Reads as clear-reads
 
 mul-room : tie.Need-mul-room
-mul-room c = omega (arith, small (c .before .before .before .before .before .before .before .before .pre .1))
+mul-room c = omega (arith, small (c .before .before .before .before .before .before .before .before .pre .0 .1))
 
 clear-requires : tie.Need-clear-requires
-clear-requires c κs = omega (arith, c .before .before .before .before .before .before .before .before .before .pre .3)
-
-slice-aggregate-add-members : tie.Need-slice-aggregate-add-members
-slice-aggregate-add-members c = search needs
-
-slice-aggregate-add-members-2 : tie.Need-slice-aggregate-add-members-2
-slice-aggregate-add-members-2 c = search needs
-
-slice-aggregate-add-members-3 : tie.Need-slice-aggregate-add-members-3
-slice-aggregate-add-members-3 c = search needs
-
-slice-aggregate-add-members-4 : tie.Need-slice-aggregate-add-members-4
-slice-aggregate-add-members-4 c = search needs
-
-slice-aggregate-add-members-5 : tie.Need-slice-aggregate-add-members-5
-slice-aggregate-add-members-5 c = search needs
+clear-requires c κs = omega (arith, c .before .before .before .before .before .before .before .before .before .pre .0 .3)
 
 add-members-requires : tie.Need-add-members-requires
 add-members-requires c κs =
-    let a : length (c .before .before .before .before .before .before .before .before .before .before .before .before .before .before .before .before .before .before .before .args .q .sizes) ≡ 128 = search needs in
-    let b : length (c .before .before .before .before .before .before .before .before .before .before .before .before .before .before .before .before .before .before .before .args .q .from) ≡ 128 = search needs in
-    let d : length (c .before .before .before .before .before .before .before .before .before .before .before .before .before .before .before .before .before .before .before .args .q .to) ≡ 128 = search needs in
-    let e : length (c .before .before .before .before .before .before .before .before .before .before .before .before .before .before .before .before .before .before .before .args .q .numbers) ≡ 6144 = search needs in
-    let f : length (c .before .before .before .before .before .before .before .before .before .before .before .before .before .before .before .before .before .before .before .args .q .sets) ≡ 6144 = search needs in
-    let r = c .before .before .before .before .before .before .before .before .before .before .before .before .before .before .before .before .before .before .before .pre in
-    ((r .0, r .1, r .2, omega (arith, r .3, c .before .before .before .before .before .before .before .before .before .clear .ensures .kept .len)), (omega (arith, a), omega (arith, b), omega (arith, d), omega (arith, e), omega (arith, f)))
+    let c4 = c .before .before .before .before in
+    let c14 = c4 .before .before .before .before .before .before .before .before .before .before in
+    let (r, long) = c14 .pre in
+    ((r .0, r .1, r .2, omega (arith, r .3, c4 .clear .ensures .kept .len)), long)
 
 same-length : tie.Need-same-length
 same-length c = search needs
@@ -51,7 +27,12 @@ same-length-2 : tie.Need-same-length-2
 same-length-2 c = search needs
 
 returns : tie.Need-returns
-returns c = let r = c .before .before .before .before .before .before .before .before .before .before .before .before .before .before .before .before .before .before .before .before .before .before .before .before .pre in fills-narrowed (r .1) (omega (arith, r .3)) (λ i. omega (arith, c .slice-known5 .given i)) _ (c .before .before .before .before .before .before .before .before .before .before .before .before .before .before .clear .ensures) (c .before .before .before .before .add-members .ensures)
+returns c =
+    let c4 = c .before .before .before .before in
+    let c9 = c4 .before .before .before .before .before in
+    let c19 = c9 .before .before .before .before .before .before .before .before .before .before in
+    let r = c19 .pre .0 in
+    fills-narrowed (r .1) (omega (arith, r .3)) (λ i. omega (arith, c .slice-known5 .given i)) _ (c9 .clear .ensures) (c4 .add-members .ensures)
 
 pub set-members-spec : {M : Type 1} → statement M
 set-members-spec =
@@ -59,11 +40,6 @@ set-members-spec =
     (tie.spec
     mul-room
     clear-requires
-    slice-aggregate-add-members
-    slice-aggregate-add-members-2
-    slice-aggregate-add-members-3
-    slice-aggregate-add-members-4
-    slice-aggregate-add-members-5
     add-members-requires
     same-length
     same-length-2

@@ -48,9 +48,38 @@ fn answer_file(
     requires { ⌜ HasMembers bytes (now area) × Ground (now register) n w × (28 * (n * w) ≤ length (now work)) × (n * w ≤ length (now answer)) ⌝ }
     ensures { λ _. ⌜ Answers-file (take bytes (now (area .entry))) (register-in (now (register .entry))) n w (now (work .entry)) (now (work .exit)) (now (answer .entry)) (now (answer .exit)) ⌝ }
 {
-    let q = narrowed::read(file_in(area, bytes));
-    let members = q.members;
-    answer::set_members(members, register, n, w, work, answer);
+    let mut sizes = [0u8; 128];
+    let mut from = [0u64; 128];
+    let mut to = [0u64; 128];
+    let mut numbers = [0u8; 6144];
+    let mut sets = [0u64; 6144];
+    let file = file_in(area, bytes);
+    match narrowed::read_into(
+        file,
+        &mut sizes,
+        &mut from,
+        &mut to,
+        &mut numbers,
+        &mut sets,
+    ) {
+        // What narrowing wrote is not refused.
+        narrowed::Outcome::Refused(_) => {}
+        narrowed::Outcome::Accepted(count) => {
+            answer::set_members(
+                count,
+                &sizes,
+                &from,
+                &to,
+                &numbers,
+                &sets,
+                register,
+                n,
+                w,
+                work,
+                answer,
+            );
+        }
+    }
 }
 
 // 11, 16, 12 or 13, 14 for the file, or the file and its answer.

@@ -262,8 +262,8 @@ pub fn set_members(
     requires { ⌜ Readable (lent count (now sizes) (now from) (now to) (now numbers) (now sets)) × Ground (now register) n w × (28 * (n * w) ≤ length (now work)) × (n * w ≤ length (now answer)) ⌝ }
     requires { ⌜ Long (now sizes) (now from) (now to) (now numbers) (now sets) ⌝ }
     ensures { λ _. ⌜ Fills n w
-        (narrowed-answer (register-in (now (register .entry))) (members-of (given (lent count (now (sizes .entry)) (now (from .entry)) (now (to .entry)) (now (numbers .entry)) (now (sets .entry)))))) outcome.Accepted
-        (now (work .entry)) (now (work .exit)) (now (answer .entry)) (now (answer .exit)) ⌝ }
+        (narrowed-answer (register-in (now (register .entry))) (members-of (given (lent count (now (sizes .entry)) (now (from .entry)) (now (to .entry)) (now (numbers .entry)) (now (sets .entry))))))
+        outcome.Accepted (now (work .entry)) (now (work .exit)) (now (answer .entry)) (now (answer .exit)) ⌝ }
 {
     let room = n * w;
     rows::clear(answer, 0, room);
@@ -299,8 +299,8 @@ fn narrowed_words(
     requires { ⌜ Readable (lent count (now sizes) (now from) (now to) (now numbers) (now sets)) × Ground (now register) n w × (28 * (n * w) ≤ length (now work)) ⌝ }
     requires { ⌜ Long (now sizes) (now from) (now to) (now numbers) (now sets) ⌝ }
     ensures { λ o. ⌜ Fills n w
-        (narrowed-answer (register-in (now (register .entry))) (members-of (given (lent count (now (sizes .entry)) (now (from .entry)) (now (to .entry)) (now (numbers .entry)) (now (sets .entry)))))) o
-        (now (work .entry)) (now (work .exit)) (now (answer .entry)) (now (answer .exit)) ⌝ }
+        (narrowed-answer (register-in (now (register .entry))) (members-of (given (lent count (now (sizes .entry)) (now (from .entry)) (now (to .entry)) (now (numbers .entry)) (now (sets .entry))))))
+        o (now (work .entry)) (now (work .exit)) (now (answer .entry)) (now (answer .exit)) ⌝ }
 {
     let room = n * w;
     if answer.len() < room {

@@ -4,11 +4,6 @@ use Rattle.narrowed.proofs.Loop.{reads-refused, reads-accepted}
 use borrow.Author.Needs.{needs}
 use Rattle.narrowed.proofs.read.Statement.{statement}
 use Rattle.narrowed.proofs.read.Tie as tie
-use Rattle.narrowed.proofs.read.Reads as reads
-use Rattle.narrowed.proofs.read.Lts as lts
-use Rattle.narrowed.proofs.accepted.Reads as accepted-reads
-use Rattle.narrowed.proofs.read_into.Reads as read-into-reads
-use Rattle.narrowed.proofs.refused.Reads as refused-reads
 
 slice-aggregate-read-into : tie.Need-slice-aggregate-read-into
 slice-aggregate-read-into c = search needs

@@ -11,17 +11,6 @@ use Prim.Native.Nat.{_-_}
 use native.Mathlib.Omega.{arith}
 use Rattle.narrowed.proofs.read_into.Statement.{statement}
 use Rattle.narrowed.proofs.read_into.Tie as tie
-use Rattle.narrowed.proofs.read_into.Reads as reads
-use Rattle.narrowed.proofs.read_into.Lts as lts
-use Rattle.narrowed.proofs.closed.Reads as closed-reads
-use Rattle.narrowed.proofs.earlier.Reads as earlier-reads
-use Rattle.narrowed.proofs.keep.Reads as keep-reads
-use Rattle.narrowed.proofs.keep_head.Reads as keep-head-reads
-use Rattle.narrowed.proofs.look.Reads as look-reads
-use Rattle.narrowed.proofs.next_at.Reads as next-at-reads
-use Rattle.narrowed.proofs.one_more.Reads as one-more-reads
-use Rattle.narrowed.proofs.past.Reads as past-reads
-use Rattle.narrowed.proofs.start.Reads as start-reads
 
 abbrev Inv-loop : tie.InvT-loop
 Inv-loop s sizes₀ from₀ to₀ numbers₀ sets₀ k₀ sizes from to numbers sets k = At s sizes from to numbers sets k

@@ -27,7 +27,7 @@ add-word-requires c κs =
     let c2 = c .before .before in
     let c9 = c2 .before .before .before .before .before .before .before in
     let p = c9 .pre in
-    (p .0, omega (arith, p .1, c2 .loop .inv .1 .kept .len), c .before .loop-test .taken, p .2, p .3, p .4)
+    (p .0, omega (arith, p .1, c2 .loop .inv .1 .kept .len), c .before .loop-test .taken, p .2, p .3, omega (arith, p .2, p .4))
 
 add-i : tie.Need-add-i Inv-loop μ-loop
 add-i c = search needs

@@ -28,10 +28,10 @@ from typing import Iterator, NamedTuple, Optional
 
 from reference import calls, cases, files, generate, narrowing, program, shortening
 from reference.files import Operator, Refusal, Register, Sheet, Step
-from tests.agreement import telling_job
-from tests.answers import SOURCES, marked, refused_cases
-from tests.narrowings import dense_sheet, telling
-from tests.vectors import READERS
+from tests.theory_cases import telling_job
+from tests.test_answers import SOURCES, marked, refused_cases
+from tests.test_narrowing import dense_sheet, telling
+from tests.test_files import READERS
 
 ROOT = Path(__file__).resolve().parent.parent
 PAST = 4  # words and bytes past an area's end that are watched too

@@ -1,4 +1,4 @@
-"""What the scripts of stored vectors share: fields, digests as crates/report makes them, and a program's `stdin` and `stdout`."""
+"""What the scripts of stored vectors share: fields, digests as crates/test_report makes them, and a program's `stdin` and `stdout`."""
 from __future__ import annotations
 
 import sys

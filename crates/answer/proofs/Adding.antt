@@ -14,12 +14,12 @@ use Rattle.theory.specs.Register.{Register}
 use Rattle.theory.specs.Merging.{member}
 use Rattle.theory.specs.Evaluation.{member-answer, narrowed-answer}
 use Rattle.symbols.specs.Symbols.{symbols-given}
-use Rattle.narrowed.specs.declared.Members.{Members}
-use Rattle.narrowed.specs.Form.{Flat, flat}
-use Rattle.narrowed.specs.Formed.{InOrder}
-use Rattle.narrowed.specs.Members.{flat-path}
-use Rattle.narrowed.specs.Given.{members-given, given}
-use Rattle.narrowed.proofs.Paths.{flat-member}
+use Rattle.narrowed_question.specs.declared.Members.{Members}
+use Rattle.narrowed_question.specs.Form.{Flat, flat}
+use Rattle.narrowed_question.specs.Formed.{InOrder}
+use Rattle.narrowed_question.specs.Members.{flat-path}
+use Rattle.narrowed_question.specs.Given.{members-given, given}
+use Rattle.narrowed_question.proofs.Paths.{flat-member}
 use Rattle.rows.specs.Kept.{Kept}
 use Rattle.rows.proofs.Words.{kept-refl, kept-trans, kept-in}
 use Rattle.relation.specs.Pairs.{pair-at}

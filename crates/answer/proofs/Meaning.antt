@@ -28,7 +28,7 @@ use Rattle.fields.specs.Reading.{read}
 use Rattle.question.specs.Form.{question-form, question-symbols}
 use Rattle.register.specs.Form.{register-form}
 use Rattle.register.proofs.AcceptedRegister.{accepted-register}
-use Rattle.narrowed.specs.Form.{Flat, narrowed-form}
+use Rattle.narrowed_question.specs.Form.{Flat, narrowed-form}
 use Rattle.relation.proofs.Making.{row-le}
 use Rattle.answer.specs.Calls.{result, answer-need, work-need, answered, asked, members-of, plain-call, narrowed-call}
 

@@ -24,9 +24,9 @@ use Rattle.fields.specs.Reading.{read}
 use Rattle.question.specs.Form.{question-form, question-symbols}
 use Rattle.register.specs.Form.{register-form}
 use Rattle.register.proofs.AcceptedRegister.{accepted-register}
-use Rattle.narrowed.specs.Members.{flat-of, narrowed-file}
-use Rattle.narrowed.proofs.Formed.{narrowed-back}
-use Rattle.narrowed.proofs.Paths.{path-back}
+use Rattle.narrowed_question.specs.Members.{flat-of, narrowed-file}
+use Rattle.narrowed_question.proofs.Formed.{narrowed-back}
+use Rattle.narrowed_question.proofs.Paths.{path-back}
 use Rattle.answer.specs.Calls.{answer-need, answered, with-path, members-of, plain-call, narrowed-call}
 use Rattle.answer.proofs.Meaning.{word-answered, plain-word, same-narrowed}
 

@@ -20,8 +20,8 @@ use Rattle.fields.specs.Call.{Outcome, accepts, refuses, reading, zeroed}
 use Rattle.fields.specs.Reading.{read}
 use Rattle.question.specs.Form.{question-form, question-symbols}
 use Rattle.register.specs.Form.{register-form}
-use Rattle.narrowed.specs.Form.{Flat, narrowed-form}
-use Rattle.narrowed.specs.Members.{flat-path}
+use Rattle.narrowed_question.specs.Form.{Flat, narrowed-form}
+use Rattle.narrowed_question.specs.Members.{flat-path}
 
 -- the outcome, and the lent areas after the call
 pub record Result : Type 0 where

@@ -13,9 +13,9 @@ use Rattle.fields.specs.declared.Outcome as declared·Outcome
 use Rattle.fields.specs.declared.Source.the-variants as source
 use Rattle.fields.specs.Call.{Outcome, accepts, refuses}
 use Rattle.fields.specs.Said.{outcome-said}
-use Rattle.narrowed.specs.declared.Members.{Members}
-use Rattle.narrowed.specs.Formed.{WellFormed}
-use Rattle.narrowed.specs.Given.{given}
+use Rattle.narrowed_question.specs.declared.Members.{Members}
+use Rattle.narrowed_question.specs.Formed.{WellFormed}
+use Rattle.narrowed_question.specs.Given.{given}
 use Rattle.rows.specs.Kept.{Kept}
 use Rattle.relation.specs.Pairs.{pair-at, Made}
 use Rattle.answer.specs.Calls.{Result}

@@ -13,7 +13,7 @@ ghost use Rattle.theory.specs.Merging.{member};
 ghost use Rattle.theory.specs.Evaluation.{narrowed-answer, member-answer};
 ghost use Rattle.theory.specs.Words.{row-words};
 ghost use Rattle.fields.specs.declared.Outcome.the-variants as outcome;
-ghost use Rattle.narrowed.specs.Given.{given};
+ghost use Rattle.narrowed_question.specs.Given.{given};
 ghost use Rattle.register.specs.Form.{register-in};
 ghost use Rattle.register.specs.Ahead.{Accepted};
 ghost use Rattle.rows.specs.Kept.{Kept};
@@ -377,7 +377,7 @@ pub fn narrowed_answer(
     let mut to = [0u64; 128];
     let mut numbers = [0u8; 6144];
     let mut sets = [0u64; 6144];
-    match narrowed::read_into(
+    match narrowed_question::read_into(
         narrowed,
         &mut sizes,
         &mut from,
@@ -385,8 +385,8 @@ pub fn narrowed_answer(
         &mut numbers,
         &mut sets,
     ) {
-        narrowed::Outcome::Refused(r) => Outcome::Refused(Source::Narrowed, r),
-        narrowed::Outcome::Accepted(count) => match register::read(register) {
+        narrowed_question::Outcome::Refused(r) => Outcome::Refused(Source::Narrowed, r),
+        narrowed_question::Outcome::Accepted(count) => match register::read(register) {
             register::Outcome::Refused(r) => Outcome::Refused(Source::Register, r),
             register::Outcome::Accepted(n, _) => narrowed_in(
                 count,

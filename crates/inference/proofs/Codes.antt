@@ -14,14 +14,14 @@ use Rattle.theory.specs.Inference.{Triple, distinct, of-closure, triples}
 use Rattle.theory.proofs.Ends.{triples-inside}
 use Rattle.symbols.specs.Symbols.{symbol-numbered, arity}
 use Rattle.symbols.proofs.Numbers.{join-number}
-use Rattle.nodes.proofs.Codes.{op-numbered}
+use Rattle.triples.proofs.Codes.{op-numbered}
 use Rattle.rules.specs.declared.Part.{Part}
 use Rattle.rules.specs.Two.{of-two}
 use Rattle.rules.specs.Marks.{of-marks}
 use Rattle.rules.specs.Outcome.{Ruled}
 use Rattle.rules.proofs.TwoLists.{two-join, two-op}
 use Rattle.rules.proofs.SheetSteps.{marks-step}
-use Rattle.walks.proofs.Wider.{closure-wider}
+use Rattle.kind_graph.proofs.Wider.{closure-wider}
 use Rattle.inference.specs.declared.Span.{Span}
 use Rattle.inference.specs.Turns.{of-code, origin-of}
 use Rattle.inference.specs.Questions.{Sheeted}

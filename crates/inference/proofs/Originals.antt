@@ -15,7 +15,7 @@ use Rattle.symbols.specs.Symbols.{Numbered, numbered, symbol-numbered, number-s
 use Rattle.symbols.proofs.Numbers.{symbol-comes}
 use Rattle.question.specs.Form.{question-symbols}
 use Rattle.question.proofs.Paths.{Known, known-codes}
-use Rattle.nodes.specs.Paths.{original, Copied}
+use Rattle.triples.specs.Paths.{original, Copied}
 use Rattle.inference.specs.Questions.{symbols-of}
 
 pub symbols-length : (qs : List ℕ) (i : ℕ) → i ≤ length qs → length (symbols-of qs i) ≡ i

@@ -21,7 +21,7 @@ use Rattle.fields.specs.Said.{number-of, place-of}
 use Rattle.question.specs.Form.{question-symbols}
 use Rattle.rows.specs.Kept.{Kept}
 use Rattle.rows.proofs.Words.{kept-refl, kept-trans}
-use Rattle.nodes.specs.Paths.{original}
+use Rattle.triples.specs.Paths.{original}
 use Rattle.rules.specs.declared.Part.{Part}
 use Rattle.rules.specs.declared.Part.the-variants.{Made, Many, Long}
 use Rattle.rules.specs.Outcome.{outcome, fault-of, Ruled}

@@ -17,8 +17,8 @@ use Rattle.theory.specs.Narrowing.{short?}
 use Rattle.theory.proofs.Postfix.{none-some, symbols}
 use Rattle.theory.proofs.Triples.{distinct-norepeat}
 use Rattle.rows.specs.Kept.{Kept}
-use Rattle.nodes.specs.Parts.{part-of}
-use Rattle.nodes.proofs.Growing.{part-kept}
+use Rattle.triples.specs.Parts.{part-of}
+use Rattle.triples.proofs.Growing.{part-kept}
 use Rattle.rules.specs.declared.Part.{Part}
 use Rattle.rules.specs.declared.Part.the-variants.{Made}
 use Rattle.rules.specs.Asks.{Lies}

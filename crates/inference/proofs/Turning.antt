@@ -19,8 +19,8 @@ use Rattle.symbols.specs.Symbols.{symbol-numbered, arity}
 use Rattle.question.specs.Form.{question-symbols}
 use Rattle.rows.specs.Kept.{Kept}
 use Rattle.rows.proofs.Words.{le-or-lt}
-use Rattle.nodes.specs.Paths.{Sound}
-use Rattle.nodes.proofs.Codes.{step-numbered, closure-numbered}
+use Rattle.triples.specs.Paths.{Sound}
+use Rattle.triples.proofs.Codes.{step-numbered, closure-numbered}
 use Rattle.rules.specs.Two.{of-two}
 use Rattle.rules.specs.Asks.{Room}
 use Rattle.inference.specs.declared.Span.{Span}

@@ -15,7 +15,7 @@ use Rattle.theory.specs.Narrowing.{Outcome, refused, refuse, part-fault, short?
 use Rattle.fields.specs.Said.{number-of, place-of}
 use Rattle.question.specs.Form.{question-symbols}
 use Rattle.rows.specs.Kept.{Kept}
-use Rattle.nodes.specs.Paths.{Sound}
+use Rattle.triples.specs.Paths.{Sound}
 use Rattle.rules.specs.Asks.{part}
 use Rattle.rules.specs.Marks.{Tabled}
 use Rattle.inference.specs.declared.Inferred.{Inferred}

@@ -8,11 +8,11 @@ use Prim.Native.Nat.{ℕ, _-_, _<_, _≤_}
 use lib.Dec.{eqb, ltb}
 use Rattle.theory.specs.PathExpr.{PathExpr}
 use Rattle.theory.specs.Inference.{Triple, distinct, of-closure}
-use Rattle.nodes.specs.Paths.{original}
+use Rattle.triples.specs.Paths.{original}
 use Rattle.rules.specs.Two.{of-two}
 use Rattle.rules.specs.Asks.{Room, part, Unite}
 use Rattle.rules.specs.Marks.{of-marks}
-use Rattle.closures.specs.Asks.{Closing}
+use Rattle.closure_rule.specs.Asks.{Closing}
 use Rattle.inference.specs.declared.Span.{Span}
 
 -- the triples of a part of the question

@@ -46,7 +46,15 @@ fn rule(
         return rules::step_rule(words, question, table, kinds, c as usize, used);
     }
     if c == 133 {
-        return closures::closure_rule(words, question, used, x.start, x.end, x.from, i - x.from);
+        return closure_rule::closure_rule(
+            words,
+            question,
+            used,
+            x.start,
+            x.end,
+            x.from,
+            i - x.from,
+        );
     }
     if c == 129 {
         return rules::union_rule(words, question, used, x.start, x.end, y.start, y.end);

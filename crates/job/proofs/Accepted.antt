@@ -32,10 +32,10 @@ use Rattle.question.specs.Form.{question-form, question-symbols}
 use Rattle.question.proofs.Paths.{Asks, accepted-question}
 use Rattle.register.specs.Form.{register-form}
 use Rattle.register.proofs.AcceptedRegister.{accepted-register}
-use Rattle.narrow.specs.Call.{file-of, narrow-need}
+use Rattle.narrowing.specs.Call.{file-of, narrow-need}
 use Rattle.fields.proofs.Filing.{not-accepted}
-use Rattle.narrow.proofs.Accepted.{filed}
-use Rattle.narrow.proofs.Accepted as narrow·Accepted
+use Rattle.narrowing.proofs.Accepted.{filed}
+use Rattle.narrowing.proofs.Accepted as narrow·Accepted
 use Rattle.answer.specs.Calls.{answer-need, work-need, plain-call}
 use Rattle.answer.proofs.Meaning.{same, answered-enough}
 use Rattle.job.specs.Call.{result, job-need, with-answer, completed, with-breach, filled, settled, job-call}

@@ -6,7 +6,7 @@ use Prim.Native.Nat.{ℕ, _<_, _≤_}
 use native.Mathlib.Omega.{arith}
 use lib.Dec.{ltb}
 use borrow.Author.Tests.{lt-ltb, le-ltb, ltb-true, ltb-false}
-use Rattle.narrow.specs.Call.{narrow-need}
+use Rattle.narrowing.specs.Call.{narrow-need}
 use Rattle.job.specs.Call.{larger}
 
 module _ (a b : ℕ) where

@@ -10,13 +10,13 @@ use Rattle.fields.specs.declared.Outcome.the-variants as outcome
 use Rattle.fields.specs.declared.Refusal.{Refusal}
 use Rattle.fields.specs.Answer.{got}
 use Rattle.fields.specs.Reading.{read}
-use Rattle.narrowed.specs.declared.Members.{Members}
-use Rattle.narrowed.specs.declared.Outcome as narrowed·Outcome
-use Rattle.narrowed.specs.declared.Outcome.the-variants as narrowed·outcome
-use Rattle.narrowed.specs.Form.{Flat, narrowed-form}
-use Rattle.narrowed.specs.Formed.{WellFormed}
-use Rattle.narrowed.specs.Given.{given}
-use Rattle.narrowed.specs.Said.{ReadsInto}
+use Rattle.narrowed_question.specs.declared.Members.{Members}
+use Rattle.narrowed_question.specs.declared.Outcome as narrowed·Outcome
+use Rattle.narrowed_question.specs.declared.Outcome.the-variants as narrowed·outcome
+use Rattle.narrowed_question.specs.Form.{Flat, narrowed-form}
+use Rattle.narrowed_question.specs.Formed.{WellFormed}
+use Rattle.narrowed_question.specs.Given.{given}
+use Rattle.narrowed_question.specs.Said.{ReadsInto}
 use Rattle.fields.proofs.Bools.{not-got}
 use Rattle.answer.specs.Calls.{members-of}
 use Rattle.answer.specs.Said.{Readable, lent}

@@ -33,22 +33,22 @@ use Rattle.fields.specs.Reading.{read}
 use Rattle.fields.specs.Said.{Files}
 use Rattle.question.specs.Form.{question-symbols}
 use Rattle.register.specs.Form.{register-in}
-use Rattle.conform.specs.declared.Failing.{Failing}
-use Rattle.conform.specs.declared.Failing.the-variants.{At, Nowhere}
-use Rattle.conform.specs.Said.{failing-said, first-breach}
-use Rattle.conform.proofs.Checked.{breach-is}
-use Rattle.narrowed.specs.Form.{narrowed-form}
-use Rattle.narrowed.specs.Members.{flat-of}
-use Rattle.narrowed.proofs.Formed.{narrowed-file-read, fits-formed}
+use Rattle.conformance.specs.declared.Failing.{Failing}
+use Rattle.conformance.specs.declared.Failing.the-variants.{At, Nowhere}
+use Rattle.conformance.specs.Said.{failing-said, first-breach}
+use Rattle.conformance.proofs.Checked.{breach-is}
+use Rattle.narrowed_question.specs.Form.{narrowed-form}
+use Rattle.narrowed_question.specs.Members.{flat-of}
+use Rattle.narrowed_question.proofs.Formed.{narrowed-file-read, fits-formed}
 use Rattle.evaluation.specs.Ground.{Ground}
 use Rattle.evaluation.proofs.Grounds.{limits}
 use Rattle.rows.proofs.Words.{kept-refl, kept-trans, kept-in}
-use Rattle.narrow.specs.Call.{narrow-need}
-use Rattle.narrow.specs.Call as narrow·Call
-use Rattle.narrow.specs.Said.{FirstUnnamed, Infers-file}
-use Rattle.narrow.proofs.Whole.{rest, symbols-unnamed, symbols-named}
+use Rattle.narrowing.specs.Call.{narrow-need}
+use Rattle.narrowing.specs.Call as narrow·Call
+use Rattle.narrowing.specs.Said.{FirstUnnamed, Infers-file}
+use Rattle.narrowing.proofs.Whole.{rest, symbols-unnamed, symbols-named}
 use Rattle.fields.proofs.Filing.{file-written, within, not-accepted}
-use Rattle.narrow.proofs.Accepted.{Filed, filed}
+use Rattle.narrowing.proofs.Accepted.{Filed, filed}
 use Rattle.answer.specs.Calls.{members-of}
 use Rattle.answer.specs.Said as answer·Said
 use Rattle.answer.proofs.TwoAnswers.{members-back}

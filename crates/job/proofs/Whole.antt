@@ -28,8 +28,8 @@ use Rattle.evaluation.specs.Ground.{Ground}
 use Rattle.rows.specs.Kept.{Wrote}
 use Rattle.rows.proofs.Words.{kept-refl}
 use Rattle.rows.proofs.Areas.{zero-words}
-use Rattle.narrow.specs.Call.{narrow-need}
-use Rattle.narrow.proofs.Given.{handed, ready}
+use Rattle.narrowing.specs.Call.{narrow-need}
+use Rattle.narrowing.proofs.Given.{handed, ready}
 use Rattle.answer.specs.Calls.{answer-need}
 use Rattle.job.specs.Call.{larger, job-need, filled, settled, job-call}
 use Rattle.job.specs.Said.{Jobs, Tells, Asked, Roomy, Completes, Fills, Settles}

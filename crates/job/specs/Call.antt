@@ -22,7 +22,7 @@ use Rattle.fields.specs.Reading.{read}
 use Rattle.sheet.specs.Form.{sheet-form}
 use Rattle.question.specs.Form.{question-form, question-symbols}
 use Rattle.register.specs.Form.{register-form}
-use Rattle.narrow.specs.Call.{file-of, narrow-need}
+use Rattle.narrowing.specs.Call.{file-of, narrow-need}
 use Rattle.answer.specs.Calls.{answer-need, work-need}
 
 -- the outcome, and the areas for the answer and the file after the call

@@ -18,11 +18,11 @@ use Rattle.fields.specs.Reading.{read}
 use Rattle.fields.specs.Said.{written-said}
 use Rattle.question.specs.Form.{question-symbols}
 use Rattle.register.specs.Form.{register-in}
-use Rattle.narrowed.specs.Form.{Flat, narrowed-form}
-use Rattle.narrowed.specs.Formed.{WellFormed}
+use Rattle.narrowed_question.specs.Form.{Flat, narrowed-form}
+use Rattle.narrowed_question.specs.Formed.{WellFormed}
 use Rattle.rows.specs.Kept.{Kept}
-use Rattle.narrow.specs.Call.{narrow-need}
-use Rattle.narrow.specs.Said.{Handed, Ready}
+use Rattle.narrowing.specs.Call.{narrow-need}
+use Rattle.narrowing.specs.Said.{Handed, Ready}
 use Rattle.answer.specs.Calls.{members-of}
 use Rattle.answer.specs.Calls as answer·Calls
 use Rattle.answer.specs.Said as answer·Said

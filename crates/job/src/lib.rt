@@ -1,5 +1,5 @@
 // The whole job: from the files of a sheet, a question and a register to the file of the narrowed question and its answer.
-use conform::Failing;
+use conformance::Failing;
 use fields::Refusal;
 use fields::Source;
 use fields::Written;
@@ -10,7 +10,7 @@ ghost use Rattle.theory.specs.Register.{records};
 ghost use Rattle.register.specs.Form.{register-in};
 ghost use Rattle.register.specs.Ahead.{Accepted};
 ghost use Rattle.evaluation.specs.Ground.{Ground};
-ghost use Rattle.narrow.specs.Call.{narrow-need};
+ghost use Rattle.narrowing.specs.Call.{narrow-need};
 ghost use Rattle.answer.specs.Calls.{plain-call};
 ghost use Rattle.job.specs.Call.{larger, job-call};
 ghost use Rattle.job.specs.Said.{Jobs, Plain, HasMembers, Answers-file, Asked, Roomy, Completes, Fills, Settles};
@@ -54,7 +54,7 @@ fn answer_file(
     let mut numbers = [0u8; 6144];
     let mut sets = [0u64; 6144];
     let file = file_in(area, bytes);
-    match narrowed::read_into(
+    match narrowed_question::read_into(
         file,
         &mut sizes,
         &mut from,
@@ -63,8 +63,8 @@ fn answer_file(
         &mut sets,
     ) {
         // What narrowing wrote is not refused.
-        narrowed::Outcome::Refused(_) => {}
-        narrowed::Outcome::Accepted(count) => {
+        narrowed_question::Outcome::Refused(_) => {}
+        narrowed_question::Outcome::Accepted(count) => {
             answer::set_members(
                 count,
                 &sizes,
@@ -99,14 +99,14 @@ fn job_codes(
     requires { ⌜ Asked (now codes) (now table) count kinds links × Ground (now register) n w × Roomy n w (now work) × (n * w ≤ length (now answer)) ⌝ }
     ensures { λ o. ⌜ Completes (now (codes .entry)) (now (table .entry)) count kinds links (now (register .entry)) n w (now (work .entry)) (now (work .exit)) (now (answer .entry)) (now (answer .exit)) (now (file .entry)) (now (file .exit)) o ⌝ }
 {
-    let i = narrow::first_unnamed(codes, count, links);
+    let i = narrowing::first_unnamed(codes, count, links);
     if i < count {
         return Written::Refused(Source::Work, Refusal::UnnamedLink(i));
     }
-    match conform::first_breach(register, n, kinds, table) {
+    match conformance::first_breach(register, n, kinds, table) {
         Failing::At(i) => Written::Refused(Source::Work, Refusal::Breach(i)),
         Failing::Nowhere => {
-            match narrow::narrow_named(codes, count, table, kinds as usize, work, file) {
+            match narrowing::narrow_named(codes, count, table, kinds as usize, work, file) {
                 Written::Refused(s, r) => Written::Refused(s, r),
                 Written::File(members, bytes) => {
                     answer_file(file, bytes, register, n, w, work, answer);

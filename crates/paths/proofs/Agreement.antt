@@ -20,9 +20,9 @@ use Rattle.sheet.specs.Form.{sheet-form}
 use Rattle.sheet.proofs.Ranges.{accepted-sheet}
 use Rattle.question.specs.Form.{question-symbols}
 use Rattle.question.proofs.Paths.{Asks, accepted-question}
-use Rattle.narrowed.specs.Members.{flat-of, narrowed-file}
-use Rattle.narrowed.proofs.Formed.{narrowed-back}
-use Rattle.narrow.proofs.Accepted.{Accepted, accepted}
+use Rattle.narrowed_question.specs.Members.{flat-of, narrowed-file}
+use Rattle.narrowed_question.proofs.Formed.{narrowed-back}
+use Rattle.narrowing.proofs.Accepted.{Accepted, accepted}
 use Rattle.fields.proofs.Filing as Filing
 use Rattle.answer.specs.Calls.{members-of}
 use Rattle.answer.proofs.Meaning.{plain-word}

@@ -20,8 +20,8 @@ use Rattle.fields.specs.Reading.{read}
 use Rattle.sheet.specs.Form.{sheet-form}
 use Rattle.question.specs.Form.{question-form, question-symbols}
 use Rattle.register.specs.Form.{register-form}
-use Rattle.narrowed.specs.Form.{Flat, narrowed-form}
-use Rattle.narrow.specs.Call.{narrow-call}
+use Rattle.narrowed_question.specs.Form.{Flat, narrowed-form}
+use Rattle.narrowing.specs.Call.{narrow-call}
 use Rattle.answer.specs.Calls.{answer-need, members-of, plain-call, narrowed-call}
 use Rattle.job.specs.Call.{job-call}
 

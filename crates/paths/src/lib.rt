@@ -4,18 +4,18 @@ use fields::Outcome;
 use fields::Refusal;
 use fields::Source;
 use fields::Written;
-use narrowed::Members;
+use narrowed_question::Members;
 ghost use mathlib.Core.Path.{_≡_};
 ghost use Rattle.fields.specs.Said.{number-of, place-of, source-number, outcome-said, written-said};
 ghost use Rattle.fields.specs.declared.Source.the-variants as source;
 ghost use Rattle.fields.specs.Reading.{read};
 ghost use Rattle.sheet.specs.Form.{sheet-form};
 ghost use Rattle.question.specs.Form.{question-form};
-ghost use Rattle.narrowed.specs.Form.{narrowed-form};
+ghost use Rattle.narrowed_question.specs.Form.{narrowed-form};
 ghost use Rattle.register.specs.Form.{register-form};
-ghost use Rattle.writing.specs.Outcome.{Writes};
-ghost use Rattle.conform.specs.Check.{check-of};
-ghost use Rattle.narrow.specs.Call.{narrow-call, size-call};
+ghost use Rattle.narrowed_writer.specs.Outcome.{Writes};
+ghost use Rattle.conformance.specs.Check.{check-of};
+ghost use Rattle.narrowing.specs.Call.{narrow-call, size-call};
 ghost use Rattle.answer.specs.Calls.{plain-call, narrowed-call};
 ghost use Rattle.job.specs.Call.{job-call};
 ghost use Rattle.shortening.specs.Call.{shorten-call};
@@ -95,11 +95,11 @@ pub fn judge_question(file: &[u8]) -> Outcome
 pub fn judge_narrowed(file: &[u8]) -> Outcome
     ensures { λ o. ⌜ outcome-said o ≡ judged source.Narrowed (read narrowed-form (now (file .entry))) ⌝ }
 {
-    let q = narrowed::read(file);
+    let q = narrowed_question::read(file);
     let outcome = q.outcome;
     match outcome {
-        narrowed::Outcome::Refused(r) => Outcome::Refused(Source::Narrowed, r),
-        narrowed::Outcome::Accepted(_) => Outcome::Accepted,
+        narrowed_question::Outcome::Refused(r) => Outcome::Refused(Source::Narrowed, r),
+        narrowed_question::Outcome::Accepted(_) => Outcome::Accepted,
     }
 }
 
@@ -114,10 +114,10 @@ pub fn judge_register(file: &[u8]) -> Outcome
 }
 
 // Writes members of any contents as a narrowed question's file.
-pub fn write(members: Members, area: &mut [u8]) -> writing::Written
+pub fn write(members: Members, area: &mut [u8]) -> narrowed_writer::Written
     ensures { λ r. ⌜ Writes members (now (area .entry)) r (now (area .exit)) ⌝ }
 {
-    writing::write(members, area)
+    narrowed_writer::write(members, area)
 }
 
 // ---- check, narrowing, shortening, answers and the whole job, for C
@@ -132,7 +132,7 @@ pub extern "C" fn paths_check(
 ) -> u64
     ensures { λ n. ⌜ Tells (check-of (now (sheet .entry)) (now (register .entry))) (tells n (now (first .exit)) (now (second .exit))) ⌝ }
 {
-    tell(conform::check(sheet, register), first, second)
+    tell(conformance::check(sheet, register), first, second)
 }
 
 // Narrows a question by a sheet, and writes the file of the narrowed question.
@@ -149,7 +149,7 @@ pub extern "C" fn paths_narrow(
         (tells n (now (first .exit)) (now (second .exit))) (now (work .exit)) (now (file .exit)) ⌝ }
 {
     tell_file(
-        narrow::narrowing(sheet, question, work, file),
+        narrowing::narrowing(sheet, question, work, file),
         first,
         second,
     )
@@ -167,7 +167,11 @@ pub extern "C" fn paths_narrow_bytes(
     ensures { λ n. ⌜ Sizes (size-call (now (sheet .entry)) (now (question .entry)) (now (work .entry)))
         (tells n (now (first .exit)) (now (second .exit))) (now (work .exit)) ⌝ }
 {
-    tell_file(narrow::narrowed_size(sheet, question, work), first, second)
+    tell_file(
+        narrowing::narrowed_size(sheet, question, work),
+        first,
+        second,
+    )
 }
 
 // Shortens a question, and writes the file of the shortened one.

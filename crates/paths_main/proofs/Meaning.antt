@@ -19,8 +19,8 @@ use Rattle.rows.specs.Row.{row-bit}
 use Rattle.relation.specs.Pairs.{pair-at}
 use Rattle.relation.proofs.Making.{row-le}
 use Rattle.job.proofs.Accepted as job·Accepted
-use Rattle.text.specs.Text.{answer-text, text-of}
-use Rattle.text.proofs.Same.{answer-same}
+use Rattle.printing.specs.Text.{answer-text, text-of}
+use Rattle.printing.proofs.Same.{answer-same}
 use Rattle.paths_main.specs.Output.{zeros, job-of, printed}
 use Rattle.paths_main.proofs.Printing.{accepted-job, job-register}
 

@@ -28,15 +28,15 @@ use Rattle.register.proofs.Told.{refused-file, accepted-records}
 use Rattle.register.specs.Form.{register-form, register-in, value-of}
 use Rattle.register.specs.Ahead.{Accepted}
 use Rattle.relation.specs.Pairs.{pair-at}
-use Rattle.bytes.specs.Wrote.{Wrote}
-use Rattle.narrow.specs.Call.{narrow-need}
+use Rattle.encode.specs.Wrote.{Wrote}
+use Rattle.narrowing.specs.Call.{narrow-need}
 use Rattle.answer.specs.Calls.{work-need}
 use Rattle.job.specs.Call.{job-call}
 use Rattle.job.specs.Said.{Jobs}
 use Rattle.job.proofs.Needs.{larger-both}
 use Rattle.job.proofs.Accepted as job·Accepted
-use Rattle.text.specs.Text.{answer-text, refusal-text}
-use Rattle.text.proofs.Room.{answer-most, refusal-most}
+use Rattle.printing.specs.Text.{answer-text, refusal-text}
+use Rattle.printing.proofs.Room.{answer-most, refusal-most}
 use Rattle.paths_main.specs.Output.{zeros, job-of, printed, Prints, Fits, answer-of}
 
 -- ---- the area

@@ -12,7 +12,7 @@ use Rattle.relation.specs.Pairs.{pair-at}
 use Rattle.register.specs.Form.{register-in}
 use Rattle.register.specs.Ahead.{Accepted}
 use Rattle.job.specs.Call.{Result, job-call}
-use Rattle.text.specs.Text.{answer-text, text-of}
+use Rattle.printing.specs.Text.{answer-text, text-of}
 
 -- an area as the program lends it
 unfoldable pub zeros : ℕ → List ℕ

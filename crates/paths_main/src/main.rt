@@ -8,7 +8,7 @@ ghost use Prim.Native.Nat.{_≤_};
 ghost use lib.ListN.{length};
 ghost use Rattle.io.specs.Counts.{Counts};
 ghost use Rattle.register.specs.Form.{register-in};
-ghost use Rattle.bytes.specs.Wrote.{Wrote};
+ghost use Rattle.encode.specs.Wrote.{Wrote};
 ghost use Rattle.paths_main.specs.Output.{zeros, printed, Prints, Fits, answer-of};
 
 // What is lent: 8,192 words of work, 256 of the answer, 65,536 bytes for the narrowed file.
@@ -43,8 +43,8 @@ fn put_answer(out: &mut [u8], members: usize, answer: &[u64], register: &[u8]) -
     ensures { λ r. ⌜ Wrote (now (out .entry)) (now (out .exit)) 0 r (answer-of members (now (answer .entry)) (register-in (now (register .entry)))) ⌝ }
 {
     match register::read(register) {
-        register::Outcome::Refused(r) => text::put_refusal(out, 0, Source::Register, r),
-        register::Outcome::Accepted(n, _) => text::put_answer(
+        register::Outcome::Refused(r) => printing::put_refusal(out, 0, Source::Register, r),
+        register::Outcome::Accepted(n, _) => printing::put_answer(
             out,
             0,
             members,
@@ -64,7 +64,7 @@ fn run(sheet: &[u8], question: &[u8], register: &[u8], out: &mut [u8]) -> usize
     let mut answer = answer_words();
     let mut file = file_bytes();
     match job::whole_job(sheet, question, register, &mut work, &mut answer, &mut file) {
-        Written::Refused(source, r) => text::put_refusal(out, 0, source, r),
+        Written::Refused(source, r) => printing::put_refusal(out, 0, source, r),
         Written::File(members, _) => put_answer(out, members, &answer, register),
     }
 }

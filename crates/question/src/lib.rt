@@ -117,7 +117,7 @@ pub fn read(s: &[u8]) -> Question
     let mut at = 0;
     let mut count = 0;
     loop {
-        match reader::field(s, at, due(st)) {
+        match field_reader::field(s, at, due(st)) {
             Seen::Ends => {
                 let outcome = Outcome::Accepted(count);
                 return Question { outcome, codes };
@@ -127,7 +127,7 @@ pub fn read(s: &[u8]) -> Question
             }
             Seen::Body(tag, len) => {
                 let next = at + fields::HEAD + len as usize;
-                match judge(st, at, next, tag, reader::body_at(s, at)) {
+                match judge(st, at, next, tag, field_reader::body_at(s, at)) {
                     Turn::Stop(r) => {
                         return refused(r);
                     }

@@ -11,8 +11,8 @@ use lib.Seq.{drop-cons}
 use Rattle.fields.specs.Writing.{field-bytes}
 use Rattle.symbols.specs.Symbols.{Numbered, numbered, symbol-given}
 use Rattle.symbols.specs.Writing.{symbol-bytes, symbols-bytes}
-use Rattle.bytes.specs.Size.{symbol-size}
-use Rattle.bytes.proofs.Parts.{size-is}
+use Rattle.encode.specs.Size.{symbol-size}
+use Rattle.encode.proofs.Parts.{size-is}
 use Rattle.question.specs.Writing.{numbered-codes, question-bytes}
 
 -- a symbol that is lent no set

@@ -10,8 +10,8 @@ use Rattle.fields.specs.Table.{rows, tag-length, field-size}
 use Rattle.fields.specs.Writing.{field-bytes}
 use Rattle.symbols.specs.Symbols.{Numbered, symbol-given, symbols-given}
 use Rattle.symbols.specs.Writing.{symbols-bytes}
-use Rattle.bytes.specs.Wrote.{Wrote}
-use Rattle.bytes.proofs.Along.{wrote-length, wrote-more}
+use Rattle.encode.specs.Wrote.{Wrote}
+use Rattle.encode.proofs.Along.{wrote-length, wrote-more}
 use Rattle.question.specs.Writing.{numbered-codes, question-bytes}
 use Rattle.question_writer.proofs.Measuring.{given-plain, question-length}
 

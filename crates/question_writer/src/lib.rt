@@ -11,7 +11,7 @@ ghost use Rattle.fields.specs.Table.{field-size};
 ghost use Rattle.fields.specs.Writing.{field-bytes};
 ghost use Rattle.fields.specs.Call.{file-in};
 ghost use Rattle.fields.specs.Said.{Files};
-ghost use Rattle.bytes.specs.Wrote.{Wrote};
+ghost use Rattle.encode.specs.Wrote.{Wrote};
 ghost use Rattle.question.specs.Writing.{question-bytes};
 
 // The bytes of a question's head.
@@ -25,7 +25,7 @@ fn measure(codes: &[u8]) -> usize
     let mut n = QUESTION_BYTES;
     let mut i = 0;
     while i < codes.len() {
-        n += bytes::symbol_size(codes[i]);
+        n += encode::symbol_size(codes[i]);
         i += 1;
     }
     n
@@ -36,8 +36,8 @@ fn put_count(out: &mut [u8], n: u8) -> usize
     requires { ⌜ field-size 0x21 ≤ length (now out) ⌝ }
     ensures { λ r. ⌜ Wrote (now (out .entry)) (now (out .exit)) 0 r (field-bytes 0x21 (n ∷ [])) ⌝ }
 {
-    let a = bytes::put_head(out, 0, fields::QUESTION_TAG, fields::QUESTION_LENGTH);
-    bytes::put_byte(out, a, n)
+    let a = encode::put_head(out, 0, fields::QUESTION_TAG, fields::QUESTION_LENGTH);
+    encode::put_byte(out, a, n)
 }
 
 // The file, from the area's start on; the number of its bytes. No symbol of a question has a set.
@@ -48,7 +48,7 @@ fn put_question(codes: &[u8], out: &mut [u8]) -> usize
     let n = codes.len() as u8;
     let no_sets = [0u64; question::MOST_SYMBOLS];
     let a = put_count(out, n);
-    bytes::put_symbols(out, a, codes, &no_sets, 0, n)
+    encode::put_symbols(out, a, codes, &no_sets, 0, n)
 }
 
 // 14, or the file; tells the numbers of its symbols and of its bytes.

@@ -341,14 +341,14 @@ pub fn read(s: &[u8]) -> Outcome
     let mut st = Position::Start;
     let mut at = 0;
     loop {
-        match reader::field(s, at, due_at(st)) {
+        match field_reader::field(s, at, due_at(st)) {
             Seen::Ends => {
                 return sizes(st);
             }
             Seen::Wrong(r) => {
                 return Outcome::Refused(r);
             }
-            Seen::Body(_, len) => match judge(st, at, reader::body_at(s, at)) {
+            Seen::Body(_, len) => match judge(st, at, field_reader::body_at(s, at)) {
                 Turn::Stop(r) => {
                     return Outcome::Refused(r);
                 }

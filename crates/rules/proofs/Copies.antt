@@ -12,15 +12,15 @@ use Rattle.theory.specs.PathExpr.{closure}
 use Rattle.theory.specs.Inference.{Triple, triple?}
 use Rattle.rows.specs.Kept.{Kept}
 use Rattle.rows.proofs.Words.{le-or-lt, kept-set}
-use Rattle.nodes.specs.declared.Node.{Node}
-use Rattle.nodes.specs.Table.{word-of, InRange, Loaded, node-at}
-use Rattle.nodes.specs.Paths.{original, triple-of, Good, Has}
-use Rattle.nodes.specs.Parts.{part-of, Candidate, Added}
-use Rattle.nodes.proofs.Words.{node-new}
-use Rattle.nodes.proofs.Triples.{triple-two, triple-from, triple-to, triple-kept, path-step, path-kept}
-use Rattle.nodes.proofs.Codes.{step-numbered, closure-numbered}
-use Rattle.nodes.proofs.Nodes.{known, step-path, kept-path, left-less, right-less}
-use Rattle.nodes.proofs.Growing.{part-next, part-over}
+use Rattle.triples.specs.declared.Node.{Node}
+use Rattle.triples.specs.Table.{word-of, InRange, Loaded, node-at}
+use Rattle.triples.specs.Paths.{original, triple-of, Good, Has}
+use Rattle.triples.specs.Parts.{part-of, Candidate, Added}
+use Rattle.triples.proofs.Words.{node-new}
+use Rattle.triples.proofs.Triples.{triple-two, triple-from, triple-to, triple-kept, path-step, path-kept}
+use Rattle.triples.proofs.Codes.{step-numbered, closure-numbered}
+use Rattle.triples.proofs.Nodes.{known, step-path, kept-path, left-less, right-less}
+use Rattle.triples.proofs.Growing.{part-next, part-over}
 use Rattle.rules.specs.Outcome.{Done}
 use Rattle.rules.specs.Asks.{Room, part, AddCopies}
 use Rattle.rules.proofs.Grows.{Growing, grows-start, grows-room, grows-over, grows-turn, grows-many, one-added}

@@ -10,10 +10,10 @@ use Rattle.theory.specs.Inference.{Triple, triple?, distinct}
 use Rattle.theory.proofs.Distinct.{adjoin-all-append, adjoin-all-longer}
 use Rattle.rows.specs.Kept.{Kept}
 use Rattle.rows.proofs.Words.{kept-refl, kept-trans, kept-in}
-use Rattle.nodes.specs.declared.Node.{Node}
-use Rattle.nodes.specs.Paths.{triple-of, Sound}
-use Rattle.nodes.specs.Parts.{part-of, Added}
-use Rattle.nodes.proofs.Growing.{length-part, added-kept}
+use Rattle.triples.specs.declared.Node.{Node}
+use Rattle.triples.specs.Paths.{triple-of, Sound}
+use Rattle.triples.specs.Parts.{part-of, Added}
+use Rattle.triples.proofs.Growing.{length-part, added-kept}
 use Rattle.rules.specs.Outcome.{Done}
 use Rattle.rules.specs.Asks.{Room}
 

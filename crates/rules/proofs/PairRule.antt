@@ -13,9 +13,9 @@ use Rattle.theory.specs.Narrowing.{short?}
 use Rattle.theory.proofs.Distinct.{adjoin-all-old, adjoin-all-new}
 use Rattle.theory.proofs.Triples.{triple-eq}
 use Rattle.rows.proofs.Words.{kept-refl}
-use Rattle.nodes.specs.Parts.{part-of}
-use Rattle.nodes.proofs.Triples.{triple-kept}
-use Rattle.nodes.proofs.Growing.{part-kept}
+use Rattle.triples.specs.Parts.{part-of}
+use Rattle.triples.proofs.Triples.{triple-kept}
+use Rattle.triples.proofs.Growing.{part-kept}
 use Rattle.rules.specs.declared.Part.the-variants.{Made, Many, Long}
 use Rattle.rules.specs.Two.{of-two, Paired}
 use Rattle.rules.specs.Outcome.{Ruled, Done}

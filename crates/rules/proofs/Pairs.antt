@@ -13,12 +13,12 @@ use Rattle.theory.specs.Inference.{Triple, triple?}
 use Rattle.theory.specs.Narrowing.{short?}
 use Rattle.rows.specs.Kept.{Kept}
 use Rattle.rows.proofs.Words.{kept-set}
-use Rattle.nodes.specs.declared.Node.{Node}
-use Rattle.nodes.specs.Table.{word-of, InRange, Loaded, node-at}
-use Rattle.nodes.specs.Paths.{triple-of, Sound}
-use Rattle.nodes.specs.Parts.{part-of, Candidate, Added}
-use Rattle.nodes.proofs.Words.{node-new}
-use Rattle.nodes.proofs.Triples.{triple-two, triple-from, triple-to, triple-kept}
+use Rattle.triples.specs.declared.Node.{Node}
+use Rattle.triples.specs.Table.{word-of, InRange, Loaded, node-at}
+use Rattle.triples.specs.Paths.{triple-of, Sound}
+use Rattle.triples.specs.Parts.{part-of, Candidate, Added}
+use Rattle.triples.proofs.Words.{node-new}
+use Rattle.triples.proofs.Triples.{triple-two, triple-from, triple-to, triple-kept}
 use Rattle.rules.specs.Two.{Paired, fitting, giving, ends-of, pair-node, pair-short?}
 use Rattle.rules.specs.Outcome.{Done}
 use Rattle.rules.specs.Asks.{pair-of, AddPair}

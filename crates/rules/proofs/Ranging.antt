@@ -7,7 +7,7 @@ use native.Mathlib.Numerals.{add-one}
 use native.Mathlib.Omega.{arith}
 use Rattle.theory.specs.Lists.{adjoin-all, concat-map, tabulate}
 use Rattle.theory.specs.Inference.{Triple, triple?}
-use Rattle.nodes.specs.Parts.{part-of}
+use Rattle.triples.specs.Parts.{part-of}
 use Rattle.rules.specs.Outcome.{Done}
 use Rattle.rules.specs.Asks.{Room}
 use Rattle.rules.proofs.Grows.{Growing, grows-room, grows-over, grows-turn, grows-many}

@@ -10,11 +10,11 @@ use Rattle.theory.specs.Inference.{Triple, triple?}
 use Rattle.theory.proofs.Growth.{adjoin-all-none}
 use Rattle.theory.proofs.Triples.{triple-eq, triple-refl}
 use Rattle.rows.proofs.Words.{kept-refl}
-use Rattle.nodes.specs.declared.Node.{Node}
-use Rattle.nodes.specs.Table.{Loaded}
-use Rattle.nodes.specs.Tests.{Decides}
-use Rattle.nodes.specs.Paths.{triple-of, Has}
-use Rattle.nodes.specs.Parts.{part-of}
+use Rattle.triples.specs.declared.Node.{Node}
+use Rattle.triples.specs.Table.{Loaded}
+use Rattle.triples.specs.Tests.{Decides}
+use Rattle.triples.specs.Paths.{triple-of, Has}
+use Rattle.triples.specs.Parts.{part-of}
 use Rattle.rules.specs.Outcome.{Done}
 use Rattle.rules.specs.Asks.{part, row-of, AddNewRow}
 use Rattle.rules.specs.Repeated.{Alike, Repeats}

@@ -13,12 +13,12 @@ use Rattle.theory.specs.Growth.{no-triple, grown}
 use Rattle.theory.specs.Narrowing.{short?}
 use Rattle.theory.proofs.Lists.{tabulate-at}
 use Rattle.symbols.specs.Symbols.{symbol-numbered}
-use Rattle.nodes.specs.declared.Node.{Node}
-use Rattle.nodes.specs.Table.{Loaded}
-use Rattle.nodes.specs.Paths.{triple-of}
-use Rattle.nodes.specs.Parts.{part-of}
-use Rattle.nodes.proofs.Triples.{triple-kept}
-use Rattle.nodes.proofs.Growing.{part-next, part-over}
+use Rattle.triples.specs.declared.Node.{Node}
+use Rattle.triples.specs.Table.{Loaded}
+use Rattle.triples.specs.Paths.{triple-of}
+use Rattle.triples.specs.Parts.{part-of}
+use Rattle.triples.proofs.Triples.{triple-kept}
+use Rattle.triples.proofs.Growing.{part-next, part-over}
 use Rattle.rules.specs.Two.{of-two, Paired, pair-short?}
 use Rattle.rules.specs.Outcome.{Done}
 use Rattle.rules.specs.Asks.{Lies, part, pair-of, row-of, rows-of, Pairing, AddPair, AddRow}

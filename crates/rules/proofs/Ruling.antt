@@ -13,9 +13,9 @@ use Rattle.theory.specs.Sheet.{Sheet}
 use Rattle.theory.specs.Inference.{Triple, triples}
 use Rattle.theory.specs.Narrowing.{short?, few?, part-fault}
 use Rattle.rows.specs.Kept.{Kept}
-use Rattle.nodes.specs.Paths.{Sound}
-use Rattle.nodes.specs.Parts.{part-of}
-use Rattle.nodes.proofs.Growing.{length-part}
+use Rattle.triples.specs.Paths.{Sound}
+use Rattle.triples.specs.Parts.{part-of}
+use Rattle.triples.proofs.Growing.{length-part}
 use Rattle.rules.specs.declared.Part.{Part}
 use Rattle.rules.specs.declared.Part.the-variants.{Made, Many, Long}
 use Rattle.rules.specs.Outcome.{outcome, fault-of, Ruled, Done}

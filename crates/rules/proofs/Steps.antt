@@ -20,12 +20,12 @@ use Rattle.theory.proofs.Triples.{in-between}
 use Rattle.symbols.specs.Symbols.{symbol-numbered}
 use Rattle.sheet.specs.Table.{cell, tabled?}
 use Rattle.rows.proofs.Words.{le-or-lt}
-use Rattle.nodes.specs.declared.Node.{Node}
-use Rattle.nodes.specs.Table.{word-of, InRange, node-at}
-use Rattle.nodes.specs.Paths.{triple-of}
-use Rattle.nodes.specs.Parts.{part-of, Candidate, Added}
-use Rattle.nodes.proofs.Words.{node-new}
-use Rattle.nodes.proofs.Triples.{triple-from, triple-to, path-step}
+use Rattle.triples.specs.declared.Node.{Node}
+use Rattle.triples.specs.Table.{word-of, InRange, node-at}
+use Rattle.triples.specs.Paths.{triple-of}
+use Rattle.triples.specs.Parts.{part-of, Candidate, Added}
+use Rattle.triples.proofs.Words.{node-new}
+use Rattle.triples.proofs.Triples.{triple-from, triple-to, path-step}
 use Rattle.rules.specs.declared.Part.the-variants.{Made, Many}
 use Rattle.rules.specs.Outcome.{Ruled, Done}
 use Rattle.rules.specs.Marks.{direction-of, link-of, step-of, marked?, of-marks, mark-of, marks-of, AddMark, AddMarks}

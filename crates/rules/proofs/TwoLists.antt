@@ -11,8 +11,8 @@ use Rattle.theory.specs.Lists.{guard, concat-map}
 use Rattle.theory.specs.PathExpr.{Via, Op, union, Symbol, s-join, s-op, size}
 use Rattle.theory.specs.Inference.{Triple, of-join, of-op, pairs, joined, conjoined, branched-right, branched-left}
 use Rattle.symbols.specs.Symbols.{symbol-numbered}
-use Rattle.nodes.specs.declared.Node.{Node}
-use Rattle.nodes.specs.Paths.{of-node}
+use Rattle.triples.specs.declared.Node.{Node}
+use Rattle.triples.specs.Paths.{of-node}
 use Rattle.rules.specs.Two.{of-symbol, of-two, Paired, fitting, giving, ends-of, pair-node}
 
 -- a proof by the four operators

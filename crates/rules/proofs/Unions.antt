@@ -8,8 +8,8 @@ use native.Mathlib.Omega.{arith}
 use Rattle.theory.specs.Lists.{adjoin-all}
 use Rattle.theory.specs.Inference.{Triple, triple?, distinct}
 use Rattle.theory.specs.Narrowing.{short?}
-use Rattle.nodes.specs.Parts.{part-of}
-use Rattle.nodes.proofs.Growing.{part-kept}
+use Rattle.triples.specs.Parts.{part-of}
+use Rattle.triples.proofs.Growing.{part-kept}
 use Rattle.rules.specs.declared.Part.the-variants.{Made, Many}
 use Rattle.rules.specs.Outcome.{Ruled, Done}
 use Rattle.rules.specs.Asks.{part, rows-of, Unite, AddCopies}

@@ -7,8 +7,8 @@ use Prim.Native.Nat.{ℕ, _+_, _-_, _<_, _≤_}
 use lib.ListN.{length}
 use Rattle.theory.specs.Inference.{Triple}
 use Rattle.theory.specs.Narrowing.{short?}
-use Rattle.nodes.specs.Paths.{triple-of, Sound}
-use Rattle.nodes.specs.Parts.{part-of}
+use Rattle.triples.specs.Paths.{triple-of, Sound}
+use Rattle.triples.specs.Parts.{part-of}
 use Rattle.rules.specs.Two.{of-two, Paired}
 
 -- nodes p to d lie below u

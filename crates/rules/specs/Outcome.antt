@@ -9,8 +9,8 @@ use lib.ListN.{length}
 use Rattle.theory.specs.Inference.{Triple}
 use Rattle.theory.specs.Narrowing.{short?, few?}
 use Rattle.rows.specs.Kept.{Kept}
-use Rattle.nodes.specs.Paths.{Sound}
-use Rattle.nodes.specs.Parts.{part-of}
+use Rattle.triples.specs.Paths.{Sound}
+use Rattle.triples.specs.Parts.{part-of}
 use Rattle.rules.specs.declared.Part.{Part}
 use Rattle.rules.specs.declared.Part.the-variants.{Made, Many, Long}
 

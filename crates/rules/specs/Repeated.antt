@@ -5,7 +5,7 @@ use mathlib.Core.Bool.{Bool, true}
 use mathlib.Core.List.{List, [], _∷_}
 use Prim.Native.Nat.{ℕ, _<_, _≤_}
 use Rattle.theory.specs.Inference.{Triple}
-use Rattle.nodes.specs.Paths.{triple-of}
+use Rattle.triples.specs.Paths.{triple-of}
 use Rattle.rules.specs.Two.{of-two}
 
 -- r tells that nodes i and j differ in their to kinds at most

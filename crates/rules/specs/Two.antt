@@ -9,7 +9,7 @@ use lib.Dec.{eqb, leb}
 use Rattle.theory.specs.PathExpr.{forward, step, Symbol, s-step, s-join, s-op, s-closure}
 use Rattle.theory.specs.Inference.{Triple, triple, end-to-end?, same-ends?, same-start?, joined, conjoined, branched-right, branched-left, of-join, of-op}
 use Rattle.symbols.specs.Symbols.{symbol-numbered}
-use Rattle.nodes.specs.declared.Node.{Node}
+use Rattle.triples.specs.declared.Node.{Node}
 
 -- the triples of two parts by the symbol that ends them
 abbrev pub of-symbol : Symbol → List Triple → List Triple → List Triple

@@ -1,13 +1,13 @@
 // The rules of inference that make a part of the table of nodes: of a sheet's table, and of parts of the table.
 use fields::Kind;
-use nodes::Node;
+use triples::Node;
 ghost use mathlib.Core.Path.{_≡_};
 ghost use Prim.Native.Nat.{_+_, _<_, _≤_};
 ghost use Rattle.theory.specs.Lists.{adjoin-all};
 ghost use Rattle.theory.specs.Inference.{triple?, distinct};
 ghost use Rattle.theory.specs.Narrowing.{short?};
-ghost use Rattle.nodes.specs.Paths.{Has};
-ghost use Rattle.nodes.specs.Parts.{part-of};
+ghost use Rattle.triples.specs.Paths.{Has};
+ghost use Rattle.triples.specs.Parts.{part-of};
 ghost use Rattle.rules.specs.Two.{Paired, fitting, giving, ends-of, pair-node, pair-short?};
 ghost use Rattle.rules.specs.Outcome.{Ruled, Done};
 ghost use Rattle.rules.specs.Asks.{Lies, part, pair-of, row-of, rows-of, Pairing, AddPair, AddRow, AddNewRow, TwoParts, Unite, AddCopies};
@@ -98,10 +98,10 @@ fn row_short(
     requires { ⌜ Pairing (now question) (now words) made s × (i < s) × Lies s q e ⌝ }
     ensures { λ r. ⌜ r ≡ short? (row-of (now (question .entry)) (now (words .entry)) made i q e) ⌝ }
 {
-    let x = nodes::load(words, i);
+    let x = triples::load(words, i);
     let mut j = q;
     while j < e {
-        let y = nodes::load(words, j);
+        let y = triples::load(words, j);
         if !pair_short(made, x, y) {
             return false;
         }
@@ -141,10 +141,10 @@ fn alike(words: &[u64], used: usize, question: &[u8], i: usize, j: usize) -> boo
     requires { ⌜ Has (now question) (now words) used i × Has (now question) (now words) used j ⌝ }
     ensures { λ r. ⌜ Alike (now (question .entry)) (now (words .entry)) i j r ⌝ }
 {
-    if nodes::load(words, i).from.0 != nodes::load(words, j).from.0 {
+    if triples::load(words, i).from.0 != triples::load(words, j).from.0 {
         return false;
     }
-    nodes::same_path(words, used, question, i, j)
+    triples::same_path(words, used, question, i, j)
 }
 
 // Gives one of the nodes p to i the row that node i gives? A branch left drops the to kind of the left triple, so that
@@ -181,12 +181,12 @@ fn add_pair(
     requires { ⌜ AddPair (now question) (now words) made s count i j ⌝ }
     ensures { λ r. ⌜ Done (now (question .entry)) (now (words .entry)) (now (words .exit)) (s + count) s r (adjoin-all triple? (part-of (now (question .entry)) (now (words .entry)) s count) (pair-of (now (question .entry)) (now (words .entry)) made i j)) ⌝ }
 {
-    let x = nodes::load(words, i);
-    let y = nodes::load(words, j);
+    let x = triples::load(words, i);
+    let y = triples::load(words, j);
     if !fits(made, x, y) {
         return count;
     }
-    nodes::add(words, question, s, count, paired(made, i, j, x, y))
+    triples::add(words, question, s, count, paired(made, i, j, x, y))
 }
 
 // Adds what node i gives with each of the nodes q to e, up to the 129th; the new count.
@@ -282,8 +282,8 @@ pub fn add_copies(
     let mut count = start;
     let mut j = q;
     while j < e {
-        let n = nodes::load(words, j);
-        count = nodes::add(words, question, s, count, n);
+        let n = triples::load(words, j);
+        count = triples::add(words, question, s, count, n);
         if 128 < count {
             return count;
         }
@@ -355,7 +355,7 @@ fn add_mark(
         from: a,
         to: b,
     };
-    nodes::add(words, question, s, count, n)
+    triples::add(words, question, s, count, n)
 }
 
 // The same from kind a to each of the kinds, up to the 129th; the new count.

@@ -190,7 +190,7 @@ pub fn read(s: &[u8]) -> Reading
     let mut st = Standing::Head;
     let mut at = 0;
     loop {
-        match reader::field(s, at, due(st)) {
+        match field_reader::field(s, at, due(st)) {
             Seen::Ends => {
                 let outcome = accepted(st);
                 return Reading { outcome, table };
@@ -200,7 +200,7 @@ pub fn read(s: &[u8]) -> Reading
             }
             Seen::Body(_, len) => {
                 let next = at + fields::HEAD + len as usize;
-                match judge(st, at, reader::body_at(s, at)) {
+                match judge(st, at, field_reader::body_at(s, at)) {
                     Turn::Stop(r) => {
                         return refused(r);
                     }

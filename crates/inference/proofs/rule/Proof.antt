@@ -5,7 +5,7 @@ use Rattle.inference.proofs.rule.Statement.{statement}
 use Rattle.inference.proofs.rule.Tie as tie
 use Rattle.inference.proofs.rule.Reads as reads
 use Rattle.inference.proofs.rule.Lts as lts
-use Rattle.closures.proofs.closure_rule.Reads as closure-rule-reads
+use Rattle.closure_rule.proofs.closure_rule.Reads as closure-rule-reads
 use Rattle.rules.proofs.pair_rule.Reads as pair-rule-reads
 use Rattle.rules.proofs.step_rule.Reads as step-rule-reads
 use Rattle.rules.proofs.union_rule.Reads as union-rule-reads

@@ -5,10 +5,10 @@ use Rattle.job.proofs.job_codes.Statement.{statement}
 use Rattle.job.proofs.job_codes.Tie as tie
 use Rattle.job.proofs.job_codes.Reads as reads
 use Rattle.job.proofs.job_codes.Lts as lts
-use Rattle.conform.proofs.first_breach.Reads as first-breach-reads
+use Rattle.conformance.proofs.first_breach.Reads as first-breach-reads
 use Rattle.job.proofs.answer_file.Reads as answer-file-reads
-use Rattle.narrow.proofs.first_unnamed.Reads as first-unnamed-reads
-use Rattle.narrow.proofs.narrow_named.Reads as narrow-named-reads
+use Rattle.narrowing.proofs.first_unnamed.Reads as first-unnamed-reads
+use Rattle.narrowing.proofs.narrow_named.Reads as narrow-named-reads
 use Rattle.job.proofs.Results.{codes-unnamed, codes-breached, codes-refused, file-members, codes-filed}
 use mathlib.Core.Path.{sym}
 use native.Mathlib.Omega.{arith}

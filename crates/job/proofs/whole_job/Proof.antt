@@ -12,7 +12,7 @@ use Rattle.sheet.proofs.read.Reads as read-reads′′
 use Rattle.sheet.proofs.Told.{refused-sheet, told-sheet}
 use Rattle.question.proofs.Told.{refused-question, told-question}
 use Rattle.register.proofs.Told.{refused-file, accepted-file, accepted-records}
-use Rattle.narrow.proofs.Given.{taken}
+use Rattle.narrowing.proofs.Given.{taken}
 use Rattle.job.proofs.Whole.{sheet-refused, question-refused, register-refused, files-read, tells, asked}
 use Rattle.job.proofs.Accepted.{with-plain}
 use mathlib.Core.Path.{sym}

@@ -5,7 +5,7 @@ use Rattle.paths.proofs.judge_narrowed.Statement.{statement}
 use Rattle.paths.proofs.judge_narrowed.Tie as tie
 use Rattle.paths.proofs.judge_narrowed.Reads as reads
 use Rattle.paths.proofs.judge_narrowed.Lts as lts
-use Rattle.narrowed.proofs.read.Reads as read-reads
+use Rattle.narrowed_question.proofs.read.Reads as read-reads
 use Rattle.paths.proofs.Judging.{judged-refused, judged-accepted, refused-narrowed, told-narrowed}
 
 read-requires : tie.Need-read-requires

@@ -1,7 +1,7 @@
 -- `question_writer::put_count` meets its contract: head and body, one after the other, are the field.
 -- Assumes nothing.
 use Rattle.fields.specs.Table.{rows, tag-length, field-size}
-use Rattle.bytes.proofs.Along.{wrote-more}
+use Rattle.encode.proofs.Along.{wrote-more}
 use borrow.Author.Needs.{needs}
 use Rattle.question_writer.proofs.put_count.Statement.{statement}
 use Rattle.question_writer.proofs.put_count.Tie as tie

@@ -7,8 +7,8 @@ use Rattle.rules.proofs.add_copies.Statement.{statement}
 use Rattle.rules.proofs.add_copies.Tie as tie
 use Rattle.rules.proofs.add_copies.Reads as reads
 use Rattle.rules.proofs.add_copies.Lts as lts
-use Rattle.nodes.proofs.add.Reads as add-reads
-use Rattle.nodes.proofs.load.Reads as load-reads
+use Rattle.triples.proofs.add.Reads as add-reads
+use Rattle.triples.proofs.load.Reads as load-reads
 
 abbrev Inv-loop : tie.InvT-loop
 Inv-loop words₀ question s start q e count₀ j₀ words count j = CopiesGrowing question words₀ words s start count q e j

@@ -7,7 +7,7 @@ use Rattle.rules.proofs.add_mark.Statement.{statement}
 use Rattle.rules.proofs.add_mark.Tie as tie
 use Rattle.rules.proofs.add_mark.Reads as reads
 use Rattle.rules.proofs.add_mark.Lts as lts
-use Rattle.nodes.proofs.add.Reads as add-reads
+use Rattle.triples.proofs.add.Reads as add-reads
 use Rattle.rules.proofs.marked.Reads as marked-reads
 
 marked-requires : tie.Need-marked-requires

@@ -7,8 +7,8 @@ use Rattle.rules.proofs.add_pair.Statement.{statement}
 use Rattle.rules.proofs.add_pair.Tie as tie
 use Rattle.rules.proofs.add_pair.Reads as reads
 use Rattle.rules.proofs.add_pair.Lts as lts
-use Rattle.nodes.proofs.add.Reads as add-reads
-use Rattle.nodes.proofs.load.Reads as load-reads
+use Rattle.triples.proofs.add.Reads as add-reads
+use Rattle.triples.proofs.load.Reads as load-reads
 use Rattle.rules.proofs.fits.Reads as fits-reads
 use Rattle.rules.proofs.paired.Reads as paired-reads
 

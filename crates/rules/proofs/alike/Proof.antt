@@ -6,8 +6,8 @@ use Rattle.rules.proofs.alike.Statement.{statement}
 use Rattle.rules.proofs.alike.Tie as tie
 use Rattle.rules.proofs.alike.Reads as reads
 use Rattle.rules.proofs.alike.Lts as lts
-use Rattle.nodes.proofs.load.Reads as load-reads
-use Rattle.nodes.proofs.same_path.Reads as same-path-reads
+use Rattle.triples.proofs.load.Reads as load-reads
+use Rattle.triples.proofs.same_path.Reads as same-path-reads
 
 load-requires : tie.Need-load-requires
 load-requires c κs = search needs

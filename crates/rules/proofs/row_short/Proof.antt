@@ -8,7 +8,7 @@ use Rattle.rules.proofs.row_short.Statement.{statement}
 use Rattle.rules.proofs.row_short.Tie as tie
 use Rattle.rules.proofs.row_short.Reads as reads
 use Rattle.rules.proofs.row_short.Lts as lts
-use Rattle.nodes.proofs.load.Reads as load-reads
+use Rattle.triples.proofs.load.Reads as load-reads
 use Rattle.rules.proofs.pair_short.Reads as pair-short-reads
 
 abbrev Inv-loop : tie.InvT-loop

@@ -1,0 +1,87 @@
+-- `closure_rule::closure_rule` meets its contract.
+-- Assumes nothing.
+use borrow.Author.Needs.{needs}
+use Rattle.closure_rule.proofs.closure_rule.Statement.{statement}
+use Rattle.closure_rule.proofs.closure_rule.Tie as tie
+use Rattle.closure_rule.proofs.closure_rule.Reads as reads
+use Rattle.closure_rule.proofs.closure_rule.Lts as lts
+use Rattle.closure_rule.proofs.add_all_kept.Reads as add-all-kept-reads
+use Rattle.closure_rule.proofs.copy_acyclic.Reads as copy-acyclic-reads
+use Rattle.closure_rule.proofs.grow_walks.Reads as grow-walks-reads
+use Rattle.kind_graph.proofs.graph.Reads as graph-reads
+use Rattle.kind_graph.proofs.walks_short.Reads as walks-short-reads
+use borrow.Author.Tests.{not-true, not-false}
+use Rattle.closure_rule.proofs.Ruling.{rule-copies, rule-walks, rule-long, rule-grows, rule-many, rule-keeps, kept-many, rule-made}
+
+slice-aggregate-graph : tie.Need-slice-aggregate-graph
+slice-aggregate-graph c = search needs
+
+graph-requires : tie.Need-graph-requires
+graph-requires c κs = search needs
+
+slice-aggregate-copy-acyclic : tie.Need-slice-aggregate-copy-acyclic
+slice-aggregate-copy-acyclic c = search needs
+
+copy-acyclic-requires : tie.Need-copy-acyclic-requires
+copy-acyclic-requires c κs = rule-copies (c .before .before .before .before .before .before .before .before .pre) (c .before .before .before .graph .ensures)
+
+add-walks-short : tie.Need-add-walks-short
+add-walks-short c = search needs
+
+walks-short-requires : tie.Need-walks-short-requires
+walks-short-requires c κs = rule-walks (c .before .before .before .before .before .before .before .before .before .before .before .before .pre) (c .before .before .before .copy-acyclic .ensures)
+
+same-length : tie.Need-same-length
+same-length c = search needs
+
+returns : tie.Need-returns
+returns c = rule-long (c .before .before .before .before .before .before .before .before .before .before .before .before .before .before .pre) (c .before .before .before .before .before .copy-acyclic .ensures) (c .before .walks-short .ensures) (not-true _ (c .if1 .taken))
+
+grow-walks-requires : tie.Need-grow-walks-requires
+grow-walks-requires c κs = rule-grows (c .before .before .before .before .before .before .before .before .before .before .before .before .before .before .before .pre) (c .before .before .before .before .before .before .copy-acyclic .ensures) (c .before .before .walks-short .ensures) (not-false _ (c .before .if1 .left))
+
+same-length-2 : tie.Need-same-length-2
+same-length-2 c = search needs
+
+returns-2 : tie.Need-returns-2
+returns-2 c = rule-many (c .before .before .before .before .before .before .before .before .before .before .before .before .before .before .before .before .before .before .before .pre) (c .before .before .before .before .before .before .before .before .before .before .copy-acyclic .ensures) (c .before .before .before .before .before .before .walks-short .ensures) (not-false _ (c .before .before .before .before .before .if1 .left)) (c .before .before .before .grow-walks .ensures) (c .if2 .taken)
+
+slice-aggregate-add-all-kept : tie.Need-slice-aggregate-add-all-kept
+slice-aggregate-add-all-kept c = search needs
+
+add-all-kept-requires : tie.Need-add-all-kept-requires
+add-all-kept-requires c κs = rule-keeps (c .before .before .before .before .before .before .before .before .before .before .before .before .before .before .before .before .before .before .before .before .before .pre) (c .before .before .before .before .before .before .before .before .before .before .before .before .copy-acyclic .ensures) (c .before .before .before .before .before .before .before .before .walks-short .ensures) (not-false _ (c .before .before .before .before .before .before .before .if1 .left)) (c .before .before .before .before .before .grow-walks .ensures) (c .before .before .before .before .before .before .before .before .before .before .before .before .before .before .before .before .graph .ensures) (c .before .before .if2 .left)
+
+same-length-3 : tie.Need-same-length-3
+same-length-3 c = search needs
+
+returns-3 : tie.Need-returns-3
+returns-3 c = kept-many (c .before .before .before .before .before .before .before .before .before .before .before .before .before .before .before .before .before .before .before .before .before .before .before .before .before .pre) (c .before .before .before .before .before .before .before .before .before .before .before .before .before .before .before .before .copy-acyclic .ensures) (c .before .before .before .before .before .before .before .before .before .before .before .before .walks-short .ensures) (not-false _ (c .before .before .before .before .before .before .before .before .before .before .before .if1 .left)) (c .before .before .before .before .before .before .before .before .before .grow-walks .ensures) (c .before .before .before .before .before .before .before .before .before .before .before .before .before .before .before .before .before .before .before .before .graph .ensures) (c .before .before .before .before .before .before .if2 .left) (c .before .before .before .add-all-kept .ensures) (c .if3 .taken)
+
+same-length-4 : tie.Need-same-length-4
+same-length-4 c = search needs
+
+returns-4 : tie.Need-returns-4
+returns-4 c = rule-made (c .before .before .before .before .before .before .before .before .before .before .before .before .before .before .before .before .before .before .before .before .before .before .before .before .before .pre) (c .before .before .before .before .before .before .before .before .before .before .before .before .before .before .before .before .copy-acyclic .ensures) (c .before .before .before .before .before .before .before .before .before .before .before .before .walks-short .ensures) (not-false _ (c .before .before .before .before .before .before .before .before .before .before .before .if1 .left)) (c .before .before .before .before .before .before .before .before .before .grow-walks .ensures) (c .before .before .before .before .before .before .before .before .before .before .before .before .before .before .before .before .before .before .before .before .graph .ensures) (c .before .before .before .before .before .before .if2 .left) (c .before .before .before .add-all-kept .ensures) (c .if3 .left)
+
+pub closure-rule-spec : {M : Type 1} → statement M
+closure-rule-spec =
+    tie.close
+    (tie.spec
+    slice-aggregate-graph
+    graph-requires
+    slice-aggregate-copy-acyclic
+    copy-acyclic-requires
+    add-walks-short
+    walks-short-requires
+    same-length
+    returns
+    grow-walks-requires
+    same-length-2
+    returns-2
+    slice-aggregate-add-all-kept
+    add-all-kept-requires
+    same-length-3
+    returns-3
+    same-length-4
+    returns-4)

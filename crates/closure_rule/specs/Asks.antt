@@ -1,0 +1,49 @@
+-- What the rule of a closure asks, and what its pieces ask.
+-- 01-scope.md, "Inference and merging": "Chain of a part".
+-- Assumes nothing.
+use mathlib.Core.Path.{_≡_}
+use mathlib.Core.Bool.{true}
+use mathlib.Core.List.{List}
+use Prim.Native.Nat.{ℕ, _+_, _<_, _≤_}
+use Rattle.theory.specs.Lists.{NoRepeat}
+use Rattle.theory.specs.Inference.{Triple, walks}
+use Rattle.theory.specs.Narrowing.{short?}
+use Rattle.triples.specs.Paths.{Copied}
+use Rattle.triples.specs.Parts.{part-of}
+use Rattle.rules.specs.Asks.{Lies, Room, part}
+use Rattle.kind_graph.specs.Kinds.{Linked}
+
+-- a part of at most 128 triples, each once, whose original part is n symbols of the question from o on
+pub record Closing (qs ws : List ℕ) (s p d o n : ℕ) : Type 0 where
+  pub room : Room qs ws s 0
+  pub lies : Lies s p d
+  pub few : d ≤ p + 128
+  pub norepeat : NoRepeat (part qs ws p d)
+  pub copied : Copied qs o n
+  pub place : o < 4096
+  pub symbols : n ≤ 47
+
+-- xs is the graph of the part that is copied
+pub record CopyAcyclic (qs ws xs : List ℕ) (s p d : ℕ) : Type 0 where
+  pub room : Room qs ws s 0
+  pub lies : Lies s p d
+  pub few : d ≤ p + 128
+  pub linked : Linked (part qs ws p d) xs
+
+-- the walks go over f triples, each once, and none is over 48 symbols long
+pub record GrowWalks (qs ws : List ℕ) (s f : ℕ) : Type 0 where
+  pub room : Room qs ws s f
+  pub norepeat : NoRepeat (part-of qs ws s f)
+  pub short : short? (walks 24 (part-of qs ws s f) (part-of qs ws s f)) ≡ true
+
+-- xs is the graph of some triples
+pub record Graph (xs : List ℕ) : Type 0 where
+  pub of : List Triple
+  pub linked : Linked of xs
+
+pub record AddKept (qs ws xs : List ℕ) (s count o n : ℕ) : Type 0 where
+  pub room : Room qs ws s count
+  pub graph : Graph xs
+  pub copied : Copied qs o n
+  pub place : o < 4096
+  pub symbols : n ≤ 47

@@ -1,0 +1,30 @@
+-- `conformance::permitted` meets its contract.
+-- Assumes nothing.
+use borrow.Author.Needs.{needs}
+use Rattle.sheet.specs.Table.{tabled?}
+use Rattle.conformance.proofs.permitted.Statement.{statement}
+use Rattle.conformance.proofs.permitted.Tie as tie
+
+word-of-requires : tie.Need-word-of-requires
+word-of-requires c κs = search needs
+
+mul-bit : tie.Need-mul-bit
+mul-bit c = search needs
+
+element-copy-out-bit : tie.Need-element-copy-out-bit
+element-copy-out-bit c = search needs
+
+cast-bit : tie.Need-cast-bit
+cast-bit c = search needs
+
+bit-requires : tie.Need-bit-requires
+bit-requires c κs = search needs
+
+returns : tie.Need-returns
+unfolding tabled?
+returns c = rw (← c .before .before .before .word-of .ensures .0) (c .bit .ensures)
+
+pub permitted-spec : {M : Type 1} → statement M
+permitted-spec =
+    tie.close
+    (tie.spec word-of-requires mul-bit element-copy-out-bit cast-bit bit-requires returns)

@@ -1,0 +1,93 @@
+-- Of what the bytes of a symbol, of symbols and of members are made.
+-- Assumes nothing.
+use Prim.Native.Nat.{ℕ, zero, suc, _+_, _-_, _/_, _%_, _<_, _≤_}
+use mathlib.Core.Path.{_≡_, refl, ap, _∙_, sym, subst}
+use mathlib.Core.Bool.{Bool, true, false, cond}
+use mathlib.Core.List.{List, [], _∷_, _++_}
+use lib.Dec.{ltb, eqb}
+use lib.ListN.{length, getD}
+use native.Mathlib.Omega.{arith}
+use borrow.Author.Tests.{lt-ltb, le-ltb, eq-eqb, ne-eqb}
+use Rattle.fields.specs.Table.{rows, tag-length, field-size}
+use Rattle.narrowed_question.specs.declared.Members.{Members}
+use Rattle.narrowed_question.specs.Form.{Flat, flat}
+use Rattle.fields.specs.Writing.{two-bytes, eight-bytes, field-bytes}
+use Rattle.symbols.specs.Writing.{symbol-bytes, symbols-bytes}
+use Rattle.narrowed_question.specs.Writing.{member-bytes, members-bytes, encode}
+use Rattle.symbols.specs.Symbols.{symbol-given, symbols-given}
+use Rattle.narrowed_question.specs.Given.{members-given, given}
+use Rattle.encode.specs.Size.{symbol-size}
+use Rattle.encode.specs.Wrote.{Wrote}
+use Rattle.encode.proofs.Along.{wrote-more}
+
+-- ---- a symbol, by its number
+pub step-bytes : (c m : ℕ) {l : ℕ} → c < 128 → l ≡ c % 64 → symbol-bytes (symbol-given c m) ≡ field-bytes 0x43 (c / 64 ∷ l ∷ [])
+step-bytes c m h e = rw e (simp (lt-ltb c 128 h))
+
+pub through-bytes : (c m : ℕ) → 128 ≤ c → c ≡ 255 → symbol-bytes (symbol-given c m) ≡ field-bytes 0x45 (eight-bytes m)
+through-bytes c m g h = simp (le-ltb c 128 g, eq-eqb c 255 h)
+
+pub operator-bytes : (c m : ℕ) → 128 ≤ c → (c ≡ 255 → ⊥) → symbol-bytes (symbol-given c m) ≡ field-bytes 0x44 (c ∷ [])
+operator-bytes c m g h = simp (le-ltb c 128 g, ne-eqb c 255 h)
+
+-- the size of a symbol's field
+pub size-is : (c m : ℕ) → symbol-size c ≡ length (symbol-bytes (symbol-given c m))
+unfolding symbol-size field-size tag-length rows
+size-is c m = go (ltb c 128) (eqb c 255) refl refl
+  where
+    go : (a b : Bool) → ltb c 128 ≡ a → eqb c 255 ≡ b → cond (ltb c 128) 5 (cond (eqb c 255) 11 4) ≡ length (symbol-bytes (symbol-given c m))
+    go true b e f = rw e
+    go false true e f = rw (e, f)
+    go false false e f = rw (e, f)
+
+pub step-room : (c m at : ℕ) {room : ℕ} → c < 128 → at + length (symbol-bytes (symbol-given c m)) ≤ room → at + field-size 0x43 ≤ room
+unfolding field-size tag-length rows
+step-room c m at h r = omega (arith, ap length (step-bytes c m h refl), r)
+
+pub through-room : (c m at : ℕ) {room : ℕ} → 128 ≤ c → c ≡ 255 → at + length (symbol-bytes (symbol-given c m)) ≤ room → at + field-size 0x45 ≤ room
+unfolding field-size tag-length rows
+through-room c m at g h r = omega (arith, ap length (through-bytes c m g h), r)
+
+pub operator-room : (c m at : ℕ) {room : ℕ} → 128 ≤ c → (c ≡ 255 → ⊥) → at + length (symbol-bytes (symbol-given c m)) ≤ room → at + field-size 0x44 ≤ room
+unfolding field-size tag-length rows
+operator-room c m at g h r = omega (arith, ap length (operator-bytes c m g h), r)
+
+-- ---- symbols, one more
+pub symbols-more : (a b : List ℕ) (n k : ℕ) → 0 < n
+    → symbols-bytes (symbols-given a b n k) ≡ symbol-bytes (symbol-given (getD a k 0) (getD b k 0)) ++ symbols-bytes (symbols-given a b (n - 1) (k + 1))
+symbols-more a b n k h =
+    ap (λ (j : ℕ). symbols-bytes (symbols-given a b j k)) (let z : n ≡ suc (n - 1) = omega arith in z)
+    ∙ ap (λ (j : ℕ). symbol-bytes (symbol-given (getD a k 0) (getD b k 0)) ++ symbols-bytes (symbols-given a b (n - 1) j)) (let z : suc k ≡ k + 1 = omega arith in z)
+
+-- ---- a member
+pub symbols-many : (a b : List ℕ) (n k : ℕ) → length (symbols-given a b n k) ≡ n
+symbols-many a b zero k = refl
+symbols-many a b (suc n) k = ap suc (symbols-many a b n (suc k))
+
+pub member-parts : (a b : List ℕ) (n k f t : ℕ)
+    → member-bytes (flat f t (symbols-given a b n k)) ≡ field-bytes 0x42 (n ∷ (eight-bytes f ++ eight-bytes t)) ++ symbols-bytes (symbols-given a b n k)
+member-parts a b n k f t =
+    ap (λ (c : ℕ). field-bytes 0x42 (c ∷ (eight-bytes f ++ eight-bytes t)) ++ symbols-bytes (symbols-given a b n k)) (symbols-many a b n k)
+
+pub member-wrote : {o p q : List ℕ} {at x y : ℕ} (a b : List ℕ) (n k f t : ℕ) → Wrote o p at x (field-bytes 0x42 (n ∷ (eight-bytes f ++ eight-bytes t)))
+    → Wrote p q x y (symbols-bytes (symbols-given a b n k)) → Wrote o q at y (member-bytes (flat f t (symbols-given a b n k)))
+member-wrote {o} {p} {q} {at} {x} {y} a b n k f t u v = subst (λ (l : List ℕ). Wrote o q at y l) (sym (member-parts a b n k f t)) (wrote-more u v)
+
+-- ---- members, one more
+pub members-many : (q : Members) (n i k : ℕ) → length (members-given q n i k) ≡ n
+members-many q zero i k = refl
+members-many q (suc n) i k = ap suc (members-many q n (suc i) (k + getD (q .sizes) i 0))
+
+-- the i-th member, whose symbols begin with the k-th
+abbrev pub member-at : Members → ℕ → ℕ → Flat
+member-at q i k = flat (getD (q .from) i 0) (getD (q .to) i 0) (symbols-given (q .numbers) (q .sets) (getD (q .sizes) i 0) k)
+
+pub members-more : (q : Members) (i k : ℕ) → i < q .count
+    → members-bytes (members-given q (q .count - i) i k) ≡ member-bytes (member-at q i k) ++ members-bytes (members-given q (q .count - (i + 1)) (i + 1) (k + getD (q .sizes) i 0))
+members-more q i k h =
+    ap (λ (j : ℕ). members-bytes (members-given q j i k)) (let z : q .count - i ≡ suc (q .count - (i + 1)) = omega arith in z)
+    ∙ ap (λ (j : ℕ). member-bytes (member-at q i k) ++ members-bytes (members-given q (q .count - (i + 1)) j (k + getD (q .sizes) i 0))) (let z : suc i ≡ i + 1 = omega arith in z)
+
+pub encode-parts : (q : Members) → encode (given q) ≡ field-bytes 0x41 (two-bytes (q .count)) ++ members-bytes (members-given q (q .count) 0 0)
+unfolding encode given
+encode-parts q = ap (λ (c : ℕ). field-bytes 0x41 (two-bytes c) ++ members-bytes (members-given q (q .count) 0 0)) (members-many q (q .count) 0 0)

@@ -1,0 +1,53 @@
+-- `encode::put_eight` meets its contract.
+-- Assumes nothing.
+use Rattle.encode.proofs.Along.{wrote-more}
+use borrow.Author.Needs.{needs}
+use Rattle.encode.proofs.put_eight.Statement.{statement}
+use Rattle.encode.proofs.put_eight.Tie as tie
+
+short-requires : tie.Need-short-requires
+short-requires c κs = search needs
+
+put-two-requires : tie.Need-put-two-requires
+put-two-requires c κs = search needs
+
+short-requires-2 : tie.Need-short-requires-2
+short-requires-2 c κs = search needs
+
+put-two-requires-2 : tie.Need-put-two-requires-2
+put-two-requires-2 c κs = search needs
+
+short-requires-3 : tie.Need-short-requires-3
+short-requires-3 c κs = search needs
+
+put-two-requires-3 : tie.Need-put-two-requires-3
+put-two-requires-3 c κs = search needs
+
+short-requires-4 : tie.Need-short-requires-4
+short-requires-4 c κs = search needs
+
+put-two-requires-4 : tie.Need-put-two-requires-4
+put-two-requires-4 c κs = search needs
+
+same-length : tie.Need-same-length
+same-length c = search needs
+
+returns : tie.Need-returns
+returns c =
+    rw (← c .before .before .before .before .before .before .before .before .before .before .before .before .before .before .before .before .before .before .short .ensures, ← c .before .before .before .before .before .before .before .before .before .before .before .before .before .short2 .ensures, ← c .before .before .before .before .before .before .before .before .short3 .ensures, ← c .before .before .before .short4 .ensures)
+    (wrote-more (c .before .before .before .before .before .before .before .before .before .before .before .before .before .before .before .before .before .put-two .ensures) (wrote-more (c .before .before .before .before .before .before .before .before .before .before .before .before .put-two2 .ensures) (wrote-more (c .before .before .before .before .before .before .before .put-two3 .ensures) (c .before .before .put-two4 .ensures))))
+
+pub put-eight-spec : {M : Type 1} → statement M
+put-eight-spec =
+    tie.close
+    (tie.spec
+    short-requires
+    put-two-requires
+    short-requires-2
+    put-two-requires-2
+    short-requires-3
+    put-two-requires-3
+    short-requires-4
+    put-two-requires-4
+    same-length
+    returns)

@@ -1,0 +1,30 @@
+-- `encode::put_step` meets its contract.
+-- Assumes nothing.
+use Rattle.fields.specs.Table.{rows, tag-length, field-size}
+use Rattle.encode.proofs.Along.{wrote-more}
+use borrow.Author.Needs.{needs}
+use Rattle.encode.proofs.put_step.Statement.{statement}
+use Rattle.encode.proofs.put_step.Tie as tie
+
+put-head-requires : tie.Need-put-head-requires
+unfolding field-size tag-length rows
+put-head-requires c κs = search needs
+
+put-byte-requires : tie.Need-put-byte-requires
+unfolding field-size tag-length rows
+put-byte-requires c κs = search needs
+
+put-byte-requires-2 : tie.Need-put-byte-requires-2
+unfolding field-size tag-length rows
+put-byte-requires-2 c κs = search needs
+
+same-length : tie.Need-same-length
+same-length c = search needs
+
+returns : tie.Need-returns
+returns c = wrote-more (wrote-more (c .before .before .before .before .before .before .before .before .before .before .put-head .ensures) (c .before .before .before .before .before .before .put-byte .ensures)) (c .before .before .put-byte2 .ensures)
+
+pub put-step-spec : {M : Type 1} → statement M
+put-step-spec =
+    tie.close
+    (tie.spec put-head-requires put-byte-requires put-byte-requires-2 same-length returns)

@@ -1,0 +1,23 @@
+-- `kind_graph::extend` meets its contract.
+-- Assumes nothing.
+use Rattle.kind_graph.proofs.Rounds.{extended-more}
+use borrow.Author.Needs.{needs}
+use Rattle.kind_graph.proofs.extend.Statement.{statement}
+use Rattle.kind_graph.proofs.extend.Tie as tie
+use Rattle.kind_graph.proofs.extend.Reads as reads
+use Rattle.kind_graph.proofs.extend.Lts as lts
+
+returns : tie.Need-returns
+returns c = search needs
+
+add-result : tie.Need-add-result
+add-result c = search needs
+
+add-result-2 : tie.Need-add-result-2
+add-result-2 c = search needs
+
+returns-2 : tie.Need-returns-2
+returns-2 c = extended-more _ _ (c .if1 .left)
+
+pub extend-spec : {M : Type 1} → statement M
+extend-spec = tie.close (tie.spec returns add-result add-result-2 returns-2)

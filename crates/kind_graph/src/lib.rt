@@ -1,0 +1,180 @@
+// What the rule of a closure asks of the graph of a part's kinds, and whether its walks are short.
+use fields::Kind;
+ghost use mathlib.Core.Path.{_≡_};
+ghost use Prim.Native.Nat.{_-_, _<_, _≤_};
+ghost use lib.ListN.{length};
+ghost use Rattle.theory.specs.Inference.{walks};
+ghost use Rattle.theory.specs.Narrowing.{short?};
+ghost use Rattle.rows.specs.Row.{row-bit, Row, mask-of};
+ghost use Rattle.triples.specs.Tests.{Decides};
+ghost use Rattle.triples.specs.Parts.{part-of};
+ghost use Rattle.kind_graph.specs.Kinds.{Edges, Linked, TellsAcyclic, TellsMeets, TellsMeetsAny};
+ghost use Rattle.kind_graph.specs.Sizes.{Part, extended, size-of, weight, Raised, Raising, AtMost, Small};
+
+// A bit for the kinds of each triple of the nodes from s to e.
+fn edges(words: &[u64], question: &[u8], s: usize, e: usize, work: &mut [u64])
+    requires { ⌜ (s ≤ e) × (e ≤ length (now words)) × (length (now work) ≡ 128) ⌝ }
+    ensures { λ _. ⌜ Edges (part-of (now (question .entry)) (now (words .entry)) s (e - s)) (now (work .exit)) ⌝ }
+{
+    rows::clear(work, 0, 64);
+    let mut i = s;
+    while i < e {
+        let x = triples::load(words, i);
+        relation::set_pair(work, 0, 64, 1, x.from.0 as usize, x.to.0 as usize);
+        i += 1;
+    }
+}
+
+// The mask becomes the kinds from which a walk leads back.
+fn cyclic(mask: &mut [u64], work: &[u64])
+    requires { ⌜ (length (now mask) ≡ 1) × (length (now work) ≡ 128) ⌝ }
+    ensures { λ _. ⌜ Row 0 1 (mask-of (λ z. row-bit (now (work .entry)) z z) 64) (now (mask .entry)) (now (mask .exit)) ⌝ }
+{
+    rows::clear(mask, 0, 1);
+    for z in 0..64 {
+        let b = rows::has(work, z, z);
+        rows::set_if(mask, z, b);
+    }
+}
+
+// The last 64 words become the first 64.
+fn double(work: &mut [u64])
+    requires { ⌜ length (now work) ≡ 128 ⌝ }
+    ensures { λ _. ⌜ Row 64 64 (row-bit (now (work .entry)) 0) (now (work .entry)) (now (work .exit)) ⌝ }
+{
+    let mut half = [0u64; 64];
+    rows::copy(&mut half, 0, work, 0, 64);
+    rows::copy(work, 64, &half, 0, 64);
+}
+
+// Word 64 + a: the kinds to which a walk over the nodes from s to e leads from kind a.
+// Word a: those to which one leads that meets a cyclic kind.
+pub fn graph(words: &[u64], question: &[u8], s: usize, e: usize, work: &mut [u64])
+    requires { ⌜ (s ≤ e) × (e ≤ length (now words)) × (length (now work) ≡ 128) ⌝ }
+    ensures { λ _. ⌜ Linked (part-of (now (question .entry)) (now (words .entry)) s (e - s)) (now (work .exit)) ⌝ }
+{
+    let mut mask = [0u64; 1];
+    edges(words, question, s, e, work);
+    transitive_closure::closure(work, 0, 64, 1);
+    cyclic(&mut mask, work);
+    double(work);
+    relation::join(work, 0, 64, 64, 1, &mask);
+}
+
+// Is neither kind cyclic?
+pub fn acyclic(work: &[u64], a: Kind, b: Kind) -> bool
+    requires { ⌜ (length (now work) ≡ 128) × (a .0 < 64) × (b .0 < 64) ⌝ }
+    ensures { λ r. ⌜ TellsAcyclic (now (work .entry)) (a .0) (b .0) r ⌝ }
+{
+    let i = a.0 as usize;
+    if rows::has(work, 64 + i, i) {
+        return false;
+    }
+    let j = b.0 as usize;
+    !rows::has(work, 64 + j, j)
+}
+
+// Does a walk from a to b meet a cyclic kind?
+pub fn meets(work: &[u64], a: Kind, b: Kind) -> bool
+    requires { ⌜ (length (now work) ≡ 128) × (a .0 < 64) × (b .0 < 64) ⌝ }
+    ensures { λ r. ⌜ TellsMeets (now (work .entry)) (a .0) (b .0) r ⌝ }
+{
+    rows::has(work, a.0 as usize, b.0 as usize)
+}
+
+// Does a walk from a to any kind meet one?
+pub fn meets_any(work: &[u64], a: Kind) -> bool
+    requires { ⌜ (length (now work) ≡ 128) × (a .0 < 64) ⌝ }
+    ensures { λ r. ⌜ TellsMeetsAny (now (work .entry)) (a .0) r ⌝ }
+{
+    rows::any(work, a.0 as usize, 1)
+}
+
+// Raises what stands at k to v, where it is less.
+fn raise(best: &mut [u64], k: Kind, v: u64)
+    requires { ⌜ k .0 < length (now best) ⌝ }
+    ensures { λ _. ⌜ Raised (k .0) v (now (best .entry)) (now (best .exit)) ⌝ }
+{
+    let i = k.0 as usize;
+    if best[i] < v {
+        best[i] = v;
+    }
+}
+
+// The size of a walk of size m (0: there is none) joined with one more.
+fn extend(m: u64, size: usize) -> u64
+    requires { ⌜ (m ≤ 48) × (size < 64) ⌝ }
+    ensures { λ r. ⌜ r ≡ extended m size ⌝ }
+{
+    if m == 0 {
+        return 0;
+    }
+    m + (size as u64) + 1
+}
+
+// The largest path of the nodes from s to e, for each kind that they end in.
+fn first_round(words: &[u64], question: &[u8], s: usize, e: usize, next: &mut [u64])
+    requires { ⌜ Part (now question) (now words) s e × (length (now next) ≡ 64) ⌝ }
+    ensures { λ _. ⌜ Raising size-of (part-of (now (question .entry)) (now (words .entry)) s (e - s)) (now (next .entry)) (now (next .exit)) ⌝ }
+{
+    let mut i = s;
+    while i < e {
+        let x = triples::load(words, i);
+        raise(next, x.to, x.size as u64);
+        i += 1;
+    }
+}
+
+// The same of walks with one triple more, by what `best` says of those without it.
+fn round(words: &[u64], question: &[u8], s: usize, e: usize, best: &[u64], next: &mut [u64])
+    requires { ⌜ Part (now question) (now words) s e × (length (now best) ≡ 64) × (length (now next) ≡ 64) × Small (now best) ⌝ }
+    ensures { λ _. ⌜ Raising (weight (now (best .entry))) (part-of (now (question .entry)) (now (words .entry)) s (e - s)) (now (next .entry)) (now (next .exit)) ⌝ }
+{
+    let mut i = s;
+    while i < e {
+        let x = triples::load(words, i);
+        let k = x.from.0 as usize;
+        raise(next, x.to, extend(best[k], x.size));
+        i += 1;
+    }
+}
+
+// Is each number at most m?
+fn at_most(best: &[u64], m: u64) -> bool
+    ensures { λ r. ⌜ Decides (AtMost m (now (best .entry))) r ⌝ }
+{
+    let mut i = 0;
+    while i < best.len() {
+        if m < best[i] {
+            return false;
+        }
+        i += 1;
+    }
+    true
+}
+
+// Has each walk over the nodes from s to e a path of at most 48 symbols? One of more than 25 triples has more; where there is none of n, there is none of more.
+pub fn walks_short(words: &[u64], question: &[u8], s: usize, e: usize) -> bool
+    requires { ⌜ Part (now question) (now words) s e ⌝ }
+    ensures { λ r. ⌜ r ≡ short? (walks 24 (part-of (now (question .entry)) (now (words .entry)) s (e - s)) (part-of (now (question .entry)) (now (words .entry)) s (e - s))) ⌝ }
+{
+    let mut best = [0u64; 64];
+    first_round(words, question, s, e, &mut best);
+    if !at_most(&best, 48) {
+        return false;
+    }
+    let mut n: usize = 0;
+    while n < 24 {
+        if at_most(&best, 0) {
+            return true;
+        }
+        let mut next = [0u64; 64];
+        round(words, question, s, e, &best, &mut next);
+        if !at_most(&next, 48) {
+            return false;
+        }
+        best = next;
+        n += 1;
+    }
+    true
+}

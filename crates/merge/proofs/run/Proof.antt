@@ -1,0 +1,103 @@
+-- `merge::run` meets its contract.
+-- Assumes nothing.
+use Rattle.merge.proofs.Merging.{Gathering, first-in, first-ready, run-start, next-in, run-asks, run-ends, run-turn, run-over}
+use borrow.Author.Tests.{not-true, not-false}
+use borrow.Author.Needs.{needs}
+use Prim.Native.Nat.{_-_}
+use native.Mathlib.Omega.{arith}
+use Rattle.merge.proofs.run.Statement.{statement}
+use Rattle.merge.proofs.run.Tie as tie
+use Rattle.merge.proofs.run.Reads as reads
+use Rattle.merge.proofs.run.Lts as lts
+use Rattle.triples.proofs.expand.Reads as expand-reads
+use Rattle.merge.proofs.kinds.Reads as kinds-reads
+use Rattle.merge.proofs.take_in.Reads as take-in-reads
+
+abbrev Inv-loop : tie.InvT-loop
+Inv-loop words used question order n k codes sets₀ i size from₀ to₀ j₀ sets from to j = Gathering question words order n k codes sets size from to j
+
+abbrev μ-loop : tie.MeasureT-loop
+μ-loop words used question order n k codes sets₀ i size from₀ to₀ j₀ sets from to j = n - j
+
+mul-i : tie.Need-mul-i Inv-loop μ-loop
+mul-i c = search needs
+
+shared-slice-read-i : tie.Need-shared-slice-read-i Inv-loop μ-loop
+shared-slice-read-i c = search needs
+
+expand-requires : tie.Need-expand-requires Inv-loop μ-loop
+expand-requires c κs = first-ready (c .before .before .before .before .before .before .before .before .pre)
+
+kinds-requires : tie.Need-kinds-requires Inv-loop μ-loop
+kinds-requires c κs = first-in (c .before .before .before .before .before .before .before .before .before .before .before .before .before .pre)
+
+add-j : tie.Need-add-j Inv-loop μ-loop
+add-j c = search needs
+
+loop-holds : tie.Need-loop-holds Inv-loop μ-loop
+loop-holds c = run-start (c .before .before .before .before .before .before .before .before .before .before .before .before .before .before .pre) (c .before .before .before .before .before .expand .ensures) (c .kinds .ensures)
+
+mul-t : tie.Need-mul-t Inv-loop μ-loop
+mul-t c = search needs
+
+shared-slice-read-t : tie.Need-shared-slice-read-t Inv-loop μ-loop
+shared-slice-read-t c = search needs
+
+take-in-requires : tie.Need-take-in-requires Inv-loop μ-loop
+take-in-requires c κs = run-asks (c .before .before .before .before .before .before .before .before .before .before .before .before .before .before .before .before .before .before .before .pre) (c .before .before .before .before .loop .inv) (c .before .before .before .loop-test .taken)
+
+same-length : tie.Need-same-length Inv-loop μ-loop
+same-length c = search needs
+
+same-length-2 : tie.Need-same-length-2 Inv-loop μ-loop
+same-length-2 c = search needs
+
+returns : tie.Need-returns Inv-loop μ-loop
+returns c = run-ends (c .before .before .before .before .before .before .before .before .before .before .before .before .before .before .before .before .before .before .before .before .before .before .before .pre) (c .before .before .before .before .before .before .before .before .loop .inv) (c .before .before .before .before .before .before .before .loop-test .taken) (c .before .before .before .take-in .ensures) (not-true _ (c .if1 .taken))
+
+kinds-requires-2 : tie.Need-kinds-requires-2 Inv-loop μ-loop
+kinds-requires-2 c κs = next-in (c .before .before .before .before .before .before .before .before .before .before .before .before .before .before .before .before .before .before .before .before .before .before .before .pre) (c .before .before .before .before .before .before .before .before .loop .inv) (c .before .before .before .before .before .before .before .loop-test .taken)
+
+add-j-2 : tie.Need-add-j-2 Inv-loop μ-loop
+add-j-2 c = omega (arith, c .before .before .before .before .before .before .before .before .before .before .loop-test .taken, c .before .before .before .before .before .before .before .before .before .before .before .before .before .before .before .before .before .before .before .before .before .before .before .before .before .before .fits .n)
+
+loop-less : tie.Need-loop-less Inv-loop μ-loop
+loop-less c = search needs
+
+loop-again : tie.Need-loop-again Inv-loop μ-loop
+loop-again c = run-turn (c .before .before .before .before .before .before .before .before .before .before .before .before .before .before .before .before .before .before .before .before .before .before .before .before .before .before .pre) (c .before .before .before .before .before .before .before .before .before .before .before .loop .inv) (c .before .before .before .before .before .before .before .before .before .before .loop-test .taken) (c .before .before .before .before .before .before .take-in .ensures) (not-false _ (c .before .before .before .if1 .left)) (c .before .before .kinds2 .ensures)
+
+same-length-3 : tie.Need-same-length-3 Inv-loop μ-loop
+same-length-3 c = search needs
+
+same-length-4 : tie.Need-same-length-4 Inv-loop μ-loop
+same-length-4 c = search needs
+
+returns-2 : tie.Need-returns-2 Inv-loop μ-loop
+returns-2 c = run-over (c .before .before .before .before .before .before .before .before .before .before .before .before .before .before .before .before .pre) (c .before .loop .inv) (c .loop-test .left)
+
+pub run-spec : {M : Type 1} → statement M
+run-spec =
+    tie.close
+    (tie.spec
+    Inv-loop
+    μ-loop
+    mul-i
+    shared-slice-read-i
+    expand-requires
+    kinds-requires
+    add-j
+    loop-holds
+    mul-t
+    shared-slice-read-t
+    take-in-requires
+    same-length
+    same-length-2
+    returns
+    kinds-requires-2
+    add-j-2
+    loop-less
+    loop-again
+    same-length-3
+    same-length-4
+    returns-2)

@@ -1,0 +1,28 @@
+-- Files with what reading them yields, computed: a member, a member twice, an empty file. The file of starred case 1 is in crates/starred_cases.
+-- Assumes nothing.
+use mathlib.Core.Path.{refl}
+use mathlib.Core.List.{List, [], _∷_}
+use Rattle.theory.specs.PathExpr.{forward, through, step, join}
+use Rattle.theory.specs.Merging.{Member, member}
+use Rattle.fields.specs.Answer.{got, refused}
+use Rattle.fields.specs.Case.{Case, case, AllRead}
+use Rattle.fields.specs.Table.{among, rows}
+use Rattle.fields.specs.Reading.{eight, fitting, field-at, walk, read}
+use Rattle.symbols.specs.Symbols.{order-code, arity, step-of, operator-of, symbol-in, push}
+use Rattle.narrowed_question.specs.Form.{Flat, narrowed-form}
+use Rattle.narrowed_question.specs.Writing.{encode}
+use Rattle.narrowed_question.specs.Members.{flat-of, narrowed-file}
+
+abbrev one : Member
+one = member 1 (join (through 2) (step forward 0) (step forward 3)) 8
+
+abbrev pub cases : List (Case (List Flat))
+cases =
+    case (narrowed-file (one ∷ [])) (got (flat-of one ∷ []))
+    ∷ case (narrowed-file (one ∷ one ∷ [])) (refused 4 46)
+    ∷ case [] (refused 5 0)
+    ∷ []
+
+pub all-read : AllRead narrowed-form cases
+unfolding among rows eight fitting field-at walk read order-code arity step-of operator-of symbol-in push encode narrowed-file
+all-read = refl

@@ -1,0 +1,38 @@
+-- `narrowed_question::due` meets its contract.
+-- Assumes nothing.
+use borrow.Author.Needs.{needs}
+use Rattle.narrowed_question.proofs.due.Statement.{statement}
+use Rattle.narrowed_question.proofs.due.Tie as tie
+
+enum-told : tie.Need-enum-told
+enum-told c = search needs
+
+enum-known-st : tie.Need-enum-known-st
+enum-known-st c = search needs
+
+enum-known-st-2 : tie.Need-enum-known-st-2
+enum-known-st-2 c = search needs
+
+symbols-due-requires : tie.Need-symbols-due-requires
+symbols-due-requires c κs = search needs
+
+returns : tie.Need-returns
+returns c = simp (c .enum-told .given .1)
+
+returns-2 : tie.Need-returns-2
+returns-2 c = simp (c .before .st .given .1)
+
+returns-3 : tie.Need-returns-3
+returns-3 c = simp (← c .symbols-due .ensures, c .before .before .st2 .given .1)
+
+pub due-spec : {M : Type 1} → statement M
+due-spec =
+    tie.close
+    (tie.spec
+    enum-told
+    enum-known-st
+    enum-known-st-2
+    symbols-due-requires
+    returns
+    returns-2
+    returns-3)

@@ -1,0 +1,60 @@
+-- `narrowed_question::grow` meets its contract.
+-- Assumes nothing.
+use borrow.Author.Tests.{eq-eqb, ne-eqb}
+use Rattle.narrowed_question.specs.Said.{symbol-move}
+use borrow.Author.Needs.{needs}
+use Rattle.narrowed_question.proofs.grow.Statement.{statement}
+use Rattle.narrowed_question.proofs.grow.Tie as tie
+
+symbol-in-requires : tie.Need-symbol-in-requires
+symbol-in-requires c κs = search needs
+
+enum-known-r : tie.Need-enum-known-r
+enum-known-r c = search needs
+
+enum-known-x : tie.Need-enum-known-x
+enum-known-x c = search needs
+
+operands-requires : tie.Need-operands-requires
+operands-requires c κs = search needs
+
+push-symbol-requires : tie.Need-push-symbol-requires
+push-symbol-requires c κs = search needs
+
+enum-known-r-2 : tie.Need-enum-known-r-2
+enum-known-r-2 c = search needs
+
+enum-known-t : tie.Need-enum-known-t
+enum-known-t c = search needs
+
+returns : tie.Need-returns
+unfolding symbol-move
+returns c = simp (eq-eqb _ _ (c .if1 .taken), c .before .before .before .t .given .1, ← c .before .before .before .before .before .push-symbol .ensures, ← c .before .before .before .before .before .before .operands .ensures, c .before .before .before .before .before .before .before .before .x .given .1, ← c .before .before .before .before .before .before .before .before .before .before .symbol-in .ensures)
+
+returns-2 : tie.Need-returns-2
+unfolding symbol-move
+returns-2 c = simp (c .before .r .given .1, ← c .before .before .before .symbol-in .ensures)
+
+returns-3 : tie.Need-returns-3
+unfolding symbol-move
+returns-3 c = simp (c .before .r2 .given .1, ← c .before .before .before .push-symbol .ensures, ← c .before .before .before .before .operands .ensures, c .before .before .before .before .before .before .x .given .1, ← c .before .before .before .before .before .before .before .before .symbol-in .ensures)
+
+returns-4 : tie.Need-returns-4
+unfolding symbol-move
+returns-4 c = simp (ne-eqb _ _ (c .if1 .left), c .before .before .before .t .given .1, ← c .before .before .before .before .before .push-symbol .ensures, ← c .before .before .before .before .before .before .operands .ensures, c .before .before .before .before .before .before .before .before .x .given .1, ← c .before .before .before .before .before .before .before .before .before .before .symbol-in .ensures)
+
+pub grow-spec : {M : Type 1} → statement M
+grow-spec =
+    tie.close
+    (tie.spec
+    symbol-in-requires
+    enum-known-r
+    enum-known-x
+    operands-requires
+    push-symbol-requires
+    enum-known-r-2
+    enum-known-t
+    returns
+    returns-2
+    returns-3
+    returns-4)

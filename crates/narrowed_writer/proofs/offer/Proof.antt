@@ -1,0 +1,42 @@
+-- `narrowed_writer::offer` meets its contract.
+-- Assumes nothing.
+use Rattle.encode.specs.Size.{symbol-size}
+use Rattle.narrowed_writer.specs.Verdict.{offered}
+use borrow.Author.Needs.{needs}
+use Rattle.narrowed_writer.proofs.offer.Statement.{statement}
+use Rattle.narrowed_writer.proofs.offer.Tie as tie
+
+known-requires : tie.Need-known-requires
+known-requires c κs = search needs
+
+symbol-size-requires : tie.Need-symbol-size-requires
+symbol-size-requires c κs = search needs
+
+add-push-symbol : tie.Need-add-push-symbol
+add-push-symbol c = search needs
+
+operands-requires : tie.Need-operands-requires
+operands-requires c κs = search needs
+
+push-symbol-requires : tie.Need-push-symbol-requires
+push-symbol-requires c κs = search needs
+
+returns : tie.Need-returns
+unfolding offered
+returns c = simp (c .before .before .before .if1 .taken, ← c .before .before .before .before .known .ensures, ← c .before .operands .ensures, ← c .before .before .symbol-size .ensures .0) (c .push-symbol .ensures)
+
+returns-2 : tie.Need-returns-2
+unfolding offered
+returns-2 c = simp (c .if1 .left, ← c .before .known .ensures)
+
+pub offer-spec : {M : Type 1} → statement M
+offer-spec =
+    tie.close
+    (tie.spec
+    known-requires
+    symbol-size-requires
+    add-push-symbol
+    operands-requires
+    push-symbol-requires
+    returns
+    returns-2)

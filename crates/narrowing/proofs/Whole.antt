@@ -1,0 +1,128 @@
+-- The calls as a whole: 11 before what inference says, 15 before that, the files before all.
+-- Assumes nothing.
+use mathlib.Core.Path.{_≡_, refl, sym, ap, subst, _∙_}
+use mathlib.Core.List.{List}
+use Prim.Native.Nat.{ℕ, _<_, _≤_}
+use native.Mathlib.Omega.{arith}
+use lib.ListN.{length, take}
+use lib.Seq.{length-take-le}
+use borrow.Author.Tests.{lt-ltb, le-ltb}
+use Rattle.theory.specs.PathExpr.{Symbol}
+use Rattle.theory.specs.Sheet.{Sheet}
+use Rattle.theory.specs.Narrowing.{Outcome, refused, refuse, link-fault, narrow-read, narrow-symbols}
+use Rattle.fields.specs.declared.Refusal.{Refusal}
+use Rattle.fields.specs.declared.Refusal.the-variants.{UnnamedLink, WorkShort}
+use Rattle.fields.specs.declared.Source.{Source}
+use Rattle.fields.specs.declared.Source.the-variants as source
+use Rattle.fields.specs.declared.Written.{Written}
+use Rattle.fields.specs.declared.Written.the-variants as written
+use Rattle.fields.specs.Answer.{got, refused as refused-file}
+use Rattle.fields.specs.Call.{refuses, zeroed}
+use Rattle.fields.specs.Reading.{read}
+use Rattle.fields.specs.Said.{number-of, place-of}
+use Rattle.sheet.specs.Form.{sheet-form}
+use Rattle.question.specs.Form.{question-form, question-symbols}
+use Rattle.rows.specs.Kept.{Wrote}
+use Rattle.rows.proofs.Words.{kept-refl}
+use Rattle.rows.proofs.Areas.{zero-words}
+use Rattle.narrowing.specs.declared.Counted.{Counted}
+use Rattle.narrowing.specs.declared.Prepared.{Prepared}
+use Rattle.narrowing.specs.Call.{Found, found, outcome-of, narrow-need, settled, members-call, narrow-call, size-call}
+use Rattle.narrowing.specs.Said.{Narrows, Sizes, FirstUnnamed, Handed, Ready, Counts, Puts, parted, Counts-named, Counts-codes, Unprepared, Prepares}
+use Rattle.narrowing.proofs.Filing.{uncounted}
+
+-- ---- 11
+module _ {qs t : List ℕ} {count K : ℕ} (h : Ready qs t count K) where
+  many : length (take count qs) ≡ count
+  many = length-take-le count qs (h .within)
+
+  abbrev ss : List Symbol
+  ss = question-symbols (take count qs)
+
+  -- what is left once the links are named
+  abbrev pub rest : Sheet → Outcome
+  rest S = parted S (take count qs) (h .path)
+
+  by-links : (S : Sheet) (E : ℕ) → S .link-names ≡ E → narrow-symbols S ss ≡ refuse (link-fault E) 0 ss (rest S)
+  unfolding narrow-symbols
+  by-links S E e = ap (narrow-read S ss) (h .is) ∙ ap (λ (n : ℕ). refuse (link-fault n) 0 ss (rest S)) e
+
+  module _ {E i : ℕ} (f : FirstUnnamed E (take count qs) i) where
+    pub symbols-unnamed : i < count → (S : Sheet) → S .link-names ≡ E → narrow-symbols S ss ≡ refused 11 i
+    symbols-unnamed l S e = by-links S E e ∙ f .here (omega (arith, many)) (rest S)
+
+    pub symbols-named : count ≤ i → (S : Sheet) → S .link-names ≡ E → narrow-symbols S ss ≡ rest S
+    symbols-named l S e = by-links S E e ∙ f .nowhere (omega (arith, many, f .within)) (rest S)
+
+    module _ {ws : List ℕ} {c : Counted} where
+      pub codes-unnamed : i < count → c .outcome ≡ written.Refused source.Work (UnnamedLink i) → Counts-codes qs ws ws t count K E c
+      codes-unnamed l u = record { kept = kept-refl 0 narrow-need ws; counts = λ S g. uncounted (UnnamedLink i) u (ap outcome-of (symbols-unnamed l S (g .named))) }
+
+      pub codes-named : count ≤ i → {ws′ : List ℕ} → Counts-named qs ws ws′ t count K c → Counts-codes qs ws ws′ t count K E c
+      codes-named l {ws′} g =
+          record {
+            kept = g .kept;
+            counts = λ S d. subst (λ (x : Outcome). Counts qs ws′ (outcome-of x) c) (sym (symbols-named l S (d .named))) (g .counts S (d .sheeted) (h .path) (h .is));
+          }
+
+-- ---- the work words: the need in code and in the definition
+pub need-is : 8192 ≡ narrow-need
+unfolding narrow-need
+need-is = refl
+
+pub enough : {n : ℕ} → 8192 ≤ n → narrow-need ≤ n
+unfolding narrow-need
+enough l = l
+
+-- ---- the files, 15, and all but the file
+module _ (s q work : List ℕ) where
+  -- refused before a work word was touched
+  untouched : {p : Prepared} {x : Source} (r : Refusal) → members-call s q work ≡ found (refuses x (number-of r) (place-of r)) work → Unprepared x r p → Prepares s q work work p
+  untouched {p} r e u =
+      record {
+        counts = uncounted r (u .outcome) (ap (λ (m : Found). m .outcome) e);
+        room = omega (arith, u .words);
+        zeroed = λ xs z. zero-words 0 (kept-refl 0 0 work) (rw (u .words) at z) (omega arith) ∙ sym (ap (λ (m : Found). m .work) e);
+      }
+
+  pub sheet-refused : {p : Prepared} (x : Refusal) → read sheet-form s ≡ refused-file (number-of x) (place-of x) → Unprepared source.Sheet x p → Prepares s q work work p
+  unfolding members-call
+  sheet-refused x e u = untouched x (rw e) u
+
+  module _ (S : Sheet) (e : read sheet-form s ≡ got S) where
+    pub question-refused : {p : Prepared} (x : Refusal) → read question-form q ≡ refused-file (number-of x) (place-of x) → Unprepared source.Question x p → Prepares s q work work p
+    unfolding members-call
+    question-refused x f u = untouched x (rw (e, f)) u
+
+    module _ (cs : List ℕ) (f : read question-form q ≡ got cs) where
+      is-settled : members-call s q work ≡ settled (narrow-symbols S (question-symbols cs)) work
+      unfolding members-call
+      is-settled = rw (e, f)
+
+      pub work-short : {p : Prepared} (n : ℕ) → n ≡ narrow-need → length work < n → Unprepared source.Work (WorkShort n) p → Prepares s q work work p
+      unfolding settled
+      work-short n k l u = untouched (WorkShort n) (is-settled ∙ rw (lt-ltb (length work) narrow-need (rw k at l), k)) u
+
+      pub files-read : (codes t : List ℕ) (count K E n : ℕ) → n ≡ narrow-need → n ≤ length work → take count codes ≡ cs → Handed t K E S → {c : Counted} {work′ : List ℕ}
+          → Counts-codes codes work work′ t count K E c → Prepares s q work work′ (record { counted = c; codes = codes; words = n })
+      unfolding settled
+      files-read codes t count K E n k l m d {c} {work′} g =
+          let big : narrow-need ≤ length work = rw k at l in
+          let is : members-call s q work ≡ found (outcome-of (narrow-symbols S (question-symbols cs))) (zeroed narrow-need work) = is-settled ∙ rw (le-ltb (length work) narrow-need big) in
+          record {
+            counts = rw is (rw m at (g .counts S d));
+            room = omega (arith, g .kept .len);
+            zeroed = λ xs z. zero-words narrow-need (g .kept) (rw k at z) big ∙ sym (ap (λ (x : Found). x .work) is);
+          }
+
+-- ---- the calls, once the work words are zero
+module _ {s q work work₁ work₂ : List ℕ} {p : Prepared} (h : Prepares s q work work₁ p) (z : Wrote 0 (p .words) (λ j. 0) work₁ work₂) where
+  pub size-told : Sizes (size-call s q work) (p .counted .outcome) work₂
+  unfolding size-call
+  size-told = record { outcome = h .counts .outcome; work = h .zeroed work₂ z }
+
+  pub file-told : {file file′ : List ℕ} {o : Written} → Puts (p .codes) work₁ (p .counted) file file′ o → Narrows (narrow-call s q work file) o work₂ file′
+  unfolding narrow-call
+  file-told g =
+      let f = g .files _ (h .counts) in
+      record { outcome = f .outcome; work = h .zeroed work₂ z; file = f .file }

@@ -1,0 +1,233 @@
+// Narrowing: from the files of a sheet and a question to the file of the narrowed question, or to its size alone.
+use fields::Refusal;
+use fields::Source;
+use fields::Written;
+use inference::Inferred;
+ghost use mathlib.Core.Path.{_≡_};
+ghost use Prim.Native.Nat.{ℕ, _<_, _≤_};
+ghost use lib.ListN.{length, take};
+ghost use Rattle.theory.specs.Merging.{members};
+ghost use Rattle.fields.specs.declared.Written.the-variants as written;
+ghost use Rattle.fields.specs.Call.{accepts};
+ghost use Rattle.rules.specs.Asks.{part};
+ghost use Rattle.narrowing.specs.Call.{narrow-need, narrow-call, size-call};
+ghost use Rattle.narrowing.specs.Said.{Narrows, Sizes, Unnamed, FirstUnnamed, Listed, Ready, Counts, Known, Puts, Counts-named, Infers-file, Counts-codes, Unprepared, Prepares};
+
+// The work words that narrowing needs.
+const NEED: usize = 8192;
+
+// The members of a question before a byte of their file is written: the numbers of members and of bytes, or why there are none;
+// and, in the members' order, the nodes of so many triples, out of those in use.
+struct Counted {
+    outcome: Written,
+    order: [usize; 128],
+    triples: usize,
+    nodes: usize,
+}
+
+// The same with the question's codes, and how many work words are to be zeroed in the end.
+struct Prepared {
+    counted: Counted,
+    codes: [u8; 32],
+    words: usize,
+}
+
+// Is the code that of a step whose link is not one of so many?
+fn unnamed(code: u8, links: u8) -> bool
+    ensures { λ r. ⌜ Unnamed links code r ⌝ }
+{
+    if code < 128 {
+        let link = symbols::step_link(code);
+        return links <= link.0;
+    }
+    false
+}
+
+// 11: the first of `count` symbols whose link is not one of so many; `count` where there is none.
+pub fn first_unnamed(codes: &[u8], count: usize, links: u8) -> usize
+    requires { ⌜ count ≤ length (now codes) ⌝ }
+    ensures { λ r. ⌜ FirstUnnamed links (take count (now (codes .entry))) r ⌝ }
+{
+    let mut i = 0;
+    while i < count {
+        if unnamed(codes[i], links) {
+            return i;
+        }
+        i += 1;
+    }
+    count
+}
+
+// No members: a refusal.
+fn uncounted(s: Source, r: Refusal) -> Counted
+    ensures { λ c. ⌜ c .outcome ≡ written.Refused s r ⌝ }
+{
+    Counted {
+        outcome: Written::Refused(s, r),
+        order: [0; 128],
+        triples: 0,
+        nodes: 0,
+    }
+}
+
+// The members of nodes s to e.
+fn count_members(words: &[u64], codes: &[u8], s: usize, e: usize) -> Counted
+    requires { ⌜ Listed (now codes) (now words) s e ⌝ }
+    ensures { λ c. ⌜ Counts (now (codes .entry)) (now (words .entry)) (accepts (members (part (now (codes .entry)) (now (words .entry)) s e))) c ⌝ }
+{
+    let n = e - s;
+    let mut order = [0usize; 128];
+    merge::arrange(words, e, codes, &mut order, s, n);
+    let x = members_file::measure(words, e, codes, &order, n);
+    Counted {
+        outcome: Written::File(x.members, x.bytes),
+        order: order,
+        triples: n,
+        nodes: e,
+    }
+}
+
+// 12 or 13, or the members, by a sheet's table of so many kinds.
+fn count_named(
+    codes: &[u8],
+    count: usize,
+    table: &[u64; 4096],
+    kinds: usize,
+    work: &mut [u64],
+) -> Counted
+    requires { ⌜ Ready (now codes) (now table) count kinds × (narrow-need ≤ length (now work)) ⌝ }
+    ensures { λ c. ⌜ Counts-named (now (codes .entry)) (now (work .entry)) (now (work .exit)) (now (table .entry)) count kinds c ⌝ }
+{
+    match inference::infer(work, codes, count, table, kinds) {
+        Inferred::Refused(r) => uncounted(Source::Work, r),
+        Inferred::Triples(s, e) => count_members(work, codes, s, e),
+    }
+}
+
+// 11, or what comes of it.
+fn count_codes(
+    codes: &[u8],
+    count: usize,
+    table: &[u64; 4096],
+    kinds: usize,
+    links: u8,
+    work: &mut [u64],
+) -> Counted
+    requires { ⌜ Ready (now codes) (now table) count kinds × (narrow-need ≤ length (now work)) ⌝ }
+    ensures { λ c. ⌜ Counts-codes (now (codes .entry)) (now (work .entry)) (now (work .exit)) (now (table .entry)) count kinds links c ⌝ }
+{
+    let i = first_unnamed(codes, count, links);
+    if i < count {
+        return uncounted(Source::Work, Refusal::UnnamedLink(i));
+    }
+    count_named(codes, count, table, kinds, work)
+}
+
+// A refusal before any work word is touched.
+fn unprepared(s: Source, r: Refusal) -> Prepared
+    ensures { λ p. ⌜ Unprepared s r p ⌝ }
+{
+    Prepared {
+        counted: uncounted(s, r),
+        codes: [0; 32],
+        words: 0,
+    }
+}
+
+// The files, 15, and what comes of them: all of narrowing but the file.
+fn prepare(sheet: &[u8], question: &[u8], work: &mut [u64]) -> Prepared
+    ensures { λ p. ⌜ Prepares (now (sheet .entry)) (now (question .entry)) (now (work .entry)) (now (work .exit)) p ⌝ }
+{
+    let s = sheet::read(sheet);
+    let outcome = s.outcome;
+    match outcome {
+        sheet::Outcome::Refused(r) => unprepared(Source::Sheet, r),
+        sheet::Outcome::Accepted(kinds, links) => {
+            let q = question::read(question);
+            let read = q.outcome;
+            match read {
+                question::Outcome::Refused(r) => unprepared(Source::Question, r),
+                question::Outcome::Accepted(count) => {
+                    if work.len() < NEED {
+                        return unprepared(Source::Work, Refusal::WorkShort(NEED));
+                    }
+                    Prepared {
+                        counted: count_codes(
+                            &q.codes,
+                            count,
+                            &s.table,
+                            kinds as usize,
+                            links,
+                            work,
+                        ),
+                        codes: q.codes,
+                        words: NEED,
+                    }
+                }
+            }
+        }
+    }
+}
+
+// 14, or the file of the members; a refusal stays.
+fn put_members(words: &[u64], codes: &[u8], counted: Counted, file: &mut [u8]) -> Written
+    requires { ⌜ Known (now codes) (now words) counted ⌝ }
+    ensures { λ o. ⌜ Puts (now (codes .entry)) (now (words .entry)) counted (now (file .entry)) (now (file .exit)) o ⌝ }
+{
+    let outcome = counted.outcome;
+    match outcome {
+        Written::Refused(s, r) => Written::Refused(s, r),
+        Written::File(members, bytes) => {
+            if file.len() < bytes {
+                return Written::Refused(Source::Work, Refusal::AreaShort(bytes));
+            }
+            let put = members_file::put_file(
+                words,
+                counted.nodes,
+                codes,
+                &counted.order,
+                counted.triples,
+                members,
+                file,
+            );
+            Written::File(members, put)
+        }
+    }
+}
+
+// 12 or 13, 14, or the file, by a sheet's table of so many kinds.
+pub fn narrow_named(
+    codes: &[u8],
+    count: usize,
+    table: &[u64; 4096],
+    kinds: usize,
+    work: &mut [u64],
+    file: &mut [u8],
+) -> Written
+    requires { ⌜ Ready (now codes) (now table) count kinds × (narrow-need ≤ length (now work)) ⌝ }
+    ensures { λ o. ⌜ Infers-file (now (codes .entry)) (now (work .entry)) (now (work .exit)) (now (table .entry)) count kinds (now (file .entry)) (now (file .exit)) o ⌝ }
+{
+    let counted = count_named(codes, count, table, kinds, work);
+    put_members(work, codes, counted, file)
+}
+
+// Narrows a question by a sheet, and writes the file of the narrowed question.
+pub fn narrowing(sheet: &[u8], question: &[u8], work: &mut [u64], file: &mut [u8]) -> Written
+    ensures { λ o. ⌜ Narrows (narrow-call (now (sheet .entry)) (now (question .entry)) (now (work .entry)) (now (file .entry))) o (now (work .exit)) (now (file .exit)) ⌝ }
+{
+    let p = prepare(sheet, question, work);
+    let counted = p.counted;
+    let o = put_members(work, &p.codes, counted, file);
+    rows::clear(work, 0, p.words);
+    o
+}
+
+// The size of the file that narrowing writes where its area is long enough; or the refusal that it gives in any area.
+pub fn narrowed_size(sheet: &[u8], question: &[u8], work: &mut [u64]) -> Written
+    ensures { λ o. ⌜ Sizes (size-call (now (sheet .entry)) (now (question .entry)) (now (work .entry))) o (now (work .exit)) ⌝ }
+{
+    let found = prepare(sheet, question, work);
+    rows::clear(work, 0, found.words);
+    let counted = found.counted;
+    counted.outcome
+}

@@ -24,11 +24,11 @@ from typing import Callable, Iterator, NamedTuple, Optional
 
 from reference import calls, files, program
 from reference.files import TAGS, Cursor, JoinThrough, Refusal, Step
-from tests.answers import SOURCES
+from tests.test_answers import SOURCES
 from tests.differential import (
     ENTRIES, FILE_NUMBERS, NAMES, ROOT, WORK_NUMBERS, Call, Library, Run, due, laid_out, path, printed,
 )
-from tests.vectors import READERS
+from tests.test_files import READERS
 
 CALLS = {entry.symbol: name for name, entry in ENTRIES.items()}
 ANSWERS = {"question": "answer", "narrowed": "answer_narrowed"}

@@ -33,7 +33,10 @@ loop-holds : tie.Need-loop-holds Inv-loop μ-loop
 loop-holds c = let p = c .before .before .before .before .before .before .before .before .before .before .before .pre .0 in (adding-start _ _ _ _ _ _ (p .0), held-none (p .1) _)
 
 shared-slice-read-wide : tie.Need-shared-slice-read-wide Inv-loop μ-loop
-shared-slice-read-wide c = omega (arith, c .before .before .loop .inv .0 .few, c .before .before .before .before .before .before .before .before .before .before .before .before .before .before .pre .1 .0, c .before .loop-test .taken)
+shared-slice-read-wide c =
+    let c2 = c .before .before in
+    let c14 = c2 .before .before .before .before .before .before .before .before .before .before .before .before in
+    omega (arith, c2 .loop .inv .0 .few, c14 .pre .1 .0, c .before .loop-test .taken)
 
 wide-requires : tie.Need-wide-requires Inv-loop μ-loop
 wide-requires c κs = search needs
@@ -42,13 +45,21 @@ mul-add-member : tie.Need-mul-add-member Inv-loop μ-loop
 mul-add-member c = let h = c .before .before .before .loop .inv .0 .few in omega arith
 
 shared-slice-read-add-member : tie.Need-shared-slice-read-add-member Inv-loop μ-loop
-shared-slice-read-add-member c = omega (arith, c .before .before .before .before .loop .inv .0 .few, c .before .before .before .before .before .before .before .before .before .before .before .before .before .before .before .before .pre .1 .1, c .before .before .before .loop-test .taken)
+shared-slice-read-add-member c =
+    let c3 = c .before .before .before in
+    let c4 = c3 .before in
+    let c16 = c4 .before .before .before .before .before .before .before .before .before .before .before .before in
+    omega (arith, c4 .loop .inv .0 .few, c16 .pre .1 .1, c3 .loop-test .taken)
 
 mul-add-member-2 : tie.Need-mul-add-member-2 Inv-loop μ-loop
 mul-add-member-2 c = let h = c .before .before .before .before .loop .inv .0 .few in omega arith
 
 shared-slice-read-add-member-2 : tie.Need-shared-slice-read-add-member-2 Inv-loop μ-loop
-shared-slice-read-add-member-2 c = omega (arith, c .before .before .before .before .before .loop .inv .0 .few, c .before .before .before .before .before .before .before .before .before .before .before .before .before .before .before .before .before .pre .1 .2, c .before .before .before .before .loop-test .taken)
+shared-slice-read-add-member-2 c =
+    let c4 = c .before .before .before .before in
+    let c5 = c4 .before in
+    let c17 = c5 .before .before .before .before .before .before .before .before .before .before .before .before in
+    omega (arith, c5 .loop .inv .0 .few, c17 .pre .1 .2, c4 .loop-test .taken)
 
 slice-aggregate-add-member : tie.Need-slice-aggregate-add-member Inv-loop μ-loop
 slice-aggregate-add-member c = search needs
@@ -58,15 +69,26 @@ slice-aggregate-add-member-2 c = search needs
 
 add-member-requires : tie.Need-add-member-requires Inv-loop μ-loop
 add-member-requires c κs =
-    let r = c .before .before .before .before .before .before .before .before .before .before .before .before .before .before .before .before .before .before .before .before .before .pre in
-    let i = c .before .before .before .before .before .before .before .before .before .loop .inv .0 in
-    let h = c .before .before .before .before .before .before .before .before .loop-test .taken in
-    let e = c .before .before .before .before .before .before .wide .ensures .0 in
-    let s = symbols-end i h _ e in
-    ((r .0 .1, omega (arith, r .0 .2, i .kept .len), omega (arith, r .0 .3, i .area .len), omega (arith, r .1 .3, s), omega (arith, r .1 .4, s), size-few i h _ e), (makes-path i h _ e, (c .before .before .before .before .before .before .before .before .before .loop .inv .1, c .before .before .before .before .before .before .before .before .before .before .before .fill .ensures)))
+    let c6 = c .before .before .before .before .before .before in
+    let c8 = c6 .before .before in
+    let c9 = c8 .before in
+    let c11 = c9 .before .before in
+    let c21 = c11 .before .before .before .before .before .before .before .before .before .before in
+    let r = c21 .pre in
+    let i = c9 .loop .inv .0 in
+    let h = c8 .loop-test .taken in
+    let e = c6 .wide .ensures .0 in
+    let s = symbols-end i h _ e in (
+      (r .0 .1, omega (arith, r .0 .2, i .kept .len), omega (arith, r .0 .3, i .area .len), omega (arith, r .1 .3, s), omega (arith, r .1 .4, s), size-few i h _ e),
+      (makes-path i h _ e, (c9 .loop .inv .1, c11 .fill .ensures)),
+    )
 
 add-first : tie.Need-add-first Inv-loop μ-loop
-add-first c = omega (arith, symbols-end (c .before .before .before .before .before .before .before .before .before .before .before .before .before .before .before .loop .inv .0) (c .before .before .before .before .before .before .before .before .before .before .before .before .before .before .loop-test .taken) _ (c .before .before .before .before .before .before .before .before .before .before .before .before .wide .ensures .0))
+add-first c =
+    let c12 = c .before .before .before .before .before .before .before .before .before .before .before .before in
+    let c14 = c12 .before .before in
+    let c15 = c14 .before in
+    omega (arith, symbols-end (c15 .loop .inv .0) (c14 .loop-test .taken) _ (c12 .wide .ensures .0))
 
 add-i : tie.Need-add-i Inv-loop μ-loop
 add-i c = search needs
@@ -75,7 +97,13 @@ loop-less : tie.Need-loop-less Inv-loop μ-loop
 loop-less c = search needs
 
 loop-again : tie.Need-loop-again Inv-loop μ-loop
-loop-again c = let v = c .before .before .before .before .before .add-member .ensures in (adding-more (c .before .before .before .before .before .before .before .before .before .before .before .before .before .before .before .loop .inv .0) (c .before .before .before .before .before .before .before .before .before .before .before .before .before .before .loop-test .taken) _ (c .before .before .before .before .before .before .before .before .before .before .before .before .wide .ensures .0) (v .1), v .0)
+loop-again c =
+    let c5 = c .before .before .before .before .before in
+    let c12 = c5 .before .before .before .before .before .before .before in
+    let c14 = c12 .before .before in
+    let c15 = c14 .before in
+    let v = c5 .add-member .ensures in
+    (adding-more (c15 .loop .inv .0) (c14 .loop-test .taken) _ (c12 .wide .ensures .0) (v .1), v .0)
 
 same-length : tie.Need-same-length Inv-loop μ-loop
 same-length c = search needs

@@ -34,10 +34,14 @@ enum-known-n c = search needs
 
 plain-in-requires : tie.Need-plain-in-requires
 plain-in-requires c κs =
-    let (cs, t) = told-question _ _ _ (c .before .before .before .before .before .before .before .before .before .before .before .before .read .ensures) _ (c .before .before .before .before .before .before .before .before .before .before .outcome2 .given .1) in
+    let c6 = c .before .before .before .before .before .before in
+    let c8 = c6 .before .before in
+    let c10 = c8 .before .before in
+    let c12 = c10 .before .before in
+    let (cs, t) = told-question _ _ _ (c12 .read .ensures) _ (c10 .outcome2 .given .1) in
     let q = question-accepted _ _ _ cs t in
-    let e = c .before .before .before .before .before .before .n .given .1 in
-    (accepted-file _ _ (c .before .before .before .before .before .before .before .before .read2 .ensures) _ _ e, sym (accepted-records _ _ (c .before .before .before .before .before .before .before .before .read2 .ensures) _ _ e), q .few, q .full, q .makes)
+    let e = c6 .n .given .1 in
+    (accepted-file _ _ (c8 .read2 .ensures) _ _ e, sym (accepted-records _ _ (c8 .read2 .ensures) _ _ e), q .few, q .full, q .makes)
 
 returns : tie.Need-returns
 returns c = plain-refused _ _ _ _ _ (refused-question _ _ _ (c .before .before .before .read .ensures) _ (c .before .outcome .given .1))
@@ -55,8 +59,13 @@ same-length-2 c = search needs
 
 returns-3 : tie.Need-returns-3
 returns-3 c =
-    let (cs, t) = told-question _ _ _ (c .before .before .before .before .before .before .before .before .before .before .before .before .before .before .before .before .before .read .ensures) _ (c .before .before .before .before .before .before .before .before .before .before .before .before .before .before .before .outcome2 .given .1) in
-    plain-accepted _ _ _ _ cs (t .reads) _ _ _ (accepted-file _ _ (c .before .before .before .before .before .before .before .before .before .before .before .before .before .read2 .ensures) _ _ (c .before .before .before .before .before .before .before .before .before .before .before .n .given .1)) _ (question-accepted _ _ _ cs t .symbols) (c .before .before .before .before .plain-in .ensures)
+    let c4 = c .before .before .before .before in
+    let c11 = c4 .before .before .before .before .before .before .before in
+    let c13 = c11 .before .before in
+    let c15 = c13 .before .before in
+    let c17 = c15 .before .before in
+    let (cs, t) = told-question _ _ _ (c17 .read .ensures) _ (c15 .outcome2 .given .1) in
+    plain-accepted _ _ _ _ cs (t .reads) _ _ _ (accepted-file _ _ (c13 .read2 .ensures) _ _ (c11 .n .given .1)) _ (question-accepted _ _ _ cs t .symbols) (c4 .plain-in .ensures)
 
 pub plain-answer-spec : {M : Type 1} → statement M
 plain-answer-spec =

@@ -27,7 +27,12 @@ returns : tie.Need-returns
 returns c = let r = c .before .before .before .before .before .before .pre in answers-15 _ _ _ _ (r .1) (c .before .row-words .ensures) (c .if1 .taken)
 
 plain-words-requires : tie.Need-plain-words-requires
-plain-words-requires c κs = let r = c .before .before .before .before .before .before .before .before .pre in (stands (r .0) (r .1) (c .before .before .before .row-words .ensures), c .before .before .if1 .left, r .2, r .3, r .4)
+plain-words-requires c κs =
+    let c2 = c .before .before in
+    let c3 = c2 .before in
+    let c8 = c3 .before .before .before .before .before in
+    let r = c8 .pre in
+    (stands (r .0) (r .1) (c3 .row-words .ensures), c2 .if1 .left, r .2, r .3, r .4)
 
 clear-requires : tie.Need-clear-requires
 clear-requires c κs = omega (arith, c .before .before .before .before .before .plain-words .ensures .kept .len)
@@ -39,7 +44,14 @@ same-length-2 : tie.Need-same-length-2
 same-length-2 c = search needs
 
 returns-2 : tie.Need-returns-2
-returns-2 c = let r = c .before .before .before .before .before .before .before .before .before .before .before .before .before .before .before .before .before .pre in answers-rest _ _ _ _ (r .1) (c .before .before .before .before .before .before .before .before .before .before .before .before .row-words .ensures) _ _ _ _ (c .before .before .before .before .before .before .before .before .before .before .before .if1 .left) (c .before .before .before .before .before .before .before .before .plain-words .ensures) (c .before .before .clear .ensures)
+returns-2 c =
+    let c2 = c .before .before in
+    let c8 = c2 .before .before .before .before .before .before in
+    let c11 = c8 .before .before .before in
+    let c12 = c11 .before in
+    let c17 = c12 .before .before .before .before .before in
+    let r = c17 .pre in
+    answers-rest _ _ _ _ (r .1) (c12 .row-words .ensures) _ _ _ _ (c11 .if1 .left) (c8 .plain-words .ensures) (c2 .clear .ensures)
 
 pub plain-in-spec : {M : Type 1} → statement M
 plain-in-spec =

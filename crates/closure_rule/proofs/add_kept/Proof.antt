@@ -26,7 +26,12 @@ same-length : tie.Need-same-length
 same-length c = search needs
 
 returns-2 : tie.Need-returns-2
-returns-2 c = kept-added (c .before .before .before .before .before .before .before .before .before .pre) (c .before .before .before .before .before .meets .ensures) (not-false _ (c .before .before .before .before .if1 .left)) (c .before .before .add .ensures)
+returns-2 c =
+    let c2 = c .before .before in
+    let c4 = c2 .before .before in
+    let c5 = c4 .before in
+    let c9 = c5 .before .before .before .before in
+    kept-added (c9 .pre) (c5 .meets .ensures) (not-false _ (c4 .if1 .left)) (c2 .add .ensures)
 
 pub add-kept-spec : {M : Type 1} → statement M
 add-kept-spec =

@@ -35,34 +35,75 @@ same-length : tie.Need-same-length
 same-length c = search needs
 
 returns : tie.Need-returns
-returns c = rule-long (c .before .before .before .before .before .before .before .before .before .before .before .before .before .before .pre) (c .before .before .before .before .before .copy-acyclic .ensures) (c .before .walks-short .ensures) (not-true _ (c .if1 .taken))
+returns c =
+    let c5 = c .before .before .before .before .before in
+    let c14 = c5 .before .before .before .before .before .before .before .before .before in
+    rule-long (c14 .pre) (c5 .copy-acyclic .ensures) (c .before .walks-short .ensures) (not-true _ (c .if1 .taken))
 
 grow-walks-requires : tie.Need-grow-walks-requires
-grow-walks-requires c κs = rule-grows (c .before .before .before .before .before .before .before .before .before .before .before .before .before .before .before .pre) (c .before .before .before .before .before .before .copy-acyclic .ensures) (c .before .before .walks-short .ensures) (not-false _ (c .before .if1 .left))
+grow-walks-requires c κs =
+    let c2 = c .before .before in
+    let c6 = c2 .before .before .before .before in
+    let c15 = c6 .before .before .before .before .before .before .before .before .before in
+    rule-grows (c15 .pre) (c6 .copy-acyclic .ensures) (c2 .walks-short .ensures) (not-false _ (c .before .if1 .left))
 
 same-length-2 : tie.Need-same-length-2
 same-length-2 c = search needs
 
 returns-2 : tie.Need-returns-2
-returns-2 c = rule-many (c .before .before .before .before .before .before .before .before .before .before .before .before .before .before .before .before .before .before .before .pre) (c .before .before .before .before .before .before .before .before .before .before .copy-acyclic .ensures) (c .before .before .before .before .before .before .walks-short .ensures) (not-false _ (c .before .before .before .before .before .if1 .left)) (c .before .before .before .grow-walks .ensures) (c .if2 .taken)
+returns-2 c =
+    let c3 = c .before .before .before in
+    let c5 = c3 .before .before in
+    let c6 = c5 .before in
+    let c10 = c6 .before .before .before .before in
+    let c19 = c10 .before .before .before .before .before .before .before .before .before in
+    rule-many (c19 .pre) (c10 .copy-acyclic .ensures) (c6 .walks-short .ensures) (not-false _ (c5 .if1 .left)) (c3 .grow-walks .ensures) (c .if2 .taken)
 
 slice-aggregate-add-all-kept : tie.Need-slice-aggregate-add-all-kept
 slice-aggregate-add-all-kept c = search needs
 
 add-all-kept-requires : tie.Need-add-all-kept-requires
-add-all-kept-requires c κs = rule-keeps (c .before .before .before .before .before .before .before .before .before .before .before .before .before .before .before .before .before .before .before .before .before .pre) (c .before .before .before .before .before .before .before .before .before .before .before .before .copy-acyclic .ensures) (c .before .before .before .before .before .before .before .before .walks-short .ensures) (not-false _ (c .before .before .before .before .before .before .before .if1 .left)) (c .before .before .before .before .before .grow-walks .ensures) (c .before .before .before .before .before .before .before .before .before .before .before .before .before .before .before .before .graph .ensures) (c .before .before .if2 .left)
+add-all-kept-requires c κs =
+    let c2 = c .before .before in
+    let c5 = c2 .before .before .before in
+    let c7 = c5 .before .before in
+    let c8 = c7 .before in
+    let c12 = c8 .before .before .before .before in
+    let c16 = c12 .before .before .before .before in
+    let c21 = c16 .before .before .before .before .before in
+    rule-keeps (c21 .pre) (c12 .copy-acyclic .ensures) (c8 .walks-short .ensures) (not-false _ (c7 .if1 .left)) (c5 .grow-walks .ensures) (c16 .graph .ensures) (c2 .if2 .left)
 
 same-length-3 : tie.Need-same-length-3
 same-length-3 c = search needs
 
 returns-3 : tie.Need-returns-3
-returns-3 c = kept-many (c .before .before .before .before .before .before .before .before .before .before .before .before .before .before .before .before .before .before .before .before .before .before .before .before .before .pre) (c .before .before .before .before .before .before .before .before .before .before .before .before .before .before .before .before .copy-acyclic .ensures) (c .before .before .before .before .before .before .before .before .before .before .before .before .walks-short .ensures) (not-false _ (c .before .before .before .before .before .before .before .before .before .before .before .if1 .left)) (c .before .before .before .before .before .before .before .before .before .grow-walks .ensures) (c .before .before .before .before .before .before .before .before .before .before .before .before .before .before .before .before .before .before .before .before .graph .ensures) (c .before .before .before .before .before .before .if2 .left) (c .before .before .before .add-all-kept .ensures) (c .if3 .taken)
+returns-3 c =
+    let c3 = c .before .before .before in
+    let c6 = c3 .before .before .before in
+    let c9 = c6 .before .before .before in
+    let c11 = c9 .before .before in
+    let c12 = c11 .before in
+    let c16 = c12 .before .before .before .before in
+    let c20 = c16 .before .before .before .before in
+    let c25 = c20 .before .before .before .before .before in
+    kept-many (c25 .pre) (c16 .copy-acyclic .ensures) (c12 .walks-short .ensures) (not-false _ (c11 .if1 .left)) (c9 .grow-walks .ensures) (c20 .graph .ensures) (c6 .if2 .left)
+    (c3 .add-all-kept .ensures) (c .if3 .taken)
 
 same-length-4 : tie.Need-same-length-4
 same-length-4 c = search needs
 
 returns-4 : tie.Need-returns-4
-returns-4 c = rule-made (c .before .before .before .before .before .before .before .before .before .before .before .before .before .before .before .before .before .before .before .before .before .before .before .before .before .pre) (c .before .before .before .before .before .before .before .before .before .before .before .before .before .before .before .before .copy-acyclic .ensures) (c .before .before .before .before .before .before .before .before .before .before .before .before .walks-short .ensures) (not-false _ (c .before .before .before .before .before .before .before .before .before .before .before .if1 .left)) (c .before .before .before .before .before .before .before .before .before .grow-walks .ensures) (c .before .before .before .before .before .before .before .before .before .before .before .before .before .before .before .before .before .before .before .before .graph .ensures) (c .before .before .before .before .before .before .if2 .left) (c .before .before .before .add-all-kept .ensures) (c .if3 .left)
+returns-4 c =
+    let c3 = c .before .before .before in
+    let c6 = c3 .before .before .before in
+    let c9 = c6 .before .before .before in
+    let c11 = c9 .before .before in
+    let c12 = c11 .before in
+    let c16 = c12 .before .before .before .before in
+    let c20 = c16 .before .before .before .before in
+    let c25 = c20 .before .before .before .before .before in
+    rule-made (c25 .pre) (c16 .copy-acyclic .ensures) (c12 .walks-short .ensures) (not-false _ (c11 .if1 .left)) (c9 .grow-walks .ensures) (c20 .graph .ensures) (c6 .if2 .left)
+    (c3 .add-all-kept .ensures) (c .if3 .left)
 
 pub closure-rule-spec : {M : Type 1} → statement M
 closure-rule-spec =

@@ -28,7 +28,12 @@ acyclic-requires : tie.Need-acyclic-requires Inv-loop μ-loop
 acyclic-requires c κs = search needs
 
 add-requires : tie.Need-add-requires Inv-loop μ-loop
-add-requires c κs = acyclic-asks (c .before .before .before .before .before .before .before .before .before .before .pre) (c .before .before .before .before .before .before .loop .inv) (c .before .before .before .before .before .loop-test .taken) (c .before .before .before .load .ensures)
+add-requires c κs =
+    let c3 = c .before .before .before in
+    let c5 = c3 .before .before in
+    let c6 = c5 .before in
+    let c10 = c6 .before .before .before .before in
+    acyclic-asks (c10 .pre) (c6 .loop .inv) (c5 .loop-test .taken) (c3 .load .ensures)
 
 add-j : tie.Need-add-j Inv-loop μ-loop
 add-j c = search needs
@@ -38,10 +43,12 @@ loop-less c = search needs
 
 loop-again : tie.Need-loop-again Inv-loop μ-loop
 loop-again c =
-    ⊎-elim
-    (λ w. rw (w .5, w .6) (acyclic-turn (c .before .before .before .before .before .before .before .before .before .pre) (c .before .before .before .before .before .loop .inv) (c .before .before .before .before .loop-test .taken) (c .before .before .load .ensures) (c .before .acyclic .ensures) (w .0 .taken) (w .2 .ensures)))
-    (λ w. rw (w .1, w .2) (acyclic-skip (c .before .before .before .before .before .before .before .before .before .pre) (c .before .before .before .before .before .loop .inv) (c .before .before .before .before .loop-test .taken) (c .before .before .load .ensures) (c .before .acyclic .ensures) (w .0 .left)))
-    (c .if1 .came)
+    let c2 = c .before .before in
+    let c4 = c2 .before .before in
+    let c5 = c4 .before in
+    let c9 = c5 .before .before .before .before in
+    ⊎-elim (λ w. rw (w .5, w .6) (acyclic-turn (c9 .pre) (c5 .loop .inv) (c4 .loop-test .taken) (c2 .load .ensures) (c .before .acyclic .ensures) (w .0 .taken) (w .2 .ensures)))
+    (λ w. rw (w .1, w .2) (acyclic-skip (c9 .pre) (c5 .loop .inv) (c4 .loop-test .taken) (c2 .load .ensures) (c .before .acyclic .ensures) (w .0 .left))) (c .if1 .came)
 
 same-length : tie.Need-same-length Inv-loop μ-loop
 same-length c = search needs

@@ -37,13 +37,29 @@ returns : tie.Need-returns
 returns c = sheet-refused _ _ _ _ (c .before .before .before .read .ensures) _ (c .before .outcome .given .1)
 
 returns-2 : tie.Need-returns-2
-returns-2 c = register-refused _ _ _ _ (c .before .before .before .before .before .before .before .read .ensures) _ _ (c .before .before .before .before .before .outcome2 .given .1) _ (c .before .before .before .read2 .ensures) _ (c .before .r .given .1)
+returns-2 c =
+    let c3 = c .before .before .before in
+    let c5 = c3 .before .before in
+    let c7 = c5 .before .before in
+    register-refused _ _ _ _ (c7 .read .ensures) _ _ (c5 .outcome2 .given .1) _ (c3 .read2 .ensures) _ (c .before .r .given .1)
 
 returns-3 : tie.Need-returns-3
-returns-3 c = breach-at _ _ _ _ (c .before .before .before .before .before .before .before .before .before .before .before .before .before .read .ensures) _ _ (c .before .before .before .before .before .before .before .before .before .before .before .outcome2 .given .1) _ (c .before .before .before .before .before .before .before .before .before .read2 .ensures) _ _ (c .before .before .before .before .before .before .before .n .given .1) _ (c .before .before .before .first-breach .ensures) _ (c .before .i .given .1)
+returns-3 c =
+    let c3 = c .before .before .before in
+    let c7 = c3 .before .before .before .before in
+    let c9 = c7 .before .before in
+    let c11 = c9 .before .before in
+    let c13 = c11 .before .before in
+    breach-at _ _ _ _ (c13 .read .ensures) _ _ (c11 .outcome2 .given .1) _ (c9 .read2 .ensures) _ _ (c7 .n .given .1) _ (c3 .first-breach .ensures) _ (c .before .i .given .1)
 
 returns-4 : tie.Need-returns-4
-returns-4 c = no-breach _ _ _ _ (c .before .before .before .before .before .before .before .before .before .before .before .before .read .ensures) _ _ (c .before .before .before .before .before .before .before .before .before .before .outcome2 .given .1) _ (c .before .before .before .before .before .before .before .before .read2 .ensures) _ _ (c .before .before .before .before .before .before .n .given .1) _ (c .before .before .first-breach .ensures) (c .enum-told .given .1)
+returns-4 c =
+    let c2 = c .before .before in
+    let c6 = c2 .before .before .before .before in
+    let c8 = c6 .before .before in
+    let c10 = c8 .before .before in
+    let c12 = c10 .before .before in
+    no-breach _ _ _ _ (c12 .read .ensures) _ _ (c10 .outcome2 .given .1) _ (c8 .read2 .ensures) _ _ (c6 .n .given .1) _ (c2 .first-breach .ensures) (c .enum-told .given .1)
 
 pub check-spec : {M : Type 1} → statement M
 check-spec =

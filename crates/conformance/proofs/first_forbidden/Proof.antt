@@ -46,10 +46,22 @@ loop-less : tie.Need-loop-less Inv-loop μ-loop
 loop-less c = search fewer
 
 loop-again : tie.Need-loop-again Inv-loop μ-loop
-loop-again c = link-permitted _ _ _ _ (c .before .before .before .before .before .before .before .before .loop .inv) _ (c .before .before .before .before .before .before .before .next-link .ensures) _ _ _ _ (c .before .before .before .before .before .from .given .1) _ _ (c .before .before .before .kind-at .ensures) (c .before .before .kind-at2 .ensures) _ (c .before .permitted .ensures) (c .if1 .taken)
+loop-again c =
+    let c2 = c .before .before in
+    let c3 = c2 .before in
+    let c5 = c3 .before .before in
+    let c7 = c5 .before .before in
+    let c8 = c7 .before in
+    link-permitted _ _ _ _ (c8 .loop .inv) _ (c7 .next-link .ensures) _ _ _ _ (c5 .from .given .1) _ _ (c3 .kind-at .ensures) (c2 .kind-at2 .ensures) _ (c .before .permitted .ensures) (c .if1 .taken)
 
 returns-2 : tie.Need-returns-2 Inv-loop μ-loop
-returns-2 c = link-forbidden _ _ _ _ (c .before .before .before .before .before .before .before .before .loop .inv) _ (c .before .before .before .before .before .before .before .next-link .ensures) _ _ _ _ (c .before .before .before .before .before .from .given .1) _ _ (c .before .before .before .kind-at .ensures) (c .before .before .kind-at2 .ensures) _ (c .before .permitted .ensures) (c .if1 .left)
+returns-2 c =
+    let c2 = c .before .before in
+    let c3 = c2 .before in
+    let c5 = c3 .before .before in
+    let c7 = c5 .before .before in
+    let c8 = c7 .before in
+    link-forbidden _ _ _ _ (c8 .loop .inv) _ (c7 .next-link .ensures) _ _ _ _ (c5 .from .given .1) _ _ (c3 .kind-at .ensures) (c2 .kind-at2 .ensures) _ (c .before .permitted .ensures) (c .if1 .left)
 
 pub first-forbidden-spec : {M : Type 1} → statement M
 first-forbidden-spec =

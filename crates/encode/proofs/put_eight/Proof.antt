@@ -34,8 +34,16 @@ same-length c = search needs
 
 returns : tie.Need-returns
 returns c =
-    rw (← c .before .before .before .before .before .before .before .before .before .before .before .before .before .before .before .before .before .before .short .ensures, ← c .before .before .before .before .before .before .before .before .before .before .before .before .before .short2 .ensures, ← c .before .before .before .before .before .before .before .before .short3 .ensures, ← c .before .before .before .short4 .ensures)
-    (wrote-more (c .before .before .before .before .before .before .before .before .before .before .before .before .before .before .before .before .before .put-two .ensures) (wrote-more (c .before .before .before .before .before .before .before .before .before .before .before .before .put-two2 .ensures) (wrote-more (c .before .before .before .before .before .before .before .put-two3 .ensures) (c .before .before .put-two4 .ensures))))
+    let c2 = c .before .before in
+    let c3 = c2 .before in
+    let c7 = c3 .before .before .before .before in
+    let c8 = c7 .before in
+    let c12 = c8 .before .before .before .before in
+    let c13 = c12 .before in
+    let c17 = c13 .before .before .before .before in
+    let c18 = c17 .before in
+    rw (← c18 .short .ensures, ← c13 .short2 .ensures, ← c8 .short3 .ensures, ← c3 .short4 .ensures)
+    (wrote-more (c17 .put-two .ensures) (wrote-more (c12 .put-two2 .ensures) (wrote-more (c7 .put-two3 .ensures) (c2 .put-two4 .ensures))))
 
 pub put-eight-spec : {M : Type 1} → statement M
 put-eight-spec =

@@ -17,7 +17,11 @@ same-length : tie.Need-same-length
 same-length c = search needs
 
 returns : tie.Need-returns
-returns c = member-wrote _ _ (c .before .before .before .before .before .before .before .before .before .before .before .args .n) (c .before .before .before .before .before .before .before .before .before .before .before .args .k) (c .before .before .before .before .before .before .before .before .before .before .before .args .from) (c .before .before .before .before .before .before .before .before .before .before .before .args .to) (c .before .before .before .before .before .before .put-open .ensures) (c .before .before .put-symbols .ensures)
+returns c =
+    let c2 = c .before .before in
+    let c6 = c2 .before .before .before .before in
+    let c11 = c6 .before .before .before .before .before in
+    member-wrote _ _ (c11 .args .n) (c11 .args .k) (c11 .args .from) (c11 .args .to) (c6 .put-open .ensures) (c2 .put-symbols .ensures)
 
 pub put-member-spec : {M : Type 1} → statement M
 put-member-spec = tie.close (tie.spec put-open-requires put-symbols-requires same-length returns)

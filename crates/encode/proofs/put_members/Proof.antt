@@ -23,7 +23,10 @@ put-count-requires : tie.Need-put-count-requires Inv-loop μ-loop
 put-count-requires c κs = count-room (c .before .before .before .before .before .before .before .args .q) (c .before .before .before .before .before .before .before .pre .1)
 
 loop-holds : tie.Need-loop-holds Inv-loop μ-loop
-loop-holds c = placed-start (c .before .before .before .before .before .before .before .before .before .before .args .q) (c .before .before .before .before .before .before .before .before .before .before .pre .0) (c .before .before .before .before .before .before .before .before .before .before .pre .1) (c .before .before .put-count .ensures)
+loop-holds c =
+    let c2 = c .before .before in
+    let c10 = c2 .before .before .before .before .before .before .before .before in
+    placed-start (c10 .args .q) (c10 .pre .0) (c10 .pre .1) (c2 .put-count .ensures)
 
 array-read-n : tie.Need-array-read-n Inv-loop μ-loop
 array-read-n c = placed-small (c .before .loop .inv) (c .loop-test .taken)
@@ -66,7 +69,11 @@ loop-less : tie.Need-loop-less Inv-loop μ-loop
 loop-less c = search needs
 
 loop-again : tie.Need-loop-again Inv-loop μ-loop
-loop-again c = placed-next (c .before .before .before .before .before .before .before .loop .inv) (c .before .before .before .before .before .before .loop-test .taken) (c .before .before .put-member .ensures)
+loop-again c =
+    let c2 = c .before .before in
+    let c6 = c2 .before .before .before .before in
+    let c7 = c6 .before in
+    placed-next (c7 .loop .inv) (c6 .loop-test .taken) (c2 .put-member .ensures)
 
 same-length : tie.Need-same-length Inv-loop μ-loop
 same-length c = along-length (c .before .loop .inv .along) ∙ wrote-length (c .before .before .before .before .put-count .ensures)

@@ -26,7 +26,12 @@ same-length : tie.Need-same-length
 same-length c = search needs
 
 returns : tie.Need-returns
-returns c = wrote-more (wrote-more (c .before .before .before .before .before .before .before .before .before .before .before .before .before .before .put-head .ensures) (c .before .before .before .before .before .before .before .before .before .before .put-byte .ensures)) (wrote-more (c .before .before .before .before .before .before .put-eight .ensures) (c .before .before .put-eight2 .ensures))
+returns c =
+    let c2 = c .before .before in
+    let c6 = c2 .before .before .before .before in
+    let c10 = c6 .before .before .before .before in
+    let c14 = c10 .before .before .before .before in
+    wrote-more (wrote-more (c14 .put-head .ensures) (c10 .put-byte .ensures)) (wrote-more (c6 .put-eight .ensures) (c2 .put-eight2 .ensures))
 
 pub put-open-spec : {M : Type 1} → statement M
 put-open-spec =

@@ -22,7 +22,11 @@ same-length : tie.Need-same-length
 same-length c = search needs
 
 returns : tie.Need-returns
-returns c = wrote-more (wrote-more (c .before .before .before .before .before .before .before .before .before .before .put-head .ensures) (c .before .before .before .before .before .before .put-byte .ensures)) (c .before .before .put-byte2 .ensures)
+returns c =
+    let c2 = c .before .before in
+    let c6 = c2 .before .before .before .before in
+    let c10 = c6 .before .before .before .before in
+    wrote-more (wrote-more (c10 .put-head .ensures) (c6 .put-byte .ensures)) (c2 .put-byte2 .ensures)
 
 pub put-step-spec : {M : Type 1} → statement M
 put-step-spec =

@@ -38,7 +38,11 @@ loop-less : tie.Need-loop-less Inv-loop μ-loop
 loop-less c = search needs
 
 loop-again : tie.Need-loop-again Inv-loop μ-loop
-loop-again c = symbols-next (c .before .before .before .before .before .before .before .loop .inv) (c .before .before .before .before .before .before .loop-test .taken) (c .before .before .put-symbol .ensures)
+loop-again c =
+    let c2 = c .before .before in
+    let c6 = c2 .before .before .before .before in
+    let c7 = c6 .before in
+    symbols-next (c7 .loop .inv) (c6 .loop-test .taken) (c2 .put-symbol .ensures)
 
 same-length : tie.Need-same-length Inv-loop μ-loop
 same-length c = along-length (c .before .loop .inv .along)

@@ -21,7 +21,12 @@ same-length : tie.Need-same-length
 same-length c = search needs
 
 returns : tie.Need-returns
-returns c = rw (← c .before .before .before .before .before .before .before .before .low .ensures, ← c .before .before .before .low2 .ensures) (wrote-more (c .before .before .before .before .before .before .before .put-byte .ensures) (c .before .before .put-byte2 .ensures))
+returns c =
+    let c2 = c .before .before in
+    let c3 = c2 .before in
+    let c7 = c3 .before .before .before .before in
+    let c8 = c7 .before in
+    rw (← c8 .low .ensures, ← c3 .low2 .ensures) (wrote-more (c7 .put-byte .ensures) (c2 .put-byte2 .ensures))
 
 pub put-two-spec : {M : Type 1} → statement M
 put-two-spec =

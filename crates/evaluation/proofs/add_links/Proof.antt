@@ -47,10 +47,19 @@ add-link-requires c κs =
     (omega (arith, c .before .before .before .before .before .loop .inv .kept .len), rows-hold (c .before .before .before .before .before .before .before .before .before .pre .1), i .0, i .1)
 
 loop-less : tie.Need-loop-less Inv-loop μ-loop
-loop-less c = fewer _ _ (c .before .before .before .before .before .before .before .before .loop .inv .cursor) _ (c .before .before .before .before .before .before .before .next-link .ensures) _ _ _ _ (c .before .before .before .before .before .from .given .1)
+loop-less c =
+    let c5 = c .before .before .before .before .before in
+    let c7 = c5 .before .before in
+    let c8 = c7 .before in
+    fewer _ _ (c8 .loop .inv .cursor) _ (c7 .next-link .ensures) _ _ _ _ (c5 .from .given .1)
 
 loop-again : tie.Need-loop-again Inv-loop μ-loop
-loop-again c = passing-more (c .before .before .before .before .before .before .before .before .loop .inv) _ (c .before .before .before .before .before .before .before .next-link .ensures) _ _ _ _ (c .before .before .before .before .before .from .given .1) (c .before .before .add-link .ensures)
+loop-again c =
+    let c2 = c .before .before in
+    let c5 = c2 .before .before .before in
+    let c7 = c5 .before .before in
+    let c8 = c7 .before in
+    passing-more (c8 .loop .inv) _ (c7 .next-link .ensures) _ _ _ _ (c5 .from .given .1) (c2 .add-link .ensures)
 
 pub add-links-spec : {M : Type 1} → statement M
 add-links-spec =

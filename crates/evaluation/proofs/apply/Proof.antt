@@ -25,31 +25,70 @@ step-link-requires : tie.Need-step-link-requires
 step-link-requires c κs = search needs
 
 step-requires : tie.Need-step-requires
-step-requires c κs = let a = c .before .before .before .before .before .args in let r = c .before .before .before .before .before .pre in (fits-step (r .0) forward _ (forward-link (a .number) (a .set) (c .step-link .ensures .0) (c .before .before .if1 .taken)) (r .1), r .0)
+step-requires c κs =
+    let c2 = c .before .before in
+    let c5 = c2 .before .before .before in
+    let a = c5 .args in
+    let r = c5 .pre in
+    (fits-step (r .0) forward _ (forward-link (a .number) (a .set) (c .step-link .ensures .0) (c2 .if1 .taken)) (r .1), r .0)
 
 add-result : tie.Need-add-result
-add-result c = let a = c .before .before .before .before .before .before .before .before .args in let r = c .before .before .before .before .before .before .before .before .pre in omega (arith, fits-step (r .0) forward _ (forward-link (a .number) (a .set) (c .before .before .before .step-link .ensures .0) (c .before .before .before .before .before .if1 .taken)) (r .1))
+add-result c =
+    let c3 = c .before .before .before in
+    let c5 = c3 .before .before in
+    let c8 = c5 .before .before .before in
+    let a = c8 .args in
+    let r = c8 .pre in
+    omega (arith, fits-step (r .0) forward _ (forward-link (a .number) (a .set) (c3 .step-link .ensures .0) (c5 .if1 .taken)) (r .1))
 
 same-length : tie.Need-same-length
 same-length c = search needs
 
 returns : tie.Need-returns
-returns c = let a = c .before .before .before .before .before .before .before .before .args in let r = c .before .before .before .before .before .before .before .before .pre in applied-step (r .0) (a .b) (symbol-numbered (a .number) (a .set)) forward _ (forward-link (a .number) (a .set) (c .before .before .before .step-link .ensures .0) (c .before .before .before .before .before .if1 .taken)) (c .before .before .step .ensures)
+returns c =
+    let c2 = c .before .before in
+    let c3 = c2 .before in
+    let c5 = c3 .before .before in
+    let c8 = c5 .before .before .before in
+    let a = c8 .args in
+    let r = c8 .pre in
+    applied-step (r .0) (a .b) (symbol-numbered (a .number) (a .set)) forward _ (forward-link (a .number) (a .set) (c3 .step-link .ensures .0) (c5 .if1 .taken)) (c2 .step .ensures)
 
 step-link-requires-2 : tie.Need-step-link-requires-2
 step-link-requires-2 c κs = search needs
 
 step-requires-2 : tie.Need-step-requires-2
-step-requires-2 c κs = let a = c .before .before .before .before .before .before .args in let r = c .before .before .before .before .before .before .pre in (fits-step (r .0) reverse _ (reverse-link (a .number) (a .set) (c .step-link2 .ensures .0) (c .before .before .before .if1 .left) (c .before .before .if2 .taken)) (r .1), r .0)
+step-requires-2 c κs =
+    let c2 = c .before .before in
+    let c3 = c2 .before in
+    let c6 = c3 .before .before .before in
+    let a = c6 .args in
+    let r = c6 .pre in
+    (fits-step (r .0) reverse _ (reverse-link (a .number) (a .set) (c .step-link2 .ensures .0) (c3 .if1 .left) (c2 .if2 .taken)) (r .1), r .0)
 
 add-result-2 : tie.Need-add-result-2
-add-result-2 c = let a = c .before .before .before .before .before .before .before .before .before .args in let r = c .before .before .before .before .before .before .before .before .before .pre in omega (arith, fits-step (r .0) reverse _ (reverse-link (a .number) (a .set) (c .before .before .before .step-link2 .ensures .0) (c .before .before .before .before .before .before .if1 .left) (c .before .before .before .before .before .if2 .taken)) (r .1))
+add-result-2 c =
+    let c3 = c .before .before .before in
+    let c5 = c3 .before .before in
+    let c6 = c5 .before in
+    let c9 = c6 .before .before .before in
+    let a = c9 .args in
+    let r = c9 .pre in
+    omega (arith, fits-step (r .0) reverse _ (reverse-link (a .number) (a .set) (c3 .step-link2 .ensures .0) (c6 .if1 .left) (c5 .if2 .taken)) (r .1))
 
 same-length-2 : tie.Need-same-length-2
 same-length-2 c = search needs
 
 returns-2 : tie.Need-returns-2
-returns-2 c = let a = c .before .before .before .before .before .before .before .before .before .args in let r = c .before .before .before .before .before .before .before .before .before .pre in applied-step (r .0) (a .b) (symbol-numbered (a .number) (a .set)) reverse _ (reverse-link (a .number) (a .set) (c .before .before .before .step-link2 .ensures .0) (c .before .before .before .before .before .before .if1 .left) (c .before .before .before .before .before .if2 .taken)) (c .before .before .step2 .ensures)
+returns-2 c =
+    let c2 = c .before .before in
+    let c3 = c2 .before in
+    let c5 = c3 .before .before in
+    let c6 = c5 .before in
+    let c9 = c6 .before .before .before in
+    let a = c9 .args in
+    let r = c9 .pre in
+    applied-step (r .0) (a .b) (symbol-numbered (a .number) (a .set)) reverse _ (reverse-link (a .number) (a .set) (c3 .step-link2 .ensures .0) (c6 .if1 .left) (c5 .if2 .taken)) (c2 .step2 .ensures)
 
 sub-a : tie.Need-sub-a
 sub-a c = let a = c .before .before .before .before .args in let r = c .before .before .before .before .pre in fits-operator (r .0) (a .number) (a .set) (c .if2 .left) (r .1)
@@ -69,10 +108,15 @@ same-length-3 c = search needs
 
 returns-3 : tie.Need-returns-3
 returns-3 c =
-    let a = c .before .before .before .before .before .before .before .before .before .before .args in
-    let r = c .before .before .before .before .before .before .before .before .before .before .pre in
-    let x = closure-number (a .number) (a .set) (c .before .before .before .before .before .before .if2 .left) (sym (c .before .before .before .before .before .closes .ensures) ∙ c .before .before .before .before .if3 .taken) in
-    applied-closure (r .0) (a .b) _ x (fits-one (r .0) x (r .1) .below) (c .before .before .closure .ensures)
+    let c2 = c .before .before in
+    let c4 = c2 .before .before in
+    let c5 = c4 .before in
+    let c6 = c5 .before in
+    let c10 = c6 .before .before .before .before in
+    let a = c10 .args in
+    let r = c10 .pre in
+    let x = closure-number (a .number) (a .set) (c6 .if2 .left) (sym (c5 .closes .ensures) ∙ c4 .if3 .taken) in
+    applied-closure (r .0) (a .b) _ x (fits-one (r .0) x (r .1) .below) (c2 .closure .ensures)
 
 sub-combine : tie.Need-sub-combine
 sub-combine c =
@@ -93,11 +137,16 @@ same-length-4 c = search needs
 
 returns-4 : tie.Need-returns-4
 returns-4 c =
-    let a = c .before .before .before .before .before .before .before .before .before .before .args in
-    let r = c .before .before .before .before .before .before .before .before .before .before .pre in
-    let k = binary-number (a .number) (a .set) (c .before .before .before .before .before .before .if2 .left) (sym (c .before .before .before .before .before .closes .ensures) ∙ c .before .before .before .before .if3 .left) in
+    let c2 = c .before .before in
+    let c4 = c2 .before .before in
+    let c5 = c4 .before in
+    let c6 = c5 .before in
+    let c10 = c6 .before .before .before .before in
+    let a = c10 .args in
+    let r = c10 .pre in
+    let k = binary-number (a .number) (a .set) (c6 .if2 .left) (sym (c5 .closes .ensures) ∙ c4 .if3 .left) in
     let t = fits-two (r .0) _ k (r .1) in
-    applied-binary (r .0) (a .b) _ k (t .below) (t .under) (c .before .before .combine .ensures)
+    applied-binary (r .0) (a .b) _ k (t .below) (t .under) (c2 .combine .ensures)
 
 pub apply-spec : {M : Type 1} → statement M
 apply-spec =

@@ -39,37 +39,75 @@ same-length : tie.Need-same-length
 same-length c = search needs
 
 returns : tie.Need-returns
-returns c = let a = c .before .before .before .before .before .before .before .args in let r = c .before .before .before .before .before .before .before .pre in by-join (r .0 .2) (a .p) (a .q) (a .number) (a .set) any (join-number (a .number) (a .set) (r .1 .0) (c .before .before .before .before .match .keys1)) (c .before .before .join .ensures)
+returns c =
+    let c2 = c .before .before in
+    let c4 = c2 .before .before in
+    let c7 = c4 .before .before .before in
+    let a = c7 .args in
+    let r = c7 .pre in
+    by-join (r .0 .2) (a .p) (a .q) (a .number) (a .set) any (join-number (a .number) (a .set) (r .1 .0) (c4 .match .keys1)) (c2 .join .ensures)
 
 same-length-2 : tie.Need-same-length-2
 same-length-2 c = search needs
 
 returns-2 : tie.Need-returns-2
-returns-2 c = let a = c .before .before .before .before .before .before .before .args in let r = c .before .before .before .before .before .before .before .pre in by-op (r .0 .2) (a .p) (a .q) (a .number) (a .set) union (union-number (a .number) (a .set) (r .1 .0) (c .before .before .before .before .match .keys2)) (c .before .before .union .ensures)
+returns-2 c =
+    let c2 = c .before .before in
+    let c4 = c2 .before .before in
+    let c7 = c4 .before .before .before in
+    let a = c7 .args in
+    let r = c7 .pre in
+    by-op (r .0 .2) (a .p) (a .q) (a .number) (a .set) union (union-number (a .number) (a .set) (r .1 .0) (c4 .match .keys2)) (c2 .union .ensures)
 
 same-length-3 : tie.Need-same-length-3
 same-length-3 c = search needs
 
 returns-3 : tie.Need-returns-3
-returns-3 c = let a = c .before .before .before .before .before .before .before .args in let r = c .before .before .before .before .before .before .before .pre in by-op (r .0 .2) (a .p) (a .q) (a .number) (a .set) conjunction (conjunction-number (a .number) (a .set) (r .1 .0) (c .before .before .before .before .match .keys3)) (c .before .before .intersection .ensures)
+returns-3 c =
+    let c2 = c .before .before in
+    let c4 = c2 .before .before in
+    let c7 = c4 .before .before .before in
+    let a = c7 .args in
+    let r = c7 .pre in
+    by-op (r .0 .2) (a .p) (a .q) (a .number) (a .set) conjunction (conjunction-number (a .number) (a .set) (r .1 .0) (c4 .match .keys3)) (c2 .intersection .ensures)
 
 same-length-4 : tie.Need-same-length-4
 same-length-4 c = search needs
 
 returns-4 : tie.Need-returns-4
-returns-4 c = let a = c .before .before .before .before .before .before .before .args in let r = c .before .before .before .before .before .before .before .pre in by-op (r .0 .2) (a .p) (a .q) (a .number) (a .set) branch-right (right-number (a .number) (a .set) (r .1 .0) (c .before .before .before .before .match .keys4)) (c .before .before .branch-right .ensures)
+returns-4 c =
+    let c2 = c .before .before in
+    let c4 = c2 .before .before in
+    let c7 = c4 .before .before .before in
+    let a = c7 .args in
+    let r = c7 .pre in
+    by-op (r .0 .2) (a .p) (a .q) (a .number) (a .set) branch-right (right-number (a .number) (a .set) (r .1 .0) (c4 .match .keys4)) (c2 .branch-right .ensures)
 
 same-length-5 : tie.Need-same-length-5
 same-length-5 c = search needs
 
 returns-5 : tie.Need-returns-5
-returns-5 c = let a = c .before .before .before .before .before .before .before .args in let r = c .before .before .before .before .before .before .before .pre in by-op (r .0 .2) (a .p) (a .q) (a .number) (a .set) branch-left (left-number (a .number) (a .set) (r .1 .0) (c .before .before .before .before .match .keys5)) (c .before .before .branch-left .ensures)
+returns-5 c =
+    let c2 = c .before .before in
+    let c4 = c2 .before .before in
+    let c7 = c4 .before .before .before in
+    let a = c7 .args in
+    let r = c7 .pre in
+    by-op (r .0 .2) (a .p) (a .q) (a .number) (a .set) branch-left (left-number (a .number) (a .set) (r .1 .0) (c4 .match .keys5)) (c2 .branch-left .ensures)
 
 same-length-6 : tie.Need-same-length-6
 same-length-6 c = search needs
 
 returns-6 : tie.Need-returns-6
-returns-6 c = let a = c .before .before .before .before .before .before .before .args in let r = c .before .before .before .before .before .before .before .pre in let n = c .before .before .before .before .match .rest in by-join (r .0 .2) (a .p) (a .q) (a .number) (a .set) (through (a .set)) (through-number (a .number) (a .set) (r .1 .0) (last-number (a .number) (a .set) (r .1 .0) (r .1 .1) (n .0 .0 .0 .0 .1) (n .0 .0 .0 .1) (n .0 .0 .1) (n .0 .1) (n .1))) (c .before .before .join-through .ensures)
+returns-6 c =
+    let c2 = c .before .before in
+    let c4 = c2 .before .before in
+    let c7 = c4 .before .before .before in
+    let a = c7 .args in
+    let r = c7 .pre in
+    let n = c4 .match .rest in
+    by-join (r .0 .2) (a .p) (a .q) (a .number) (a .set) (through (a .set))
+    (through-number (a .number) (a .set) (r .1 .0) (last-number (a .number) (a .set) (r .1 .0) (r .1 .1) (n .0 .0 .0 .0 .1) (n .0 .0 .0 .1) (n .0 .0 .1) (n .0 .1) (n .1))) (c2 .join-through .ensures)
 
 pub combine-spec : {M : Type 1} → statement M
 combine-spec =

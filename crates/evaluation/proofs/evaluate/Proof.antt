@@ -48,9 +48,13 @@ loop-less c = search needs
 
 loop-again : tie.Need-loop-again Inv-loop μ-loop
 loop-again c =
-    let r = c .before .before .before .before .before .before .before .before .before .before .before .before .pre in
+    let c2 = c .before .before in
+    let c6 = c2 .before .before .before .before in
+    let c7 = c6 .before in
+    let c12 = c7 .before .before .before .before .before in
+    let r = c12 .pre in
     let p = r .1 in
-    (omega arith, going-more _ _ _ _ _ _ _ (r .0 .4) (c .before .before .before .before .before .before .loop-test .taken) (p .0) (p .1) (c .before .before .before .before .before .before .before .loop .inv .1) (c .before .before .apply .ensures))
+    (omega arith, going-more _ _ _ _ _ _ _ (r .0 .4) (c6 .loop-test .taken) (p .0) (p .1) (c7 .loop .inv .1) (c2 .apply .ensures))
 
 same-length : tie.Need-same-length Inv-loop μ-loop
 same-length c = search needs

@@ -13,13 +13,20 @@ slice-aggregate-join : tie.Need-slice-aggregate-join
 slice-aggregate-join c = search needs
 
 join-requires : tie.Need-join-requires
-join-requires c κs = let g = c .before .before .before .before .pre .2 in (c .before .before .before .before .pre .0, c .before .before .before .before .pre .1, narrow g, rows-hold g, narrow g, c .before .before .before .before .pre .3)
+join-requires c κs =
+    let c4 = c .before .before .before .before in
+    let g = c4 .pre .2 in
+    (c4 .pre .0, c4 .pre .1, narrow g, rows-hold g, narrow g, c4 .pre .3)
 
 same-length : tie.Need-same-length
 same-length c = search needs
 
 returns : tie.Need-returns
-returns c = let a = c .before .before .before .before .before .before .before .args in join-plain (c .before .before .before .before .before .before .before .pre .2) (a .p) (a .q) (c .before .before .join .ensures)
+returns c =
+    let c2 = c .before .before in
+    let c7 = c2 .before .before .before .before .before in
+    let a = c7 .args in
+    join-plain (c7 .pre .2) (a .p) (a .q) (c2 .join .ensures)
 
 pub join-spec : {M : Type 1} → statement M
 join-spec = tie.close (tie.spec slice-aggregate-join join-requires same-length returns)

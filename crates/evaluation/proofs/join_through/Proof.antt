@@ -21,13 +21,22 @@ slice-aggregate-join : tie.Need-slice-aggregate-join
 slice-aggregate-join c = search needs
 
 join-requires : tie.Need-join-requires
-join-requires c κs = let g = c .before .before .before .before .before .before .before .pre .2 in (c .before .before .before .before .before .before .before .pre .0, c .before .before .before .before .before .before .before .pre .1, narrow g, rows-hold g, omega (arith, narrow g, c .before .before .before .kind-mask .ensures .kept .len), c .before .before .before .before .before .before .before .pre .3)
+join-requires c κs =
+    let c3 = c .before .before .before in
+    let c7 = c3 .before .before .before .before in
+    let g = c7 .pre .2 in
+    (c7 .pre .0, c7 .pre .1, narrow g, rows-hold g, omega (arith, narrow g, c3 .kind-mask .ensures .kept .len), c7 .pre .3)
 
 same-length : tie.Need-same-length
 same-length c = search needs
 
 returns : tie.Need-returns
-returns c = let a = c .before .before .before .before .before .before .before .before .before .before .args in join-kinds (c .before .before .before .before .before .before .before .before .before .before .pre .2) (a .p) (a .q) (a .set) (c .before .before .before .before .before .before .kind-mask .ensures) (c .before .before .join .ensures)
+returns c =
+    let c2 = c .before .before in
+    let c6 = c2 .before .before .before .before in
+    let c10 = c6 .before .before .before .before in
+    let a = c10 .args in
+    join-kinds (c10 .pre .2) (a .p) (a .q) (a .set) (c6 .kind-mask .ensures) (c2 .join .ensures)
 
 pub join-through-spec : {M : Type 1} → statement M
 join-through-spec =

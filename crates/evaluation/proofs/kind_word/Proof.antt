@@ -37,7 +37,11 @@ wide-requires : tie.Need-wide-requires Inv-loop μ-loop
 wide-requires c κs = search needs
 
 shr-v : tie.Need-shr-v Inv-loop μ-loop
-shr-v c = let k = accepted-register _ _ (c .before .before .before .before .before .pre .0) .kinds (c .before .before .before .before .before .args .g + c .before .before .before .loop .i) in omega (arith, c .wide .ensures, c .before .kind-at .ensures)
+shr-v c =
+    let c3 = c .before .before .before in
+    let c5 = c3 .before .before in
+    let k = accepted-register _ _ (c5 .pre .0) .kinds (c5 .args .g + c3 .loop .i) in
+    omega (arith, c .wide .ensures, c .before .kind-at .ensures)
 
 shl-v : tie.Need-shl-v Inv-loop μ-loop
 shl-v c = search needs
@@ -49,7 +53,10 @@ loop-less : tie.Need-loop-less Inv-loop μ-loop
 loop-less c = search needs
 
 loop-again : tie.Need-loop-again Inv-loop μ-loop
-loop-again c = (omega arith, word-more _ (c .before .before .before .loop .inv .1) (kind-moved (c .before .before .before .before .before .args .set) (c .before .before .before .loop .i) _ (c .wide .ensures) (c .before .kind-at .ensures) (omega arith)))
+loop-again c =
+    let c3 = c .before .before .before in
+    let c5 = c3 .before .before in
+    (omega arith, word-more _ (c3 .loop .inv .1) (kind-moved (c5 .args .set) (c3 .loop .i) _ (c .wide .ensures) (c .before .kind-at .ensures) (omega arith)))
 
 returns : tie.Need-returns Inv-loop μ-loop
 returns c = let e : c .before .loop .i ≡ c .before .before .before .args .m = omega arith in rw e at (c .before .loop .inv .1)

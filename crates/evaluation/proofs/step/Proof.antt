@@ -24,7 +24,12 @@ same-length : tie.Need-same-length
 same-length c = search needs
 
 returns : tie.Need-returns
-returns c = let a = c .before .before .before .before .before .before .before .before .before .before .args in step-made (register-in (a .register .now)) (direction (a .forward)) (a .l .0) (c .before .before .before .before .before .before .clear .ensures) (c .before .before .add-links .ensures)
+returns c =
+    let c2 = c .before .before in
+    let c6 = c2 .before .before .before .before in
+    let c10 = c6 .before .before .before .before in
+    let a = c10 .args in
+    step-made (register-in (a .register .now)) (direction (a .forward)) (a .l .0) (c6 .clear .ensures) (c2 .add-links .ensures)
 
 pub step-spec : {M : Type 1} → statement M
 step-spec = tie.close (tie.spec mul-clear clear-requires add-links-requires same-length returns)

@@ -43,13 +43,20 @@ returns-3 : tie.Need-returns-3
 returns-3 c = ruled-as (of-union-code _ _ _ _ _ _ (c .before .before .before .before .if3 .taken)) (c .before .before .union-rule .ensures)
 
 pair-rule-requires : tie.Need-pair-rule-requires
-pair-rule-requires c κs = (record { least = c .before .before .before .if1 .left; most = omega (arith, c .before .before .before .before .before .before .pre .code); no-union = c .before .if3 .left }, c .before .before .before .before .before .before .pre .two (c .before .before .before .if1 .left) (omega (arith, c .before .before .before .before .before .before .pre .code)) .two)
+pair-rule-requires c κs =
+    let c3 = c .before .before .before in
+    let c6 = c3 .before .before .before in
+    (record { least = c3 .if1 .left; most = omega (arith, c6 .pre .code); no-union = c .before .if3 .left }, c6 .pre .two (c3 .if1 .left) (omega (arith, c6 .pre .code)) .two)
 
 same-length-4 : tie.Need-same-length-4
 same-length-4 c = search needs
 
 returns-4 : tie.Need-returns-4
-returns-4 c = ruled-as (of-two-code _ _ _ _ _ _ (c .before .before .before .before .before .before .if1 .left) (c .before .before .before .before .before .if2 .left)) (c .before .before .pair-rule .ensures)
+returns-4 c =
+    let c2 = c .before .before in
+    let c5 = c2 .before .before .before in
+    let c6 = c5 .before in
+    ruled-as (of-two-code _ _ _ _ _ _ (c6 .if1 .left) (c5 .if2 .left)) (c2 .pair-rule .ensures)
 
 pub rule-spec : {M : Type 1} → statement M
 rule-spec =

@@ -21,13 +21,26 @@ work-need-requires : tie.Need-work-need-requires
 work-need-requires c κs = let r = c .before .before .before .before .before .before .pre in small (stands (r .1) (r .2) (c .row-words .ensures))
 
 returns : tie.Need-returns
-returns c = let r = c .before .before .before .before .before .before .before .before .pre in settles-15 (stands (r .1) (r .2) (c .before .before .row-words .ensures)) _ (c .before .work-need .ensures) (c .if1 .taken)
+returns c =
+    let c2 = c .before .before in
+    let c8 = c2 .before .before .before .before .before .before in
+    let r = c8 .pre in
+    settles-15 (stands (r .1) (r .2) (c2 .row-words .ensures)) _ (c .before .work-need .ensures) (c .if1 .taken)
 
 job-words-requires : tie.Need-job-words-requires
-job-words-requires c κs = let r = c .before .before .before .before .before .before .before .before .before .before .before .pre in (r .0, stands (r .1) (r .2) (c .before .before .before .before .before .row-words .ensures), roomy _ (c .before .before .before .before .work-need .ensures) (c .before .before .before .if1 .left))
+job-words-requires c κs =
+    let c3 = c .before .before .before in
+    let c4 = c3 .before in
+    let c5 = c4 .before in
+    let c11 = c5 .before .before .before .before .before .before in
+    let r = c11 .pre in
+    (r .0, stands (r .1) (r .2) (c5 .row-words .ensures), roomy _ (c4 .work-need .ensures) (c3 .if1 .left))
 
 clear-requires : tie.Need-clear-requires
-clear-requires c κs = omega (arith, c .before .before .before .before .before .before .before .job-words .ensures .kept .len, c .before .before .before .before .before .before .before .before .before .before .before .if1 .left)
+clear-requires c κs =
+    let c7 = c .before .before .before .before .before .before .before in
+    let c11 = c7 .before .before .before .before in
+    omega (arith, c7 .job-words .ensures .kept .len, c11 .if1 .left)
 
 same-length : tie.Need-same-length
 same-length c = search needs
@@ -39,7 +52,15 @@ same-length-3 : tie.Need-same-length-3
 same-length-3 c = search needs
 
 returns-2 : tie.Need-returns-2
-returns-2 c = let r = c .before .before .before .before .before .before .before .before .before .before .before .before .before .before .before .before .before .before .before .before .before .before .pre in settles-rest (stands (r .1) (r .2) (c .before .before .before .before .before .before .before .before .before .before .before .before .before .before .before .before .row-words .ensures)) _ (c .before .before .before .before .before .before .before .before .before .before .before .before .before .before .before .work-need .ensures) (c .before .before .before .before .before .before .before .before .before .before .before .before .before .before .if1 .left) (c .before .before .before .before .before .before .before .before .before .before .job-words .ensures) (c .before .before .clear .ensures)
+returns-2 c =
+    let c2 = c .before .before in
+    let c10 = c2 .before .before .before .before .before .before .before .before in
+    let c14 = c10 .before .before .before .before in
+    let c15 = c14 .before in
+    let c16 = c15 .before in
+    let c22 = c16 .before .before .before .before .before .before in
+    let r = c22 .pre in
+    settles-rest (stands (r .1) (r .2) (c16 .row-words .ensures)) _ (c15 .work-need .ensures) (c14 .if1 .left) (c10 .job-words .ensures) (c2 .clear .ensures)
 
 pub job-in-spec : {M : Type 1} → statement M
 job-in-spec =

@@ -29,7 +29,11 @@ same-length-3 : tie.Need-same-length-3
 same-length-3 c = search needs
 
 returns-2 : tie.Need-returns-2
-returns-2 c = fills-rest (c .before .before .before .before .before .before .before .before .before .before .before .before .before .before .before .before .pre .1) (c .before .before .before .before .before .before .before .before .before .before .if1 .left) (c .before .before .before .before .before .before .job-codes .ensures)
+returns-2 c =
+    let c6 = c .before .before .before .before .before .before in
+    let c10 = c6 .before .before .before .before in
+    let c16 = c10 .before .before .before .before .before .before in
+    fills-rest (c16 .pre .1) (c10 .if1 .left) (c6 .job-codes .ensures)
 
 pub job-words-spec : {M : Type 1} → statement M
 job-words-spec =

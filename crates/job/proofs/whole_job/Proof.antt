@@ -46,10 +46,16 @@ enum-known-n c = search needs
 
 job-in-requires : tie.Need-job-in-requires
 job-in-requires c κs =
-    let (S, d) = told-sheet _ _ _ (c .before .before .before .before .before .before .before .before .before .before .before .before .before .before .before .before .before .before .before .read .ensures) _ _ (c .before .before .before .before .before .before .before .before .before .before .before .before .before .before .before .before .before .outcome2 .given .1) in
-    let (cs, g) = told-question _ _ _ (c .before .before .before .before .before .before .before .before .before .before .before .before .before .before .before .read2 .ensures) _ (c .before .before .before .before .before .before .before .before .before .before .before .before .before .read4 .given .1) in
-    let e = c .before .before .before .before .before .before .before .before .before .n .given .1 in
-    (asked d g, accepted-file _ _ (c .before .before .before .before .before .before .before .before .before .before .before .read5 .ensures) _ _ e, sym (accepted-records _ _ (c .before .before .before .before .before .before .before .before .before .before .before .read5 .ensures) _ _ e))
+    let c9 = c .before .before .before .before .before .before .before .before .before in
+    let c11 = c9 .before .before in
+    let c13 = c11 .before .before in
+    let c15 = c13 .before .before in
+    let c17 = c15 .before .before in
+    let c19 = c17 .before .before in
+    let (S, d) = told-sheet _ _ _ (c19 .read .ensures) _ _ (c17 .outcome2 .given .1) in
+    let (cs, g) = told-question _ _ _ (c15 .read2 .ensures) _ (c13 .read4 .given .1) in
+    let e = c9 .n .given .1 in
+    (asked d g, accepted-file _ _ (c11 .read5 .ensures) _ _ e, sym (accepted-records _ _ (c11 .read5 .ensures) _ _ e))
 
 returns : tie.Need-returns
 returns c = with-plain _ _ _ _ _ _ (sheet-refused _ _ _ _ _ _ _ (refused-sheet _ _ _ (c .before .before .before .read .ensures) _ (c .before .outcome .given .1)))
@@ -61,9 +67,14 @@ returns-2 c =
 
 returns-3 : tie.Need-returns-3
 returns-3 c =
-    let (S, d) = told-sheet _ _ _ (c .before .before .before .before .before .before .before .before .before .before .before .read .ensures) _ _ (c .before .before .before .before .before .before .before .before .before .outcome2 .given .1) in
-    let (cs, g) = told-question _ _ _ (c .before .before .before .before .before .before .before .read2 .ensures) _ (c .before .before .before .before .before .read4 .given .1) in
-    with-plain _ _ _ _ _ _ (register-refused _ _ _ _ _ _ S (d .reads) cs (g .reads) _ (refused-file _ _ (c .before .before .before .read5 .ensures) _ (c .before .r .given .1)))
+    let c3 = c .before .before .before in
+    let c5 = c3 .before .before in
+    let c7 = c5 .before .before in
+    let c9 = c7 .before .before in
+    let c11 = c9 .before .before in
+    let (S, d) = told-sheet _ _ _ (c11 .read .ensures) _ _ (c9 .outcome2 .given .1) in
+    let (cs, g) = told-question _ _ _ (c7 .read2 .ensures) _ (c5 .read4 .given .1) in
+    with-plain _ _ _ _ _ _ (register-refused _ _ _ _ _ _ S (d .reads) cs (g .reads) _ (refused-file _ _ (c3 .read5 .ensures) _ (c .before .r .given .1)))
 
 same-length : tie.Need-same-length
 same-length c = search needs
@@ -76,9 +87,16 @@ same-length-3 c = search needs
 
 returns-4 : tie.Need-returns-4
 returns-4 c =
-    let (S, d) = told-sheet _ _ _ (c .before .before .before .before .before .before .before .before .before .before .before .before .before .before .before .before .before .before .before .before .before .before .before .before .before .before .read .ensures) _ _ (c .before .before .before .before .before .before .before .before .before .before .before .before .before .before .before .before .before .before .before .before .before .before .before .before .outcome2 .given .1) in
-    let (cs, g) = told-question _ _ _ (c .before .before .before .before .before .before .before .before .before .before .before .before .before .before .before .before .before .before .before .before .before .before .read2 .ensures) _ (c .before .before .before .before .before .before .before .before .before .before .before .before .before .before .before .before .before .before .before .before .read4 .given .1) in
-    with-plain _ _ _ _ _ _ (files-read _ _ _ _ _ _ S (d .reads) cs (g .reads) _ _ _ _ _ (accepted-file _ _ (c .before .before .before .before .before .before .before .before .before .before .before .before .before .before .before .before .before .before .read5 .ensures) _ _ (c .before .before .before .before .before .before .before .before .before .before .before .before .before .before .before .before .n .given .1)) (taken d g) (tells d) (c .before .before .before .before .before .before .job-in .ensures))
+    let c6 = c .before .before .before .before .before .before in
+    let c16 = c6 .before .before .before .before .before .before .before .before .before .before in
+    let c18 = c16 .before .before in
+    let c20 = c18 .before .before in
+    let c22 = c20 .before .before in
+    let c24 = c22 .before .before in
+    let c26 = c24 .before .before in
+    let (S, d) = told-sheet _ _ _ (c26 .read .ensures) _ _ (c24 .outcome2 .given .1) in
+    let (cs, g) = told-question _ _ _ (c22 .read2 .ensures) _ (c20 .read4 .given .1) in
+    with-plain _ _ _ _ _ _ (files-read _ _ _ _ _ _ S (d .reads) cs (g .reads) _ _ _ _ _ (accepted-file _ _ (c18 .read5 .ensures) _ _ (c16 .n .given .1)) (taken d g) (tells d) (c6 .job-in .ensures))
 
 pub whole-job-spec : {M : Type 1} → statement M
 whole-job-spec =

@@ -31,7 +31,11 @@ has-requires-2 : tie.Need-has-requires-2
 has-requires-2 c κs = search needs
 
 returns-2 : tie.Need-returns-2
-returns-2 c = tells-acyclic _ _ _ (c .before .before .before .before .before .before .pre .1) (c .before .before .before .before .before .before .pre .2) (sym (c .before .before .before .has .ensures) ∙ c .before .before .if1 .left) (c .has2 .ensures)
+returns-2 c =
+    let c2 = c .before .before in
+    let c3 = c2 .before in
+    let c6 = c3 .before .before .before in
+    tells-acyclic _ _ _ (c6 .pre .1) (c6 .pre .2) (sym (c3 .has .ensures) ∙ c2 .if1 .left) (c .has2 .ensures)
 
 pub acyclic-spec : {M : Type 1} → statement M
 acyclic-spec =

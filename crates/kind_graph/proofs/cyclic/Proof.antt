@@ -42,9 +42,13 @@ loop-less c = search needs
 
 loop-again : tie.Need-loop-again Inv-loop μ-loop
 loop-again c =
-    let a = c .before .before .before .before .before .before .before .before .before .before .before .before .before .args in
+    let c2 = c .before .before in
+    let c4 = c2 .before .before in
+    let c6 = c4 .before .before in
+    let c13 = c6 .before .before .before .before .before .before .before in
+    let a = c13 .args in
     let f : ℕ → Bool = λ k. row-bit (a .work .now) k k in
-    (omega arith, mask-more f (c .before .before .before .before .before .before .loop .z) _ (c .before .before .before .before .before .before .loop .inv .1) (c .before .before .before .before .has .ensures) (c .before .before .set-if .ensures) (omega arith))
+    (omega arith, mask-more f (c6 .loop .z) _ (c6 .loop .inv .1) (c4 .has .ensures) (c2 .set-if .ensures) (omega arith))
 
 same-length : tie.Need-same-length Inv-loop μ-loop
 same-length c = search needs

@@ -38,21 +38,32 @@ set-pair-requires : tie.Need-set-pair-requires Inv-loop μ-loop
 set-pair-requires c κs = search needs
 
 add-i : tie.Need-add-i Inv-loop μ-loop
-add-i c = omega (arith, c .before .before .before .before .before .before .before .loop-test .taken, c .before .before .before .before .before .before .before .before .before .before .before .before .before .before .before .before .fits .e)
+add-i c =
+    let c7 = c .before .before .before .before .before .before .before in
+    let c16 = c7 .before .before .before .before .before .before .before .before .before in
+    omega (arith, c7 .loop-test .taken, c16 .fits .e)
 
 loop-less : tie.Need-loop-less Inv-loop μ-loop
 loop-less c = search needs
 
 loop-again : tie.Need-loop-again Inv-loop μ-loop
 loop-again c =
-    let a = c .before .before .before .before .before .before .before .before .before .before .before .before .before .before .before .before .args in
-    (omega arith, omega arith, edges-next (a .question .now) (a .words .now) (a .s) (a .e) (c .before .before .before .before .before .before .before .loop-test .taken) (c .before .before .before .before .before .before .load .ensures) (c .before .before .before .before .before .before .before .before .loop .inv .2) (c .before .before .set-pair .ensures))
+    let c2 = c .before .before in
+    let c6 = c2 .before .before .before .before in
+    let c7 = c6 .before in
+    let c8 = c7 .before in
+    let c16 = c8 .before .before .before .before .before .before .before .before in
+    let a = c16 .args in
+    (omega arith, omega arith, edges-next (a .question .now) (a .words .now) (a .s) (a .e) (c7 .loop-test .taken) (c6 .load .ensures) (c8 .loop .inv .2) (c2 .set-pair .ensures))
 
 same-length : tie.Need-same-length Inv-loop μ-loop
 same-length c = search needs
 
 returns : tie.Need-returns Inv-loop μ-loop
-returns c = let a = c .before .before .before .before .before .before .before .before .before .args in edges-end (a .question .now) (a .words .now) (a .s) (a .e) (c .loop-test .left) (c .before .loop .inv .2)
+returns c =
+    let c9 = c .before .before .before .before .before .before .before .before .before in
+    let a = c9 .args in
+    edges-end (a .question .now) (a .words .now) (a .s) (a .e) (c .loop-test .left) (c .before .loop .inv .2)
 
 pub edges-spec : {M : Type 1} → statement M
 edges-spec =

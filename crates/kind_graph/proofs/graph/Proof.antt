@@ -37,7 +37,13 @@ same-length : tie.Need-same-length
 same-length c = search needs
 
 returns : tie.Need-returns
-returns c = linked (c .before .before .before .before .before .before .before .before .before .before .before .before .before .before .before .before .before .before .before .edges .ensures) (c .before .before .before .before .before .before .before .before .before .before .before .before .before .before .before .closure .ensures) (c .before .before .before .before .before .before .before .before .before .before .cyclic .ensures) (c .before .before .before .before .before .before .before .double .ensures) (c .before .before .join .ensures)
+returns c =
+    let c2 = c .before .before in
+    let c7 = c2 .before .before .before .before .before in
+    let c10 = c7 .before .before .before in
+    let c15 = c10 .before .before .before .before .before in
+    let c19 = c15 .before .before .before .before in
+    linked (c19 .edges .ensures) (c15 .closure .ensures) (c10 .cyclic .ensures) (c7 .double .ensures) (c2 .join .ensures)
 
 pub graph-spec : {M : Type 1} → statement M
 graph-spec =

@@ -49,10 +49,16 @@ loop-less c = search needs
 
 loop-again : tie.Need-loop-again Inv-loop μ-loop
 loop-again c =
-    let h = c .before .before .before .before .before .before .before .before .before .before .before .before .before .before .pre .0 in
-    let l = c .before .before .before .before .before .before .before .before .loop-test .taken in
-    let x = c .before .before .before .before .before .before .before .load .ensures in
-    (omega arith, omega arith, round-next h l x (weight-is h l x (c .before .before .before .before .before .before .before .before .before .before .before .before .before .before .args .best .now) (c .before .before .before .extend .ensures)) (c .before .before .before .before .before .before .before .before .before .loop .inv .2) (c .before .before .raise .ensures))
+    let c2 = c .before .before in
+    let c3 = c2 .before in
+    let c7 = c3 .before .before .before .before in
+    let c8 = c7 .before in
+    let c9 = c8 .before in
+    let c14 = c9 .before .before .before .before .before in
+    let h = c14 .pre .0 in
+    let l = c8 .loop-test .taken in
+    let x = c7 .load .ensures in
+    (omega arith, omega arith, round-next h l x (weight-is h l x (c14 .args .best .now) (c3 .extend .ensures)) (c9 .loop .inv .2) (c2 .raise .ensures))
 
 same-length : tie.Need-same-length Inv-loop μ-loop
 same-length c = search needs

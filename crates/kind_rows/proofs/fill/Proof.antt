@@ -82,8 +82,12 @@ loop-again c =
     let a = c14 .args in
     let l = c7 .loop in
     let k = limits (p .1) .kinds (l .t) in
-    let h : l .t / 64 < a .w = omega (arith, rows-hold (p .1), c6 .loop-test .taken) in
-    (omega (arith, c6 .loop-test .taken), kinds-more (c4 .wide .result) (l .inv .1) (c2 .set .ensures) (c4 .wide .ensures ∙ c5 .kind-at .ensures) (omega (arith, c4 .wide .ensures, c5 .kind-at .ensures, k)) h, c2 .set .ensures (a .w) h .kept .len ∙ l .inv .2)
+    let h : l .t / 64 < a .w = omega (arith, rows-hold (p .1), c6 .loop-test .taken) in (
+      omega (arith, c6 .loop-test .taken),
+      kinds-more (c4 .wide .result) (l .inv .1) (c2 .set .ensures) (c4 .wide .ensures ∙ c5 .kind-at .ensures)
+          (omega (arith, c4 .wide .ensures, c5 .kind-at .ensures, k)) h,
+      c2 .set .ensures (a .w) h .kept .len ∙ l .inv .2,
+    )
 
 same-length : tie.Need-same-length Inv-loop μ-loop
 same-length c = search needs

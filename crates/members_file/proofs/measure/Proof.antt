@@ -30,16 +30,29 @@ next-member-requires : tie.Need-next-member-requires Inv-loop μ-loop
 next-member-requires c κs = count-asks (c .before .before .before .before .before .before .before .pre) (c .before .before .before .loop .inv) (c .before .before .loop-test .taken)
 
 add-members : tie.Need-add-members Inv-loop μ-loop
-add-members c = omega (arith, c .before .before .before .before .before .before .loop .inv .few, c .before .before .before .before .before .loop-test .taken, c .before .before .before .before .before .before .before .before .before .before .pre .small)
+add-members c =
+    let c5 = c .before .before .before .before .before in
+    let c6 = c5 .before in
+    let c10 = c6 .before .before .before .before in
+    omega (arith, c6 .loop .inv .few, c5 .loop-test .taken, c10 .pre .small)
 
 add-bytes : tie.Need-add-bytes Inv-loop μ-loop
-add-bytes c = omega (arith, c .before .before .before .before .before .before .before .loop .inv .few, c .before .before .before .before .before .before .before .loop .inv .small, c .before .before .before .before .before .before .loop-test .taken, c .before .before .before .before .before .before .before .before .before .before .before .pre .small, c .before .before .before .next-member .ensures .at-most)
+add-bytes c =
+    let c3 = c .before .before .before in
+    let c6 = c3 .before .before .before in
+    let c7 = c6 .before in
+    let c11 = c7 .before .before .before .before in
+    omega (arith, c7 .loop .inv .few, c7 .loop .inv .small, c6 .loop-test .taken, c11 .pre .small, c3 .next-member .ensures .at-most)
 
 loop-less : tie.Need-loop-less Inv-loop μ-loop
 loop-less c = omega (arith, c .before .before .before .next-member .ensures .onward, c .before .before .before .before .before .before .loop-test .taken)
 
 loop-again : tie.Need-loop-again Inv-loop μ-loop
-loop-again c = count-turn (c .before .before .before .before .before .before .before .before .before .before .before .pre) (c .before .before .before .before .before .before .before .loop .inv) (c .before .before .before .next-member .ensures)
+loop-again c =
+    let c3 = c .before .before .before in
+    let c7 = c3 .before .before .before .before in
+    let c11 = c7 .before .before .before .before in
+    count-turn (c11 .pre) (c7 .loop .inv) (c3 .next-member .ensures)
 
 returns : tie.Need-returns Inv-loop μ-loop
 returns c = count-over (c .before .before .before .before .before .pre) (c .before .loop .inv) (c .loop-test .left)

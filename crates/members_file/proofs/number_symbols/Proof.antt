@@ -39,7 +39,11 @@ symbol-size-requires : tie.Need-symbol-size-requires Inv-loop μ-loop
 symbol-size-requires c κs = search needs
 
 add-total : tie.Need-add-total Inv-loop μ-loop
-add-total c = omega (arith, c .before .before .before .before .before .loop .inv .at-most, c .before .before .before .before .loop-test .taken, c .before .before .before .before .before .before .before .before .pre .2, c .symbol-size .ensures .1)
+add-total c =
+    let c4 = c .before .before .before .before in
+    let c5 = c4 .before in
+    let c8 = c5 .before .before .before in
+    omega (arith, c5 .loop .inv .at-most, c4 .loop-test .taken, c8 .pre .2, c .symbol-size .ensures .1)
 
 add-j : tie.Need-add-j Inv-loop μ-loop
 add-j c = search needs
@@ -48,7 +52,11 @@ loop-less : tie.Need-loop-less Inv-loop μ-loop
 loop-less c = search needs
 
 loop-again : tie.Need-loop-again Inv-loop μ-loop
-loop-again c = going-turn (c .before .before .before .before .before .loop .inv) (c .before .before .before .before .loop-test .taken) (c .before .before .before .before .before .before .before .before .pre .0) (c .before .number .ensures) (c .symbol-size .ensures .0) (c .symbol-size .ensures .1)
+loop-again c =
+    let c4 = c .before .before .before .before in
+    let c5 = c4 .before in
+    let c8 = c5 .before .before .before in
+    going-turn (c5 .loop .inv) (c4 .loop-test .taken) (c8 .pre .0) (c .before .number .ensures) (c .symbol-size .ensures .0) (c .symbol-size .ensures .1)
 
 same-length : tie.Need-same-length Inv-loop μ-loop
 same-length c = search needs

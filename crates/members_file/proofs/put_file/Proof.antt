@@ -36,7 +36,11 @@ slice-aggregate-next-member-2 : tie.Need-slice-aggregate-next-member-2 Inv-loop 
 slice-aggregate-next-member-2 c = search needs
 
 next-member-requires : tie.Need-next-member-requires Inv-loop μ-loop
-next-member-requires c κs = fill-asks (c .before .before .before .before .before .before .before .before .before .before .before .before .pre) (c .before .before .before .loop .inv) (c .before .before .loop-test .taken)
+next-member-requires c κs =
+    let c2 = c .before .before in
+    let c3 = c2 .before in
+    let c12 = c3 .before .before .before .before .before .before .before .before .before in
+    fill-asks (c12 .pre) (c3 .loop .inv) (c2 .loop-test .taken)
 
 slice-aggregate-put-member : tie.Need-slice-aggregate-put-member Inv-loop μ-loop
 slice-aggregate-put-member c = search needs
@@ -48,19 +52,34 @@ cast-put-member : tie.Need-cast-put-member Inv-loop μ-loop
 cast-put-member c = omega (arith, c .before .before .before .before .before .before .next-member .ensures .few)
 
 put-member-requires : tie.Need-put-member-requires Inv-loop μ-loop
-put-member-requires c κs = fill-room (c .before .before .before .before .before .before .before .before .before .before .before .before .before .before .before .before .before .before .before .pre) (c .before .before .before .before .before .before .before .before .before .before .loop .inv) (c .before .before .before .before .before .before .next-member .ensures)
+put-member-requires c κs =
+    let c6 = c .before .before .before .before .before .before in
+    let c10 = c6 .before .before .before .before in
+    let c19 = c10 .before .before .before .before .before .before .before .before .before in
+    fill-room (c19 .pre) (c10 .loop .inv) (c6 .next-member .ensures)
 
 loop-less : tie.Need-loop-less Inv-loop μ-loop
-loop-less c = omega (arith, c .before .before .before .before .before .before .before .before .before .next-member .ensures .onward, c .before .before .before .before .before .before .before .before .before .before .before .before .loop-test .taken)
+loop-less c =
+    let c9 = c .before .before .before .before .before .before .before .before .before in
+    let c12 = c9 .before .before .before in
+    omega (arith, c9 .next-member .ensures .onward, c12 .loop-test .taken)
 
 loop-again : tie.Need-loop-again Inv-loop μ-loop
-loop-again c = fill-turn (c .before .before .before .before .before .before .before .before .before .before .before .before .before .before .before .before .before .before .before .before .before .before .pre) (c .before .before .before .before .before .before .before .before .before .before .before .before .before .loop .inv) (c .before .before .before .before .before .before .before .before .before .next-member .ensures) (c .before .before .put-member .ensures)
+loop-again c =
+    let c2 = c .before .before in
+    let c9 = c2 .before .before .before .before .before .before .before in
+    let c13 = c9 .before .before .before .before in
+    let c22 = c13 .before .before .before .before .before .before .before .before .before in
+    fill-turn (c22 .pre) (c13 .loop .inv) (c9 .next-member .ensures) (c2 .put-member .ensures)
 
 same-length : tie.Need-same-length Inv-loop μ-loop
 same-length c = c .before .loop .inv .same-length ∙ wrote-length (c .before .before .before .before .put-count .ensures)
 
 returns : tie.Need-returns Inv-loop μ-loop
-returns c = fill-over (c .before .before .before .before .before .before .before .before .before .before .pre) (c .before .loop .inv) (c .before .before .before .before .put-count .ensures) (c .loop-test .left)
+returns c =
+    let c4 = c .before .before .before .before in
+    let c10 = c4 .before .before .before .before .before .before in
+    fill-over (c10 .pre) (c .before .loop .inv) (c4 .put-count .ensures) (c .loop-test .left)
 
 pub put-file-spec : {M : Type 1} → statement M
 put-file-spec =

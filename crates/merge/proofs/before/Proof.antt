@@ -37,11 +37,19 @@ slice-aggregate-precedes-2 : tie.Need-slice-aggregate-precedes-2
 slice-aggregate-precedes-2 c = search needs
 
 precedes-requires : tie.Need-precedes-requires
-precedes-requires c κs = (expanded-end (c .before .before .before .before .before .before .before .before .before .before .before .before .before .before .pre .0) (c .before .before .before .before .before .before .before .before .before .expand .ensures) refl, expanded-end (c .before .before .before .before .before .before .before .before .before .before .before .before .before .before .pre .1) (c .before .before .before .before .expand2 .ensures) refl)
+precedes-requires c κs =
+    let c4 = c .before .before .before .before in
+    let c9 = c4 .before .before .before .before .before in
+    let c14 = c9 .before .before .before .before .before in
+    (expanded-end (c14 .pre .0) (c9 .expand .ensures) refl, expanded-end (c14 .pre .1) (c4 .expand2 .ensures) refl)
 
 returns : tie.Need-returns
 unfolding earlier?
-returns c = c .precedes .ensures ∙ ap₂ before? (expanded-codes (c .before .before .before .before .before .before .before .before .before .before .before .before .before .before .before .pre .0) (c .before .before .before .before .before .before .before .before .before .before .expand .ensures) refl) (expanded-codes (c .before .before .before .before .before .before .before .before .before .before .before .before .before .before .before .pre .1) (c .before .before .before .before .before .expand2 .ensures) refl)
+returns c =
+    let c5 = c .before .before .before .before .before in
+    let c10 = c5 .before .before .before .before .before in
+    let c15 = c10 .before .before .before .before .before in
+    c .precedes .ensures ∙ ap₂ before? (expanded-codes (c15 .pre .0) (c10 .expand .ensures) refl) (expanded-codes (c15 .pre .1) (c5 .expand2 .ensures) refl)
 
 pub before-spec : {M : Type 1} → statement M
 before-spec =

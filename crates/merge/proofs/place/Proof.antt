@@ -44,7 +44,11 @@ same-length : tie.Need-same-length Inv-loop μ-loop
 same-length c = search needs
 
 returns : tie.Need-returns Inv-loop μ-loop
-returns c = place-found (c .before .before .before .before .before .before .before .before .pre) (c .before .before .before .before .loop .inv) (c .before .before .before .loop-test .taken) (c .before .before2 .ensures) (not-true _ (c .if1 .taken))
+returns c =
+    let c3 = c .before .before .before in
+    let c4 = c3 .before in
+    let c8 = c4 .before .before .before .before in
+    place-found (c8 .pre) (c4 .loop .inv) (c3 .loop-test .taken) (c .before .before2 .ensures) (not-true _ (c .if1 .taken))
 
 mul-order-2 : tie.Need-mul-order-2 Inv-loop μ-loop
 mul-order-2 c = search needs
@@ -59,7 +63,11 @@ loop-less : tie.Need-loop-less Inv-loop μ-loop
 loop-less c = search needs
 
 loop-again : tie.Need-loop-again Inv-loop μ-loop
-loop-again c = place-turn (c .before .before .before .before .before .before .before .before .pre) (c .before .before .before .before .loop .inv) (c .before .before .before .loop-test .taken) (c .before .before2 .ensures) (not-false _ (c .if1 .left))
+loop-again c =
+    let c3 = c .before .before .before in
+    let c4 = c3 .before in
+    let c8 = c4 .before .before .before .before in
+    place-turn (c8 .pre) (c4 .loop .inv) (c3 .loop-test .taken) (c .before .before2 .ensures) (not-false _ (c .if1 .left))
 
 mul-order-3 : tie.Need-mul-order-3 Inv-loop μ-loop
 mul-order-3 c = search needs

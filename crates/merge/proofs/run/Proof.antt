@@ -35,7 +35,10 @@ add-j : tie.Need-add-j Inv-loop μ-loop
 add-j c = search needs
 
 loop-holds : tie.Need-loop-holds Inv-loop μ-loop
-loop-holds c = run-start (c .before .before .before .before .before .before .before .before .before .before .before .before .before .before .pre) (c .before .before .before .before .before .expand .ensures) (c .kinds .ensures)
+loop-holds c =
+    let c5 = c .before .before .before .before .before in
+    let c14 = c5 .before .before .before .before .before .before .before .before .before in
+    run-start (c14 .pre) (c5 .expand .ensures) (c .kinds .ensures)
 
 mul-t : tie.Need-mul-t Inv-loop μ-loop
 mul-t c = search needs
@@ -44,7 +47,11 @@ shared-slice-read-t : tie.Need-shared-slice-read-t Inv-loop μ-loop
 shared-slice-read-t c = search needs
 
 take-in-requires : tie.Need-take-in-requires Inv-loop μ-loop
-take-in-requires c κs = run-asks (c .before .before .before .before .before .before .before .before .before .before .before .before .before .before .before .before .before .before .before .pre) (c .before .before .before .before .loop .inv) (c .before .before .before .loop-test .taken)
+take-in-requires c κs =
+    let c3 = c .before .before .before in
+    let c4 = c3 .before in
+    let c19 = c4 .before .before .before .before .before .before .before .before .before .before .before .before .before .before .before in
+    run-asks (c19 .pre) (c4 .loop .inv) (c3 .loop-test .taken)
 
 same-length : tie.Need-same-length Inv-loop μ-loop
 same-length c = search needs
@@ -53,19 +60,38 @@ same-length-2 : tie.Need-same-length-2 Inv-loop μ-loop
 same-length-2 c = search needs
 
 returns : tie.Need-returns Inv-loop μ-loop
-returns c = run-ends (c .before .before .before .before .before .before .before .before .before .before .before .before .before .before .before .before .before .before .before .before .before .before .before .pre) (c .before .before .before .before .before .before .before .before .loop .inv) (c .before .before .before .before .before .before .before .loop-test .taken) (c .before .before .before .take-in .ensures) (not-true _ (c .if1 .taken))
+returns c =
+    let c3 = c .before .before .before in
+    let c7 = c3 .before .before .before .before in
+    let c8 = c7 .before in
+    let c23 = c8 .before .before .before .before .before .before .before .before .before .before .before .before .before .before .before in
+    run-ends (c23 .pre) (c8 .loop .inv) (c7 .loop-test .taken) (c3 .take-in .ensures) (not-true _ (c .if1 .taken))
 
 kinds-requires-2 : tie.Need-kinds-requires-2 Inv-loop μ-loop
-kinds-requires-2 c κs = next-in (c .before .before .before .before .before .before .before .before .before .before .before .before .before .before .before .before .before .before .before .before .before .before .before .pre) (c .before .before .before .before .before .before .before .before .loop .inv) (c .before .before .before .before .before .before .before .loop-test .taken)
+kinds-requires-2 c κs =
+    let c7 = c .before .before .before .before .before .before .before in
+    let c8 = c7 .before in
+    let c23 = c8 .before .before .before .before .before .before .before .before .before .before .before .before .before .before .before in
+    next-in (c23 .pre) (c8 .loop .inv) (c7 .loop-test .taken)
 
 add-j-2 : tie.Need-add-j-2 Inv-loop μ-loop
-add-j-2 c = omega (arith, c .before .before .before .before .before .before .before .before .before .before .loop-test .taken, c .before .before .before .before .before .before .before .before .before .before .before .before .before .before .before .before .before .before .before .before .before .before .before .before .before .before .fits .n)
+add-j-2 c =
+    let c10 = c .before .before .before .before .before .before .before .before .before .before in
+    let c26 = c10 .before .before .before .before .before .before .before .before .before .before .before .before .before .before .before .before in
+    omega (arith, c10 .loop-test .taken, c26 .fits .n)
 
 loop-less : tie.Need-loop-less Inv-loop μ-loop
 loop-less c = search needs
 
 loop-again : tie.Need-loop-again Inv-loop μ-loop
-loop-again c = run-turn (c .before .before .before .before .before .before .before .before .before .before .before .before .before .before .before .before .before .before .before .before .before .before .before .before .before .before .pre) (c .before .before .before .before .before .before .before .before .before .before .before .loop .inv) (c .before .before .before .before .before .before .before .before .before .before .loop-test .taken) (c .before .before .before .before .before .before .take-in .ensures) (not-false _ (c .before .before .before .if1 .left)) (c .before .before .kinds2 .ensures)
+loop-again c =
+    let c2 = c .before .before in
+    let c3 = c2 .before in
+    let c6 = c3 .before .before .before in
+    let c10 = c6 .before .before .before .before in
+    let c11 = c10 .before in
+    let c26 = c11 .before .before .before .before .before .before .before .before .before .before .before .before .before .before .before in
+    run-turn (c26 .pre) (c11 .loop .inv) (c10 .loop-test .taken) (c6 .take-in .ensures) (not-false _ (c3 .if1 .left)) (c2 .kinds2 .ensures)
 
 same-length-3 : tie.Need-same-length-3 Inv-loop μ-loop
 same-length-3 c = search needs
@@ -74,7 +100,9 @@ same-length-4 : tie.Need-same-length-4 Inv-loop μ-loop
 same-length-4 c = search needs
 
 returns-2 : tie.Need-returns-2 Inv-loop μ-loop
-returns-2 c = run-over (c .before .before .before .before .before .before .before .before .before .before .before .before .before .before .before .before .pre) (c .before .loop .inv) (c .loop-test .left)
+returns-2 c =
+    let c16 = c .before .before .before .before .before .before .before .before .before .before .before .before .before .before .before .before in
+    run-over (c16 .pre) (c .before .loop .inv) (c .loop-test .left)
 
 pub run-spec : {M : Type 1} → statement M
 run-spec =

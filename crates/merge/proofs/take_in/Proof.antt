@@ -26,19 +26,31 @@ slice-aggregate-precedes : tie.Need-slice-aggregate-precedes
 slice-aggregate-precedes c = search needs
 
 precedes-requires : tie.Need-precedes-requires
-precedes-requires c κs = (omega (arith, c .before .before .before .before .before .before .before .before .before .before .pre .few, c .before .before .before .before .before .before .before .before .before .before .pre .codes-room), expanded-end (c .before .before .before .before .before .before .before .before .before .before .pre .usable) (c .before .before .before .expand .ensures) refl)
+precedes-requires c κs =
+    let c3 = c .before .before .before in
+    let c10 = c3 .before .before .before .before .before .before .before in
+    (omega (arith, c10 .pre .few, c10 .pre .codes-room), expanded-end (c10 .pre .usable) (c3 .expand .ensures) refl)
 
 returns : tie.Need-returns
-returns c = taken-before (c .before .before .before .before .before .before .before .before .before .before .before .before .pre) refl (c .before .before .before .before .before .expand .ensures) (c .before .precedes .ensures) (c .if1 .taken)
+returns c =
+    let c5 = c .before .before .before .before .before in
+    let c12 = c5 .before .before .before .before .before .before .before in
+    taken-before (c12 .pre) refl (c5 .expand .ensures) (c .before .precedes .ensures) (c .if1 .taken)
 
 slice-aggregate-precedes-2 : tie.Need-slice-aggregate-precedes-2
 slice-aggregate-precedes-2 c = search needs
 
 precedes-requires-2 : tie.Need-precedes-requires-2
-precedes-requires-2 c κs = (expanded-end (c .before .before .before .before .before .before .before .before .before .before .before .before .before .pre .usable) (c .before .before .before .before .before .before .expand .ensures) refl, omega (arith, c .before .before .before .before .before .before .before .before .before .before .before .before .before .pre .few, c .before .before .before .before .before .before .before .before .before .before .before .before .before .pre .codes-room))
+precedes-requires-2 c κs =
+    let c6 = c .before .before .before .before .before .before in
+    let c13 = c6 .before .before .before .before .before .before .before in
+    (expanded-end (c13 .pre .usable) (c6 .expand .ensures) refl, omega (arith, c13 .pre .few, c13 .pre .codes-room))
 
 returns-2 : tie.Need-returns-2
-returns-2 c = taken-after (c .before .before .before .before .before .before .before .before .before .before .before .before .before .before .before .pre) refl (c .before .before .before .before .before .before .before .before .expand .ensures) (c .before .precedes2 .ensures) (c .if2 .taken)
+returns-2 c =
+    let c8 = c .before .before .before .before .before .before .before .before in
+    let c15 = c8 .before .before .before .before .before .before .before in
+    taken-after (c15 .pre) refl (c8 .expand .ensures) (c .before .precedes2 .ensures) (c .if2 .taken)
 
 slice-aggregate-or-sets : tie.Need-slice-aggregate-or-sets
 slice-aggregate-or-sets c = search needs
@@ -50,7 +62,15 @@ same-length : tie.Need-same-length
 same-length c = search needs
 
 returns-3 : tie.Need-returns-3
-returns-3 c = taken-in (c .before .before .before .before .before .before .before .before .before .before .before .before .before .before .before .before .before .before .before .before .pre) refl (c .before .before .before .before .before .before .before .before .before .before .before .before .before .expand .ensures) refl (c .before .before .before .before .before .before .before .before .before .precedes .ensures) (c .before .before .before .before .before .before .before .before .if1 .left) (c .before .before .before .before .before .before .precedes2 .ensures) (c .before .before .before .before .before .if2 .left) (c .before .before .or-sets .ensures)
+returns-3 c =
+    let c2 = c .before .before in
+    let c5 = c2 .before .before .before in
+    let c6 = c5 .before in
+    let c8 = c6 .before .before in
+    let c9 = c8 .before in
+    let c13 = c9 .before .before .before .before in
+    let c20 = c13 .before .before .before .before .before .before .before in
+    taken-in (c20 .pre) refl (c13 .expand .ensures) refl (c9 .precedes .ensures) (c8 .if1 .left) (c6 .precedes2 .ensures) (c5 .if2 .left) (c2 .or-sets .ensures)
 
 pub take-in-spec : {M : Type 1} → statement M
 take-in-spec =

@@ -21,7 +21,9 @@ loop-holds : tie.Need-loop-holds Inv-loop μ-loop
 loop-holds c = (c .before .pre .0, (c .before .pre .1 .0, (omega arith, (c .before .pre .1 .1, refl))))
 
 returns : tie.Need-returns Inv-loop μ-loop
-returns c = second-ends _ _ _ _ _ _ (c .before .before .loop .inv .1 .1 .1 .1) (c .before .before .loop .inv .1 .1 .0) (c .before .before .loop .inv .1 .1 .1 .0) (c .before .loop-test .taken) (c .if1 .taken)
+returns c =
+    let c2 = c .before .before in
+    second-ends _ _ _ _ _ _ (c2 .loop .inv .1 .1 .1 .1) (c2 .loop .inv .1 .1 .0) (c2 .loop .inv .1 .1 .1 .0) (c .before .loop-test .taken) (c .if1 .taken)
 
 shared-slice-read-code : tie.Need-shared-slice-read-code Inv-loop μ-loop
 shared-slice-read-code c = search needs
@@ -36,10 +38,23 @@ code-requires-2 : tie.Need-code-requires-2 Inv-loop μ-loop
 code-requires-2 c κs = search needs
 
 returns-2 : tie.Need-returns-2 Inv-loop μ-loop
-returns-2 c = less _ _ _ _ _ _ (c .before .before .before .before .before .before .before .loop .inv .1 .1 .1 .1) (c .before .before .before .before .before .before .before .loop .inv .1 .1 .0) (c .before .before .before .before .before .before .before .loop .inv .1 .1 .1 .0) (c .before .before .before .before .before .before .loop-test .taken) (c .before .before .before .before .before .if1 .left) (omega (arith, c .before .before .before .code .ensures, c .before .code2 .ensures, c .if2 .taken))
+returns-2 c =
+    let c3 = c .before .before .before in
+    let c5 = c3 .before .before in
+    let c6 = c5 .before in
+    let c7 = c6 .before in
+    less _ _ _ _ _ _ (c7 .loop .inv .1 .1 .1 .1) (c7 .loop .inv .1 .1 .0) (c7 .loop .inv .1 .1 .1 .0) (c6 .loop-test .taken) (c5 .if1 .left)
+    (omega (arith, c3 .code .ensures, c .before .code2 .ensures, c .if2 .taken))
 
 returns-3 : tie.Need-returns-3 Inv-loop μ-loop
-returns-3 c = greater _ _ _ _ _ _ (c .before .before .before .before .before .before .before .before .loop .inv .1 .1 .1 .1) (c .before .before .before .before .before .before .before .before .loop .inv .1 .1 .0) (c .before .before .before .before .before .before .before .before .loop .inv .1 .1 .1 .0) (c .before .before .before .before .before .before .before .loop-test .taken) (c .before .before .before .before .before .before .if1 .left) (omega (arith, c .before .before .before .before .code .ensures, c .before .before .code2 .ensures, c .if3 .taken))
+returns-3 c =
+    let c2 = c .before .before in
+    let c4 = c2 .before .before in
+    let c6 = c4 .before .before in
+    let c7 = c6 .before in
+    let c8 = c7 .before in
+    greater _ _ _ _ _ _ (c8 .loop .inv .1 .1 .1 .1) (c8 .loop .inv .1 .1 .0) (c8 .loop .inv .1 .1 .1 .0) (c7 .loop-test .taken) (c6 .if1 .left)
+    (omega (arith, c4 .code .ensures, c2 .code2 .ensures, c .if3 .taken))
 
 add-i : tie.Need-add-i Inv-loop μ-loop
 add-i c = search needs
@@ -51,7 +66,25 @@ loop-less : tie.Need-loop-less Inv-loop μ-loop
 loop-less c = search needs
 
 loop-again : tie.Need-loop-again Inv-loop μ-loop
-loop-again c = (omega arith, (omega arith, (c .before .before .before .before .before .before .before .before .loop .inv .1 .1 .0, (c .before .before .before .before .before .before .before .before .loop .inv .1 .1 .1 .0, equal _ _ _ _ _ _ (c .before .before .before .before .before .before .before .before .loop .inv .1 .1 .1 .1) (c .before .before .before .before .before .before .before .before .loop .inv .1 .1 .0) (c .before .before .before .before .before .before .before .before .loop .inv .1 .1 .1 .0) (c .before .before .before .before .before .before .before .loop-test .taken) (c .before .before .before .before .before .before .if1 .left) (omega (arith, c .before .before .before .before .code .ensures, c .before .before .code2 .ensures, c .if3 .left, c .before .if2 .left))))))
+loop-again c =
+    let c2 = c .before .before in
+    let c4 = c2 .before .before in
+    let c6 = c4 .before .before in
+    let c7 = c6 .before in
+    let c8 = c7 .before in (
+      omega arith,
+      (
+        omega arith,
+        (
+          c8 .loop .inv .1 .1 .0,
+          (
+            c8 .loop .inv .1 .1 .1 .0,
+            equal _ _ _ _ _ _ (c8 .loop .inv .1 .1 .1 .1) (c8 .loop .inv .1 .1 .0) (c8 .loop .inv .1 .1 .1 .0) (c7 .loop-test .taken) (c6 .if1 .left)
+                (omega (arith, c4 .code .ensures, c2 .code2 .ensures, c .if3 .left, c .before .if2 .left)),
+          ),
+        ),
+      ),
+    )
 
 returns-4 : tie.Need-returns-4 Inv-loop μ-loop
 returns-4 c = first-ends _ _ _ _ _ _ (c .before .loop .inv .1 .1 .1 .1) (c .before .loop .inv .1 .1 .0) (c .before .loop .inv .1 .1 .1 .0) (c .loop-test .left)

@@ -29,7 +29,13 @@ enum-known-t c = search needs
 
 returns : tie.Need-returns
 unfolding symbol-move
-returns c = simp (eq-eqb _ _ (c .if1 .taken), c .before .before .before .t .given .1, ← c .before .before .before .before .before .push-symbol .ensures, ← c .before .before .before .before .before .before .operands .ensures, c .before .before .before .before .before .before .before .before .x .given .1, ← c .before .before .before .before .before .before .before .before .before .before .symbol-in .ensures)
+returns c =
+    let c3 = c .before .before .before in
+    let c5 = c3 .before .before in
+    let c6 = c5 .before in
+    let c8 = c6 .before .before in
+    let c10 = c8 .before .before in
+    simp (eq-eqb _ _ (c .if1 .taken), c3 .t .given .1, ← c5 .push-symbol .ensures, ← c6 .operands .ensures, c8 .x .given .1, ← c10 .symbol-in .ensures)
 
 returns-2 : tie.Need-returns-2
 unfolding symbol-move
@@ -37,11 +43,22 @@ returns-2 c = simp (c .before .r .given .1, ← c .before .before .before .symbo
 
 returns-3 : tie.Need-returns-3
 unfolding symbol-move
-returns-3 c = simp (c .before .r2 .given .1, ← c .before .before .before .push-symbol .ensures, ← c .before .before .before .before .operands .ensures, c .before .before .before .before .before .before .x .given .1, ← c .before .before .before .before .before .before .before .before .symbol-in .ensures)
+returns-3 c =
+    let c3 = c .before .before .before in
+    let c4 = c3 .before in
+    let c6 = c4 .before .before in
+    let c8 = c6 .before .before in
+    simp (c .before .r2 .given .1, ← c3 .push-symbol .ensures, ← c4 .operands .ensures, c6 .x .given .1, ← c8 .symbol-in .ensures)
 
 returns-4 : tie.Need-returns-4
 unfolding symbol-move
-returns-4 c = simp (ne-eqb _ _ (c .if1 .left), c .before .before .before .t .given .1, ← c .before .before .before .before .before .push-symbol .ensures, ← c .before .before .before .before .before .before .operands .ensures, c .before .before .before .before .before .before .before .before .x .given .1, ← c .before .before .before .before .before .before .before .before .before .before .symbol-in .ensures)
+returns-4 c =
+    let c3 = c .before .before .before in
+    let c5 = c3 .before .before in
+    let c6 = c5 .before in
+    let c8 = c6 .before .before in
+    let c10 = c8 .before .before in
+    simp (ne-eqb _ _ (c .if1 .left), c3 .t .given .1, ← c5 .push-symbol .ensures, ← c6 .operands .ensures, c8 .x .given .1, ← c10 .symbol-in .ensures)
 
 pub grow-spec : {M : Type 1} → statement M
 grow-spec =

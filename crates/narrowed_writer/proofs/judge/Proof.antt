@@ -35,22 +35,44 @@ enum-known-r : tie.Need-enum-known-r Inv-loop μ-loop
 enum-known-r c = search needs
 
 returns-2 : tie.Need-returns-2 Inv-loop μ-loop
-returns-2 c = member-refused (c .before .before .before .before .before .before .before .loop .inv .0) (c .before .before .before .before .before .if2 .taken) (c .before .before .before .before .before .before .before .loop .inv .1) _ _ (sym (c .before .before .before .judge-member .ensures) ∙ ap place-said (c .before .r .given .1))
+returns-2 c =
+    let c3 = c .before .before .before in
+    let c5 = c3 .before .before in
+    let c7 = c5 .before .before in
+    member-refused (c7 .loop .inv .0) (c5 .if2 .taken) (c7 .loop .inv .1) _ _ (sym (c3 .judge-member .ensures) ∙ ap place-said (c .before .r .given .1))
 
 enum-known-next : tie.Need-enum-known-next Inv-loop μ-loop
 enum-known-next c = search needs
 
 cast-end : tie.Need-cast-end Inv-loop μ-loop
-cast-end c = let h = member-size (c .before .before .before .before .before .before .before .loop .inv .0) (c .before .before .before .before .before .if2 .taken) (c .before .before .before .before .before .before .before .loop .inv .1) _ (sym (c .before .before .before .judge-member .ensures) ∙ ap place-said (c .before .next .given .1)) in omega arith
+cast-end c =
+    let c3 = c .before .before .before in
+    let c5 = c3 .before .before in
+    let c7 = c5 .before .before in
+    let h = member-size (c7 .loop .inv .0) (c5 .if2 .taken) (c7 .loop .inv .1) _ (sym (c3 .judge-member .ensures) ∙ ap place-said (c .before .next .given .1)) in
+    omega arith
 
 add-end : tie.Need-add-end Inv-loop μ-loop
-add-end c = let h = member-size (c .before .before .before .before .before .before .before .loop .inv .0) (c .before .before .before .before .before .if2 .taken) (c .before .before .before .before .before .before .before .loop .inv .1) _ (sym (c .before .before .before .judge-member .ensures) ∙ ap place-said (c .before .next .given .1)) in let r = c .before .before .before .before .before .before .before .loop .inv .0 in omega (arith, r .used, r .few, c .before .before .before .before .before .if2 .taken)
+add-end c =
+    let c3 = c .before .before .before in
+    let c5 = c3 .before .before in
+    let c7 = c5 .before .before in
+    let h = member-size (c7 .loop .inv .0) (c5 .if2 .taken) (c7 .loop .inv .1) _ (sym (c3 .judge-member .ensures) ∙ ap place-said (c .before .next .given .1)) in
+    let r = c7 .loop .inv .0 in
+    omega (arith, r .used, r .few, c5 .if2 .taken)
 
 slice-aggregate-earlier : tie.Need-slice-aggregate-earlier Inv-loop μ-loop
 slice-aggregate-earlier c = search needs
 
 earlier-requires : tie.Need-earlier-requires Inv-loop μ-loop
-earlier-requires c κs = let h = member-size (c .before .before .before .before .before .before .before .before .loop .inv .0) (c .before .before .before .before .before .before .if2 .taken) (c .before .before .before .before .before .before .before .before .loop .inv .1) _ (sym (c .before .before .before .before .judge-member .ensures) ∙ ap place-said (c .before .before .next .given .1)) in let r = c .before .before .before .before .before .before .before .before .loop .inv .0 in (r .ordered, (omega arith, omega (arith, r .used, r .few, c .before .before .before .before .before .before .if2 .taken, c .before .before .before .before .before .before .before .before .loop .inv .1)))
+earlier-requires c κs =
+    let c2 = c .before .before in
+    let c4 = c2 .before .before in
+    let c6 = c4 .before .before in
+    let c8 = c6 .before .before in
+    let h = member-size (c8 .loop .inv .0) (c6 .if2 .taken) (c8 .loop .inv .1) _ (sym (c4 .judge-member .ensures) ∙ ap place-said (c2 .next .given .1)) in
+    let r = c8 .loop .inv .0 in
+    (r .ordered, (omega arith, omega (arith, r .used, r .few, c6 .if2 .taken, c8 .loop .inv .1)))
 
 add-i : tie.Need-add-i Inv-loop μ-loop
 add-i c = search needs
@@ -59,10 +81,25 @@ loop-less : tie.Need-loop-less Inv-loop μ-loop
 loop-less c = search needs
 
 loop-again : tie.Need-loop-again Inv-loop μ-loop
-loop-again c = (member-more (c .before .before .before .before .before .before .before .before .before .before .loop .inv .0) (c .before .before .before .before .before .before .before .before .if2 .taken) (c .before .before .before .before .before .before .before .before .before .before .loop .inv .1) _ (sym (c .before .before .before .before .before .before .judge-member .ensures) ∙ ap place-said (c .before .before .before .before .next .given .1)) (sym (c .before .earlier .ensures) ∙ c .if3 .taken), c .before .before .before .before .before .before .before .before .before .before .loop .inv .1, c .before .before .before .before .before .before .before .before .before .before .loop .inv .2, c .before .before .before .before .before .before .before .before .before .before .loop .inv .3, c .before .before .before .before .before .before .before .before .before .before .loop .inv .4)
+loop-again c =
+    let c4 = c .before .before .before .before in
+    let c6 = c4 .before .before in
+    let c8 = c6 .before .before in
+    let c10 = c8 .before .before in (
+      member-more (c10 .loop .inv .0) (c8 .if2 .taken) (c10 .loop .inv .1) _ (sym (c6 .judge-member .ensures) ∙ ap place-said (c4 .next .given .1)) (sym (c .before .earlier .ensures) ∙ c .if3 .taken),
+      c10 .loop .inv .1,
+      c10 .loop .inv .2,
+      c10 .loop .inv .3,
+      c10 .loop .inv .4,
+    )
 
 returns-3 : tie.Need-returns-3 Inv-loop μ-loop
-returns-3 c = member-order (c .before .before .before .before .before .before .before .before .before .before .loop .inv .0) (c .before .before .before .before .before .before .before .before .if2 .taken) (c .before .before .before .before .before .before .before .before .before .before .loop .inv .1) _ (sym (c .before .before .before .before .before .before .judge-member .ensures) ∙ ap place-said (c .before .before .before .before .next .given .1)) (sym (c .before .earlier .ensures) ∙ c .if3 .left)
+returns-3 c =
+    let c4 = c .before .before .before .before in
+    let c6 = c4 .before .before in
+    let c8 = c6 .before .before in
+    let c10 = c8 .before .before in
+    member-order (c10 .loop .inv .0) (c8 .if2 .taken) (c10 .loop .inv .1) _ (sym (c6 .judge-member .ensures) ∙ ap place-said (c4 .next .given .1)) (sym (c .before .earlier .ensures) ∙ c .if3 .left)
 
 returns-4 : tie.Need-returns-4 Inv-loop μ-loop
 returns-4 c = members-end (c .before .before .loop .inv .0) (c .if2 .left)

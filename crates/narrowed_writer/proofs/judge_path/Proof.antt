@@ -29,7 +29,11 @@ enum-known-r : tie.Need-enum-known-r Inv-loop μ-loop
 enum-known-r c = search needs
 
 returns : tie.Need-returns Inv-loop μ-loop
-returns c = path-refused (c .before .before .before .before .before .before .before .loop .inv .0) (c .before .before .before .before .before .if1 .taken) (c .before .before .before .before .before .before .before .loop .inv .1) _ _ (sym (c .before .before .before .offer .ensures) ∙ ap push-said (c .before .r .given .1))
+returns c =
+    let c3 = c .before .before .before in
+    let c5 = c3 .before .before in
+    let c7 = c5 .before .before in
+    path-refused (c7 .loop .inv .0) (c5 .if1 .taken) (c7 .loop .inv .1) _ _ (sym (c3 .offer .ensures) ∙ ap push-said (c .before .r .given .1))
 
 enum-known-t : tie.Need-enum-known-t Inv-loop μ-loop
 enum-known-t c = search needs
@@ -44,10 +48,25 @@ add-i : tie.Need-add-i Inv-loop μ-loop
 add-i c = search needs
 
 loop-less : tie.Need-loop-less Inv-loop μ-loop
-loop-less c = let l = path-more (c .before .before .before .before .before .before .before .before .loop .inv .0) (c .before .before .before .before .before .before .if1 .taken) (c .before .before .before .before .before .before .before .before .loop .inv .1) _ _ (c .symbol-size .ensures .0) (c .symbol-size .ensures .1) (sym (c .before .before .before .before .offer .ensures) ∙ ap push-said (c .before .before .t .given .1)) .left in omega (arith, l, c .before .before .before .before .before .before .before .before .loop .inv .0 .left, c .before .before .before .before .before .before .if1 .taken)
+loop-less c =
+    let c2 = c .before .before in
+    let c4 = c2 .before .before in
+    let c6 = c4 .before .before in
+    let c8 = c6 .before .before in
+    let l = path-more (c8 .loop .inv .0) (c6 .if1 .taken) (c8 .loop .inv .1) _ _ (c .symbol-size .ensures .0) (c .symbol-size .ensures .1)
+    (sym (c4 .offer .ensures) ∙ ap push-said (c2 .t .given .1)) .left in
+    omega (arith, l, c8 .loop .inv .0 .left, c6 .if1 .taken)
 
 loop-again : tie.Need-loop-again Inv-loop μ-loop
-loop-again c = (path-more (c .before .before .before .before .before .before .before .before .loop .inv .0) (c .before .before .before .before .before .before .if1 .taken) (c .before .before .before .before .before .before .before .before .loop .inv .1) _ _ (c .symbol-size .ensures .0) (c .symbol-size .ensures .1) (sym (c .before .before .before .before .offer .ensures) ∙ ap push-said (c .before .before .t .given .1)), c .before .before .before .before .before .before .before .before .loop .inv .1, c .before .before .before .before .before .before .before .before .loop .inv .2)
+loop-again c =
+    let c2 = c .before .before in
+    let c4 = c2 .before .before in
+    let c6 = c4 .before .before in
+    let c8 = c6 .before .before in (
+      path-more (c8 .loop .inv .0) (c6 .if1 .taken) (c8 .loop .inv .1) _ _ (c .symbol-size .ensures .0) (c .symbol-size .ensures .1) (sym (c4 .offer .ensures) ∙ ap push-said (c2 .t .given .1)),
+      c8 .loop .inv .1,
+      c8 .loop .inv .2,
+    )
 
 returns-2 : tie.Need-returns-2 Inv-loop μ-loop
 returns-2 c = path-ends (c .before .before .loop .inv .0) (omega (arith, c .if1 .left))

@@ -23,7 +23,11 @@ push-symbol-requires c κs = search needs
 
 returns : tie.Need-returns
 unfolding offered
-returns c = simp (c .before .before .before .if1 .taken, ← c .before .before .before .before .known .ensures, ← c .before .operands .ensures, ← c .before .before .symbol-size .ensures .0) (c .push-symbol .ensures)
+returns c =
+    let c2 = c .before .before in
+    let c3 = c2 .before in
+    let c4 = c3 .before in
+    simp (c3 .if1 .taken, ← c4 .known .ensures, ← c .before .operands .ensures, ← c2 .symbol-size .ensures .0) (c .push-symbol .ensures)
 
 returns-2 : tie.Need-returns-2
 unfolding offered

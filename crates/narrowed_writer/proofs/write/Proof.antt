@@ -25,7 +25,11 @@ returns c = writes-short _ _ _ _ refl (sym (c .before .before .before .before .j
 
 put-members-requires : tie.Need-put-members-requires
 unfolding file-of
-put-members-requires c κs = let e = sym (c .before .before .before .before .before .judge .ensures) ∙ ap place-said (c .before .before .before .n .given .1) in (verdict-few _ _ e, omega (arith, judged-got _ _ e .1, c .before .if1 .left))
+put-members-requires c κs =
+    let c3 = c .before .before .before in
+    let c5 = c3 .before .before in
+    let e = sym (c5 .judge .ensures) ∙ ap place-said (c3 .n .given .1) in
+    (verdict-few _ _ e, omega (arith, judged-got _ _ e .1, c .before .if1 .left))
 
 returns-2 : tie.Need-returns-2
 returns-2 c = writes-refused _ _ _ _ _ refl (sym (c .before .before .before .judge .ensures) ∙ ap place-said (c .before .r .given .1))
@@ -35,7 +39,12 @@ same-length c = search needs
 
 returns-3 : tie.Need-returns-3
 unfolding file-of
-returns-3 c = writes-all _ _ _ _ _ (ap got (c .before .before .put-members .ensures .1)) (sym (c .before .before .before .before .before .before .before .before .judge .ensures) ∙ ap place-said (c .before .before .before .before .before .before .n .given .1)) (c .before .before .before .before .if1 .left) (c .before .before .put-members .ensures .0)
+returns-3 c =
+    let c2 = c .before .before in
+    let c4 = c2 .before .before in
+    let c6 = c4 .before .before in
+    let c8 = c6 .before .before in
+    writes-all _ _ _ _ _ (ap got (c2 .put-members .ensures .1)) (sym (c8 .judge .ensures) ∙ ap place-said (c6 .n .given .1)) (c4 .if1 .left) (c2 .put-members .ensures .0)
 
 pub write-spec : {M : Type 1} → statement M
 write-spec =

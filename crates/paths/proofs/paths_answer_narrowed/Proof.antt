@@ -17,7 +17,10 @@ same-length-2 : tie.Need-same-length-2
 same-length-2 c = search needs
 
 returns : tie.Need-returns
-returns c = let h = c .before .before .before .before .before .before .before .narrowed-answer .ensures in record { outcome = rw (h .outcome) at (c .tell .ensures); work = h .work; answer = h .answer }
+returns c =
+    let c7 = c .before .before .before .before .before .before .before in
+    let h = c7 .narrowed-answer .ensures in
+    record { outcome = rw (h .outcome) at (c .tell .ensures); work = h .work; answer = h .answer }
 
 pub paths-answer-narrowed-spec : {M : Type 1} → statement M
 paths-answer-narrowed-spec =

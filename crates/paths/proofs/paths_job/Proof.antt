@@ -20,7 +20,13 @@ same-length-3 : tie.Need-same-length-3
 same-length-3 c = search needs
 
 returns : tie.Need-returns
-returns c = let h = c .before .before .before .before .before .before .before .before .before .whole-job .ensures in let t = c .tell-file .ensures in (record { outcome = rw (h .0 .outcome) at t; work = h .0 .work; answer = h .0 .answer; file = h .0 .file }, record { accepted = λ z. h .1 .accepted _ (t .only z); answer = λ z. h .1 .answer _ (t .only z) })
+returns c =
+    let c9 = c .before .before .before .before .before .before .before .before .before in
+    let h = c9 .whole-job .ensures in
+    let t = c .tell-file .ensures in (
+      record { outcome = rw (h .0 .outcome) at t; work = h .0 .work; answer = h .0 .answer; file = h .0 .file },
+      record { accepted = λ z. h .1 .accepted _ (t .only z); answer = λ z. h .1 .answer _ (t .only z) },
+    )
 
 pub paths-job-spec : {M : Type 1} → statement M
 paths-job-spec =

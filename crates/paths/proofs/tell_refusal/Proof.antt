@@ -22,7 +22,11 @@ wide-requires-2 : tie.Need-wide-requires-2
 wide-requires-2 c κs = search needs
 
 returns : tie.Need-returns
-returns c = tells-same (c .wide2 .ensures ∙ c .before .number-of .ensures) (c .before .before .before .before .place-of .ensures) (c .before .before .wide .ensures ∙ c .before .before .before .source-number .ensures)
+returns c =
+    let c2 = c .before .before in
+    let c3 = c2 .before in
+    let c4 = c3 .before in
+    tells-same (c .wide2 .ensures ∙ c .before .number-of .ensures) (c4 .place-of .ensures) (c2 .wide .ensures ∙ c3 .source-number .ensures)
 
 pub tell-refusal-spec : {M : Type 1} → statement M
 tell-refusal-spec =

@@ -15,34 +15,55 @@ enum-known-r : tie.Need-enum-known-r
 enum-known-r c = search needs
 
 put-refusal-requires : tie.Need-put-refusal-requires
-put-refusal-requires c κs = absurd (never-refused _ _ _ (c .before .before .before .before .read .ensures) (c .before .before .before .before .before .before .before .before .pre .0) _ (c .before .before .r .given .1))
+put-refusal-requires c κs =
+    let c2 = c .before .before in
+    let c4 = c2 .before .before in
+    let c8 = c4 .before .before .before .before in
+    absurd (never-refused _ _ _ (c4 .read .ensures) (c8 .pre .0) _ (c2 .r .given .1))
 
 enum-known-n : tie.Need-enum-known-n
 enum-known-n c = search needs
 
 row-words-requires : tie.Need-row-words-requires
-row-words-requires c κs = omega (arith, few-records _ _ _ (c .before .before .before .before .read .ensures) (c .before .before .before .before .before .before .before .before .pre .0) _ _ _ (c .before .before .n .given .1) refl)
+row-words-requires c κs =
+    let c2 = c .before .before in
+    let c4 = c2 .before .before in
+    let c8 = c4 .before .before .before .before in
+    omega (arith, few-records _ _ _ (c4 .read .ensures) (c8 .pre .0) _ _ _ (c2 .n .given .1) refl)
 
 put-answer-requires : tie.Need-put-answer-requires
 put-answer-requires c κs =
-    let n : c .before .before .before .n .given .0 .0 ≤ 128 = few-records _ _ _ (c .before .before .before .before .before .read .ensures) (c .before .before .before .before .before .before .before .before .before .pre .0) _ _ _ (c .before .before .before .n .given .1) (c .row-words .ensures) in (
+    let c3 = c .before .before .before in
+    let c5 = c3 .before .before in
+    let c9 = c5 .before .before .before .before in
+    let n : c3 .n .given .0 .0 ≤ 128 = few-records _ _ _ (c5 .read .ensures) (c9 .pre .0) _ _ _ (c3 .n .given .1) (c .row-words .ensures) in (
       c .row-words .ensures,
       omega arith,
-      words-room _ _ _ (c .before .before .before .before .before .read .ensures) (c .before .before .before .before .before .before .before .before .before .pre .0) _ _ _ (c .before .before .before .n .given .1) (c .row-words .ensures),
-      answer-room _ _ _ (c .before .before .before .before .before .read .ensures) (c .before .before .before .before .before .before .before .before .before .pre .0) _ _ _ (c .before .before .before .n .given .1) (c .row-words .ensures) _ _ (c .before .before .before .before .before .before .before .before .before .pre .1),
+      words-room _ _ _ (c5 .read .ensures) (c9 .pre .0) _ _ _ (c3 .n .given .1) (c .row-words .ensures),
+      answer-room _ _ _ (c5 .read .ensures) (c9 .pre .0) _ _ _ (c3 .n .given .1) (c .row-words .ensures) _ _ (c9 .pre .1),
     )
 
 same-length : tie.Need-same-length
 same-length c = search needs
 
 returns : tie.Need-returns
-returns c = absurd (never-refused _ _ _ (c .before .before .before .before .before .before .before .read .ensures) (c .before .before .before .before .before .before .before .before .before .before .before .pre .0) _ (c .before .before .before .before .before .r .given .1))
+returns c =
+    let c5 = c .before .before .before .before .before in
+    let c7 = c5 .before .before in
+    let c11 = c7 .before .before .before .before in
+    absurd (never-refused _ _ _ (c7 .read .ensures) (c11 .pre .0) _ (c5 .r .given .1))
 
 same-length-2 : tie.Need-same-length-2
 same-length-2 c = search needs
 
 returns-2 : tie.Need-returns-2
-returns-2 c = rw (is-answer _ _ _ (c .before .before .before .before .before .before .before .before .read .ensures) (c .before .before .before .before .before .before .before .before .before .before .before .before .pre .0) _ _ _ (c .before .before .before .before .before .before .n .given .1) (c .before .before .before .row-words .ensures) _) at (c .before .before .put-answer .ensures)
+returns-2 c =
+    let c2 = c .before .before in
+    let c3 = c2 .before in
+    let c6 = c3 .before .before .before in
+    let c8 = c6 .before .before in
+    let c12 = c8 .before .before .before .before in
+    rw (is-answer _ _ _ (c8 .read .ensures) (c12 .pre .0) _ _ _ (c6 .n .given .1) (c3 .row-words .ensures) _) at (c2 .put-answer .ensures)
 
 pub put-answer-spec : {M : Type 1} → statement M
 put-answer-spec =

@@ -30,7 +30,9 @@ enum-known-source : tie.Need-enum-known-source
 enum-known-source c = search needs
 
 put-refusal-requires : tie.Need-put-refusal-requires
-put-refusal-requires c κs = refusal-room _ _ _ _ (c .before .before .before .before .before .before .before .before .before .before .before .before .before .before .before .before .before .before .pre)
+put-refusal-requires c κs =
+    let c18 = c .before .before .before .before .before .before .before .before .before .before .before .before .before .before .before .before .before .before in
+    refusal-room _ _ _ _ (c18 .pre)
 
 enum-known-members : tie.Need-enum-known-members
 enum-known-members c = search needs
@@ -39,19 +41,44 @@ slice-aggregate-put-answer : tie.Need-slice-aggregate-put-answer
 slice-aggregate-put-answer c = search needs
 
 put-answer-requires : tie.Need-put-answer-requires
-put-answer-requires c κs = (job-fits _ _ _ (c .before .before .before .before .before .before .before .before .before .before .before .before .before .before .work-words .ensures .0) (c .before .before .before .before .before .before .before .before .before .before .before .before .before .answer-words .ensures .0) (c .before .before .before .before .before .before .before .before .before .before .before .before .file-bytes .ensures .0) (c .before .before .before .before .before .before .before .before .whole-job .ensures .0) _ _ (c .before .before .before .members .given .1), c .before .before .before .before .before .before .before .before .before .before .before .before .before .before .before .before .before .before .before .pre)
+put-answer-requires c κs =
+    let c3 = c .before .before .before in
+    let c8 = c3 .before .before .before .before .before in
+    let c12 = c8 .before .before .before .before in
+    let c13 = c12 .before in
+    let c14 = c13 .before in
+    let c19 = c14 .before .before .before .before .before in
+    (job-fits _ _ _ (c14 .work-words .ensures .0) (c13 .answer-words .ensures .0) (c12 .file-bytes .ensures .0) (c8 .whole-job .ensures .0) _ _ (c3 .members .given .1), c19 .pre)
 
 same-length : tie.Need-same-length
 same-length c = search needs
 
 returns : tie.Need-returns
-returns c = prints-refused _ _ _ (c .before .before .before .before .before .before .before .before .before .before .before .before .before .before .before .before .work-words .ensures .0) (c .before .before .before .before .before .before .before .before .before .before .before .before .before .before .before .answer-words .ensures .0) (c .before .before .before .before .before .before .before .before .before .before .before .before .before .before .file-bytes .ensures .0) (c .before .before .before .before .before .before .before .before .before .before .whole-job .ensures .0) (c .before .before .before .before .before .before .before .before .before .before .before .before .before .before .before .before .before .before .before .before .before .pre) _ _ (c .before .before .before .before .before .source .given .1) (c .before .before .put-refusal .ensures)
+returns c =
+    let c2 = c .before .before in
+    let c5 = c2 .before .before .before in
+    let c10 = c5 .before .before .before .before .before in
+    let c14 = c10 .before .before .before .before in
+    let c15 = c14 .before in
+    let c16 = c15 .before in
+    let c21 = c16 .before .before .before .before .before in
+    prints-refused _ _ _ (c16 .work-words .ensures .0) (c15 .answer-words .ensures .0) (c14 .file-bytes .ensures .0) (c10 .whole-job .ensures .0) (c21 .pre) _ _ (c5 .source .given .1)
+    (c2 .put-refusal .ensures)
 
 same-length-2 : tie.Need-same-length-2
 same-length-2 c = search needs
 
 returns-2 : tie.Need-returns-2
-returns-2 c = prints-accepted _ _ _ (c .before .before .before .before .before .before .before .before .before .before .before .before .before .before .before .before .before .work-words .ensures .0) (c .before .before .before .before .before .before .before .before .before .before .before .before .before .before .before .before .answer-words .ensures .0) (c .before .before .before .before .before .before .before .before .before .before .before .before .before .before .before .file-bytes .ensures .0) (c .before .before .before .before .before .before .before .before .before .before .before .whole-job .ensures .0) (c .before .before .before .before .before .before .before .before .before .before .before .before .before .before .before .before .before .before .before .before .before .before .pre) _ _ (c .before .before .before .before .before .before .members .given .1) (c .before .before .put-answer .ensures)
+returns-2 c =
+    let c2 = c .before .before in
+    let c6 = c2 .before .before .before .before in
+    let c11 = c6 .before .before .before .before .before in
+    let c15 = c11 .before .before .before .before in
+    let c16 = c15 .before in
+    let c17 = c16 .before in
+    let c22 = c17 .before .before .before .before .before in
+    prints-accepted _ _ _ (c17 .work-words .ensures .0) (c16 .answer-words .ensures .0) (c15 .file-bytes .ensures .0) (c11 .whole-job .ensures .0) (c22 .pre) _ _ (c6 .members .given .1)
+    (c2 .put-answer .ensures)
 
 pub run-spec : {M : Type 1} → statement M
 run-spec =

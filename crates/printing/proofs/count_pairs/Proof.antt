@@ -27,7 +27,9 @@ mul-count-row : tie.Need-mul-count-row Inv-loop μ-loop
 mul-count-row c = omega (arith, row-le (c .before .before .before .args .w) (c .loop-test .taken), c .before .before .before .pre .2)
 
 count-row-requires : tie.Need-count-row-requires Inv-loop μ-loop
-count-row-requires c κs = (c .before .before .before .pre .1, omega (arith, row-le (c .before .before .before .args .w) (c .loop-test .taken), c .before .before .before .pre .0, c .before .before .before .pre .2))
+count-row-requires c κs =
+    let c3 = c .before .before .before in
+    (c3 .pre .1, omega (arith, row-le (c3 .args .w) (c .loop-test .taken), c3 .pre .0, c3 .pre .2))
 
 add-k : tie.Need-add-k Inv-loop μ-loop
 add-k c = omega (arith, c .count-row .ensures .1, c .before .before .before .before .pre .1)
@@ -39,7 +41,12 @@ loop-less : tie.Need-loop-less Inv-loop μ-loop
 loop-less c = search needs
 
 loop-again : tie.Need-loop-again Inv-loop μ-loop
-loop-again c = (counted-next (c .before .before .loop .inv .0) (c .count-row .ensures .0 ∙ ap (λ (f : ℕ → Bool). length (filter f (range (c .before .before .before .before .args .n)))) (row-of _ _ _)) (c .before .loop-test .taken), omega (arith, c .count-row .ensures .1, c .before .before .before .before .pre .1))
+loop-again c =
+    let c2 = c .before .before in
+    let c4 = c2 .before .before in (
+      counted-next (c2 .loop .inv .0) (c .count-row .ensures .0 ∙ ap (λ (f : ℕ → Bool). length (filter f (range (c4 .args .n)))) (row-of _ _ _)) (c .before .loop-test .taken),
+      omega (arith, c .count-row .ensures .1, c4 .pre .1),
+    )
 
 returns : tie.Need-returns Inv-loop μ-loop
 returns c = counted-end (c .before .loop .inv .0) (c .loop-test .left) ∙ sym (count-pieces _ _)

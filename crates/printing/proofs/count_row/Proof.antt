@@ -38,10 +38,15 @@ loop-less : tie.Need-loop-less Inv-loop μ-loop
 loop-less c = search needs
 
 loop-again : tie.Need-loop-again Inv-loop μ-loop
-loop-again c = (counted-next (c .before .before .before .loop .inv .0) (told _ (c .one-if .ensures) (c .before .has .ensures)) (c .before .before .loop-test .taken), omega (arith, one-at-most (c .before .has .result) (c .one-if .ensures)))
+loop-again c =
+    let c2 = c .before .before in
+    let c3 = c2 .before in
+    (counted-next (c3 .loop .inv .0) (told _ (c .one-if .ensures) (c .before .has .ensures)) (c2 .loop-test .taken), omega (arith, one-at-most (c .before .has .result) (c .one-if .ensures)))
 
 returns : tie.Need-returns Inv-loop μ-loop
-returns c = (counted-end (c .before .loop .inv .0) (c .loop-test .left) ∙ sym (ap length (filter-pieces _ (range (c .before .before .before .args .n)))), omega (arith, c .before .loop .inv .0 .within))
+returns c =
+    let c3 = c .before .before .before in
+    (counted-end (c .before .loop .inv .0) (c .loop-test .left) ∙ sym (ap length (filter-pieces _ (range (c3 .args .n)))), omega (arith, c .before .loop .inv .0 .within))
 
 pub count-row-spec : {M : Type 1} → statement M
 count-row-spec =

@@ -25,25 +25,50 @@ count-pairs-requires c κs = search needs
 
 put-number-requires-2 : tie.Need-put-number-requires-2
 unfolding answer-text
-put-number-requires-2 c κs = rw (c .count-pairs .ensures) (omega (arith, simp length-append at (second-room _ (c .before .before .before .before .before .put-number .ensures) (c .before .before .before .before .before .before .before .before .before .before .pre .3))))
+put-number-requires-2 c κs =
+    let c5 = c .before .before .before .before .before in
+    let c10 = c5 .before .before .before .before .before in
+    rw (c .count-pairs .ensures) (omega (arith, simp length-append at (second-room _ (c5 .put-number .ensures) (c10 .pre .3))))
 
 slice-aggregate-put-text : tie.Need-slice-aggregate-put-text
 slice-aggregate-put-text c = search needs
 
 put-text-requires : tie.Need-put-text-requires
 unfolding answer-text
-put-text-requires c κs = omega (arith, simp length-append at (second-room _ (rw (c .before .before .before .before .before .count-pairs .ensures) at (c .before .before .before .before .put-number2 .ensures)) (second-room _ (c .before .before .before .before .before .before .before .before .before .before .put-number .ensures) (c .before .before .before .before .before .before .before .before .before .before .before .before .before .before .before .pre .3))))
+put-text-requires c κs =
+    let c4 = c .before .before .before .before in
+    let c5 = c4 .before in
+    let c10 = c5 .before .before .before .before .before in
+    let c15 = c10 .before .before .before .before .before in
+    omega (arith, simp length-append at (second-room _ (rw (c5 .count-pairs .ensures) at (c4 .put-number2 .ensures)) (second-room _ (c10 .put-number .ensures) (c15 .pre .3))))
 
 put-pairs-requires : tie.Need-put-pairs-requires
 unfolding answer-text
-put-pairs-requires c κs = (c .before .before .before .before .before .before .before .before .before .before .before .before .before .before .before .before .before .before .before .pre .0, c .before .before .before .before .before .before .before .before .before .before .before .before .before .before .before .before .before .before .before .pre .1, c .before .before .before .before .before .before .before .before .before .before .before .before .before .before .before .before .before .before .before .pre .2, second-room (lines (pair-at (c .before .before .before .before .before .before .before .before .before .before .before .before .before .before .before .before .before .before .before .args .words .now) 0 (c .before .before .before .before .before .before .before .before .before .before .before .before .before .before .before .before .before .before .before .args .w)) (c .before .before .before .before .before .before .before .before .before .before .before .before .before .before .before .before .before .before .before .args .n)) (c .before .before .before .put-text .ensures) (second-room _ (rw (c .before .before .before .before .before .before .before .before .before .count-pairs .ensures) at (c .before .before .before .before .before .before .before .before .put-number2 .ensures)) (second-room _ (c .before .before .before .before .before .before .before .before .before .before .before .before .before .before .put-number .ensures) (c .before .before .before .before .before .before .before .before .before .before .before .before .before .before .before .before .before .before .before .pre .3))))
+put-pairs-requires c κs =
+    let c3 = c .before .before .before in
+    let c8 = c3 .before .before .before .before .before in
+    let c9 = c8 .before in
+    let c14 = c9 .before .before .before .before .before in
+    let c19 = c14 .before .before .before .before .before in (
+      c19 .pre .0,
+      c19 .pre .1,
+      c19 .pre .2,
+      second-room (lines (pair-at (c19 .args .words .now) 0 (c19 .args .w)) (c19 .args .n)) (c3 .put-text .ensures)
+          (second-room _ (rw (c9 .count-pairs .ensures) at (c8 .put-number2 .ensures)) (second-room _ (c14 .put-number .ensures) (c19 .pre .3))),
+    )
 
 same-length : tie.Need-same-length
 same-length c = search needs
 
 returns : tie.Need-returns
 unfolding answer-text
-returns c = wrote-more (c .before .before .before .before .before .before .before .before .before .before .before .before .before .before .before .before .before .put-number .ensures) (wrote-more (rw (c .before .before .before .before .before .before .before .before .before .before .before .before .count-pairs .ensures) at (c .before .before .before .before .before .before .before .before .before .before .before .put-number2 .ensures)) (wrote-more (c .before .before .before .before .before .before .put-text .ensures) (c .before .before .put-pairs .ensures)))
+returns c =
+    let c2 = c .before .before in
+    let c6 = c2 .before .before .before .before in
+    let c11 = c6 .before .before .before .before .before in
+    let c12 = c11 .before in
+    let c17 = c12 .before .before .before .before .before in
+    wrote-more (c17 .put-number .ensures) (wrote-more (rw (c12 .count-pairs .ensures) at (c11 .put-number2 .ensures)) (wrote-more (c6 .put-text .ensures) (c2 .put-pairs .ensures)))
 
 pub put-answer-spec : {M : Type 1} → statement M
 put-answer-spec =

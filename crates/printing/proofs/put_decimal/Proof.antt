@@ -16,13 +16,20 @@ slice-aggregate-put-text : tie.Need-slice-aggregate-put-text
 slice-aggregate-put-text c = search needs
 
 put-text-requires : tie.Need-put-text-requires
-put-text-requires c κs = rw (c .before .before .decimal .ensures .1 .1 ∙ fewest-decimal _ _ (c .before .before .before .before .before .fits .n .fits) (c .before .before .decimal .ensures .1 .0)) (c .before .before .before .before .before .pre)
+put-text-requires c κs =
+    let c2 = c .before .before in
+    let c5 = c2 .before .before .before in
+    rw (c2 .decimal .ensures .1 .1 ∙ fewest-decimal _ _ (c5 .fits .n .fits) (c2 .decimal .ensures .1 .0)) (c5 .pre)
 
 same-length : tie.Need-same-length
 same-length c = search needs
 
 returns : tie.Need-returns
-returns c = rw (c .before .before .before .before .before .decimal .ensures .1 .1 ∙ fewest-decimal _ _ (c .before .before .before .before .before .before .before .before .fits .n .fits) (c .before .before .before .before .before .decimal .ensures .1 .0)) at (c .before .before .put-text .ensures)
+returns c =
+    let c2 = c .before .before in
+    let c5 = c2 .before .before .before in
+    let c8 = c5 .before .before .before in
+    rw (c5 .decimal .ensures .1 .1 ∙ fewest-decimal _ _ (c8 .fits .n .fits) (c5 .decimal .ensures .1 .0)) at (c2 .put-text .ensures)
 
 pub put-decimal-spec : {M : Type 1} → statement M
 put-decimal-spec =

@@ -27,7 +27,12 @@ mul-put-row : tie.Need-mul-put-row Inv-loop μ-loop
 mul-put-row c = omega (arith, row-le (c .before .before .before .before .before .args .w) (c .before .loop-test .taken), c .before .before .before .before .before .pre .2)
 
 put-row-requires : tie.Need-put-row-requires Inv-loop μ-loop
-put-row-requires c κs = (omega (arith, row-le (c .before .before .before .before .before .args .w) (c .before .loop-test .taken), c .before .before .before .before .before .pre .0, c .before .before .before .before .before .pre .2), pieces-room (c .before .before .loop .inv) (ap (λ (f : ℕ → Bool). row-lines f (c .before .before .loop .s) (c .before .before .before .before .before .args .n)) (row-of _ _ _)) (c .before .loop-test .taken))
+put-row-requires c κs =
+    let c2 = c .before .before in
+    let c5 = c2 .before .before .before in (
+      omega (arith, row-le (c5 .args .w) (c .before .loop-test .taken), c5 .pre .0, c5 .pre .2),
+      pieces-room (c2 .loop .inv) (ap (λ (f : ℕ → Bool). row-lines f (c2 .loop .s) (c5 .args .n)) (row-of _ _ _)) (c .before .loop-test .taken),
+    )
 
 add-s : tie.Need-add-s Inv-loop μ-loop
 add-s c = search needs
@@ -36,7 +41,12 @@ loop-less : tie.Need-loop-less Inv-loop μ-loop
 loop-less c = search needs
 
 loop-again : tie.Need-loop-again Inv-loop μ-loop
-loop-again c = pieces-next (c .before .before .before .before .before .loop .inv) (ap (λ (f : ℕ → Bool). row-lines f (c .before .before .before .before .before .loop .s) (c .before .before .before .before .before .before .before .before .args .n)) (row-of _ _ _)) (c .before .before .before .before .loop-test .taken) (c .before .before .put-row .ensures)
+loop-again c =
+    let c2 = c .before .before in
+    let c4 = c2 .before .before in
+    let c5 = c4 .before in
+    let c8 = c5 .before .before .before in
+    pieces-next (c5 .loop .inv) (ap (λ (f : ℕ → Bool). row-lines f (c5 .loop .s) (c8 .args .n)) (row-of _ _ _)) (c4 .loop-test .taken) (c2 .put-row .ensures)
 
 same-length : tie.Need-same-length Inv-loop μ-loop
 same-length c = filling-length (c .before .loop .inv .filling)

@@ -25,7 +25,12 @@ put-number-requires c κs = rw (c .wide .ensures ∙ c .before .number-of .ensur
 
 put-source-requires : tie.Need-put-source-requires
 unfolding refusal-text
-put-source-requires c κs = omega (arith, simp length-append at (second-room _ (rw (c .before .before .before .before .wide .ensures ∙ c .before .before .before .before .before .number-of .ensures) at (c .before .before .before .put-number .ensures)) (c .before .before .before .before .before .before .before .before .before .pre)))
+put-source-requires c κs =
+    let c3 = c .before .before .before in
+    let c4 = c3 .before in
+    let c5 = c4 .before in
+    let c9 = c5 .before .before .before .before in
+    omega (arith, simp length-append at (second-room _ (rw (c4 .wide .ensures ∙ c5 .number-of .ensures) at (c3 .put-number .ensures)) (c9 .pre)))
 
 slice-aggregate-put-number-2 : tie.Need-slice-aggregate-put-number-2
 slice-aggregate-put-number-2 c = search needs
@@ -35,21 +40,48 @@ place-of-requires c κs = search needs
 
 put-number-requires-2 : tie.Need-put-number-requires-2
 unfolding refusal-text
-put-number-requires-2 c κs = rw (c .place-of .ensures) (omega (arith, simp length-append at (second-room _ (c .before .before .before .before .before .put-source .ensures) (second-room _ (rw (c .before .before .before .before .before .before .before .before .before .before .wide .ensures ∙ c .before .before .before .before .before .before .before .before .before .before .before .number-of .ensures) at (c .before .before .before .before .before .before .before .before .before .put-number .ensures)) (c .before .before .before .before .before .before .before .before .before .before .before .before .before .before .before .pre)))))
+put-number-requires-2 c κs =
+    let c5 = c .before .before .before .before .before in
+    let c9 = c5 .before .before .before .before in
+    let c10 = c9 .before in
+    let c11 = c10 .before in
+    let c15 = c11 .before .before .before .before in
+    rw (c .place-of .ensures) (omega (
+      arith,
+      simp length-append at (second-room _ (c5 .put-source .ensures) (second-room _ (rw (c10 .wide .ensures ∙ c11 .number-of .ensures) at (c9 .put-number .ensures)) (c15 .pre))),
+    ))
 
 slice-aggregate-put-text : tie.Need-slice-aggregate-put-text
 slice-aggregate-put-text c = search needs
 
 put-text-requires : tie.Need-put-text-requires
 unfolding refusal-text
-put-text-requires c κs = second-room _ (rw (c .before .before .before .before .before .place-of .ensures) at (c .before .before .before .before .put-number2 .ensures)) (second-room _ (c .before .before .before .before .before .before .before .before .before .before .put-source .ensures) (second-room _ (rw (c .before .before .before .before .before .before .before .before .before .before .before .before .before .before .before .wide .ensures ∙ c .before .before .before .before .before .before .before .before .before .before .before .before .before .before .before .before .number-of .ensures) at (c .before .before .before .before .before .before .before .before .before .before .before .before .before .before .put-number .ensures)) (c .before .before .before .before .before .before .before .before .before .before .before .before .before .before .before .before .before .before .before .before .pre)))
+put-text-requires c κs =
+    let c4 = c .before .before .before .before in
+    let c5 = c4 .before in
+    let c10 = c5 .before .before .before .before .before in
+    let c14 = c10 .before .before .before .before in
+    let c15 = c14 .before in
+    let c16 = c15 .before in
+    let c20 = c16 .before .before .before .before in
+    second-room _ (rw (c5 .place-of .ensures) at (c4 .put-number2 .ensures))
+    (second-room _ (c10 .put-source .ensures) (second-room _ (rw (c15 .wide .ensures ∙ c16 .number-of .ensures) at (c14 .put-number .ensures)) (c20 .pre)))
 
 same-length : tie.Need-same-length
 same-length c = search needs
 
 returns : tie.Need-returns
 unfolding refusal-text
-returns c = wrote-more (rw (c .before .before .before .before .before .before .before .before .before .before .before .before .before .before .before .before .before .before .wide .ensures ∙ c .before .before .before .before .before .before .before .before .before .before .before .before .before .before .before .before .before .before .before .number-of .ensures) at (c .before .before .before .before .before .before .before .before .before .before .before .before .before .before .before .before .before .put-number .ensures)) (wrote-more (c .before .before .before .before .before .before .before .before .before .before .before .before .before .put-source .ensures) (wrote-more (rw (c .before .before .before .before .before .before .before .before .place-of .ensures) at (c .before .before .before .before .before .before .before .put-number2 .ensures)) (c .before .before .put-text .ensures)))
+returns c =
+    let c2 = c .before .before in
+    let c7 = c2 .before .before .before .before .before in
+    let c8 = c7 .before in
+    let c13 = c8 .before .before .before .before .before in
+    let c17 = c13 .before .before .before .before in
+    let c18 = c17 .before in
+    let c19 = c18 .before in
+    wrote-more (rw (c18 .wide .ensures ∙ c19 .number-of .ensures) at (c17 .put-number .ensures))
+    (wrote-more (c13 .put-source .ensures) (wrote-more (rw (c8 .place-of .ensures) at (c7 .put-number2 .ensures)) (c2 .put-text .ensures)))
 
 pub put-refusal-spec : {M : Type 1} → statement M
 put-refusal-spec =

@@ -27,7 +27,11 @@ has-requires : tie.Need-has-requires Inv-loop μ-loop
 has-requires c κs = omega (arith, c .before .before .before .before .before .pre .0)
 
 put-if-requires : tie.Need-put-if-requires Inv-loop μ-loop
-put-if-requires c κs = pieces-room (c .before .before .before .loop .inv) (ap (λ (b : Bool). guard b (line (c .before .before .before .before .before .before .args .s) (c .before .before .before .loop .t))) (c .has .ensures)) (c .before .before .loop-test .taken)
+put-if-requires c κs =
+    let c2 = c .before .before in
+    let c3 = c2 .before in
+    let c6 = c3 .before .before .before in
+    pieces-room (c3 .loop .inv) (ap (λ (b : Bool). guard b (line (c6 .args .s) (c3 .loop .t))) (c .has .ensures)) (c2 .loop-test .taken)
 
 add-t : tie.Need-add-t Inv-loop μ-loop
 add-t c = search needs
@@ -36,7 +40,13 @@ loop-less : tie.Need-loop-less Inv-loop μ-loop
 loop-less c = search needs
 
 loop-again : tie.Need-loop-again Inv-loop μ-loop
-loop-again c = pieces-next (c .before .before .before .before .before .before .loop .inv) (ap (λ (b : Bool). guard b (line (c .before .before .before .before .before .before .before .before .before .args .s) (c .before .before .before .before .before .before .loop .t))) (c .before .before .before .has .ensures)) (c .before .before .before .before .before .loop-test .taken) (c .before .before .put-if .ensures)
+loop-again c =
+    let c2 = c .before .before in
+    let c3 = c2 .before in
+    let c5 = c3 .before .before in
+    let c6 = c5 .before in
+    let c9 = c6 .before .before .before in
+    pieces-next (c6 .loop .inv) (ap (λ (b : Bool). guard b (line (c9 .args .s) (c6 .loop .t))) (c3 .has .ensures)) (c5 .loop-test .taken) (c2 .put-if .ensures)
 
 same-length : tie.Need-same-length Inv-loop μ-loop
 same-length c = filling-length (c .before .loop .inv .filling)

@@ -29,10 +29,20 @@ returns : tie.Need-returns
 returns c = simp (c .before .r .given .1, ← c .before .before .before .symbol-in .ensures)
 
 returns-2 : tie.Need-returns-2
-returns-2 c = simp (c .before .r2 .given .1, ← c .before .before .before .push-symbol .ensures, ← c .before .before .before .before .operands .ensures, c .before .before .before .before .before .before .x .given .1, ← c .before .before .before .before .before .before .before .before .symbol-in .ensures)
+returns-2 c =
+    let c3 = c .before .before .before in
+    let c4 = c3 .before in
+    let c6 = c4 .before .before in
+    let c8 = c6 .before .before in
+    simp (c .before .r2 .given .1, ← c3 .push-symbol .ensures, ← c4 .operands .ensures, c6 .x .given .1, ← c8 .symbol-in .ensures)
 
 returns-3 : tie.Need-returns-3
-returns-3 c = simp (c .before .t .given .1, ← c .before .before .before .push-symbol .ensures, ← c .before .before .before .before .operands .ensures, c .before .before .before .before .before .before .x .given .1, ← c .before .before .before .before .before .before .before .before .symbol-in .ensures)
+returns-3 c =
+    let c3 = c .before .before .before in
+    let c4 = c3 .before in
+    let c6 = c4 .before .before in
+    let c8 = c6 .before .before in
+    simp (c .before .t .given .1, ← c3 .push-symbol .ensures, ← c4 .operands .ensures, c6 .x .given .1, ← c8 .symbol-in .ensures)
 
 pub grow-spec : {M : Type 1} → statement M
 grow-spec =

@@ -28,19 +28,24 @@ at-body : (c : tie.After-known-told2 Inv-loop μ-loop) →
 at-body c = seen-at _ _ (c .before .before .before .before .due .ensures) (c .before .before .before .field .ensures) (c .before .tag .given .1)
 
 room : (c : tie.After-known-told2 Inv-loop μ-loop) → c .before .before .before .before .before .loop .at + 3 + c .before .tag .given .0 .1 .0 ≤ length (now (c .before .before .before .before .before .before .before .args .s))
-room c = found (due-of (c .before .before .before .before .before .loop .st)) (now (c .before .before .before .before .before .before .before .args .s)) _ _ _ (at-body c) .room
+room c =
+    let c5 = c .before .before .before .before .before in
+    let c7 = c5 .before .before in
+    found (due-of (c5 .loop .st)) (now (c7 .args .s)) _ _ _ (at-body c) .room
 
 -- the part handed out is that field's body
 is-body : (c : tie.After-body-at Inv-loop μ-loop) →
     now (c .body-at .result) ≡ take (c .before .before .tag .given .0 .1 .0) (drop (c .before .before .before .before .before .before .loop .at + 3) (now (c .before .before .before .before .before .before .before .before .args .s)))
-is-body c = c .body-at .ensures ∙ body-found _ _ _ _ _ (at-body (c .before))
+is-body c =
+    c .body-at .ensures ∙ body-found _ _ _ _ _ (at-body (c .before))
 
 -- where it is judged
 is-judged : (c : tie.After-judge Inv-loop μ-loop) →
     let l = c .before .before .before .before .before .before .before .loop in
     let v = c .before .before .before .tag .given .0 in
     judged (l .st) (l .at) (l .at + 3 + v .1 .0) (v .0) (take (v .1 .0) (drop (l .at + 3) (now (c .before .before .before .before .before .before .before .before .before .args .s)))) ≡ turn-said (c .judge .result)
-is-judged c = rw (← is-body (c .before)) (sym (c .judge .ensures))
+is-judged c =
+    rw (← is-body (c .before)) (sym (c .judge .ensures))
 
 loop-holds : tie.Need-loop-holds Inv-loop μ-loop
 loop-holds c = reading-start _
@@ -96,7 +101,13 @@ refused-requires-2 : tie.Need-refused-requires-2 Inv-loop μ-loop
 refused-requires-2 c κs = search needs
 
 returns-3 : tie.Need-returns-3 Inv-loop μ-loop
-returns-3 c = let a = reading-stop _ _ _ _ _ _ _ (c .before .before .before .before .before .before .before .before .before .before .before .loop .inv) (at-body (c .before .before .before .before .before .before)) _ _ (is-judged (c .before .before .before .before) ∙ ap turn-said (c .before .before .r2 .given .1)) in record { outcome = ap outcome-said (c .refused2 .ensures .0) ∙ ap counted (sym a); codes = c .refused2 .ensures .1 ∙ ap codes-in (sym a) }
+returns-3 c =
+    let c2 = c .before .before in
+    let c4 = c2 .before .before in
+    let c6 = c4 .before .before in
+    let c11 = c6 .before .before .before .before .before in
+    let a = reading-stop _ _ _ _ _ _ _ (c11 .loop .inv) (at-body (c6)) _ _ (is-judged (c4) ∙ ap turn-said (c2 .r2 .given .1)) in
+    record { outcome = ap outcome-said (c .refused2 .ensures .0) ∙ ap counted (sym a); codes = c .refused2 .ensures .1 ∙ ap codes-in (sym a) }
 
 enum-known-q : tie.Need-enum-known-q Inv-loop μ-loop
 enum-known-q c = search needs
@@ -105,22 +116,39 @@ loop-less : tie.Need-loop-less Inv-loop μ-loop
 loop-less c = let r = room (c .before .before .before .before .before) in omega arith
 
 loop-again : tie.Need-loop-again Inv-loop μ-loop
-loop-again c = reading-go _ _ _ _ _ _ _ (c .before .before .before .before .before .before .before .before .before .before .loop .inv) (at-body (c .before .before .before .before .before)) _ (is-judged (c .before .before .before) ∙ ap turn-said (c .before .q .given .1))
+loop-again c =
+    let c3 = c .before .before .before in
+    let c5 = c3 .before .before in
+    let c10 = c5 .before .before .before .before .before in
+    reading-go _ _ _ _ _ _ _ (c10 .loop .inv) (at-body (c5)) _ (is-judged (c3) ∙ ap turn-said (c .before .q .given .1))
 
 enum-known-c : tie.Need-enum-known-c Inv-loop μ-loop
 enum-known-c c = search needs
 
 array-write-codes : tie.Need-array-write-codes Inv-loop μ-loop
-array-write-codes c = reading-more _ _ _ _ _ _ _ (c .before .before .before .before .before .before .before .before .before .before .loop .inv) (at-body (c .before .before .before .before .before)) _ _ (is-judged (c .before .before .before) ∙ ap turn-said (c .before .c .given .1)) .0
+array-write-codes c =
+    let c3 = c .before .before .before in
+    let c5 = c3 .before .before in
+    let c10 = c5 .before .before .before .before .before in
+    reading-more _ _ _ _ _ _ _ (c10 .loop .inv) (at-body (c5)) _ _ (is-judged (c3) ∙ ap turn-said (c .before .c .given .1)) .0
 
 add-count : tie.Need-add-count Inv-loop μ-loop
-add-count c = let h = reading-more _ _ _ _ _ _ _ (c .before .before .before .before .before .before .before .before .before .before .loop .inv) (at-body (c .before .before .before .before .before)) _ _ (is-judged (c .before .before .before) ∙ ap turn-said (c .before .c .given .1)) .0 in omega arith
+add-count c =
+    let c3 = c .before .before .before in
+    let c5 = c3 .before .before in
+    let c10 = c5 .before .before .before .before .before in
+    let h = reading-more _ _ _ _ _ _ _ (c10 .loop .inv) (at-body (c5)) _ _ (is-judged (c3) ∙ ap turn-said (c .before .c .given .1)) .0 in
+    omega arith
 
 loop-less-2 : tie.Need-loop-less-2 Inv-loop μ-loop
 loop-less-2 c = let r = room (c .before .before .before .before .before) in omega arith
 
 loop-again-2 : tie.Need-loop-again-2 Inv-loop μ-loop
-loop-again-2 c = reading-more _ _ _ _ _ _ _ (c .before .before .before .before .before .before .before .before .before .before .loop .inv) (at-body (c .before .before .before .before .before)) _ _ (is-judged (c .before .before .before) ∙ ap turn-said (c .before .c .given .1)) .1
+loop-again-2 c =
+    let c3 = c .before .before .before in
+    let c5 = c3 .before .before in
+    let c10 = c5 .before .before .before .before .before in
+    reading-more _ _ _ _ _ _ _ (c10 .loop .inv) (at-body (c5)) _ _ (is-judged (c3) ∙ ap turn-said (c .before .c .given .1)) .1
 
 pub read-spec : {M : Type 1} → statement M
 read-spec =

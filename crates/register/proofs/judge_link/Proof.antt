@@ -27,14 +27,25 @@ two-requires-2 c κs = search needs
 
 returns-3 : tie.Need-returns-3
 unfolding link-of
-returns-3 c = simp (le-ltb _ _ (c .if3 .taken), ← c .before .two2 .ensures, lt-ltb _ _ (c .before .before .if2 .left), lt-ltb _ _ (c .before .before .before .before .if1 .left), ← c .before .before .before .before .before .two .ensures)
+returns-3 c =
+    let c2 = c .before .before in
+    let c4 = c2 .before .before in
+    let c5 = c4 .before in
+    simp (le-ltb _ _ (c .if3 .taken), ← c .before .two2 .ensures, lt-ltb _ _ (c2 .if2 .left), lt-ltb _ _ (c4 .if1 .left), ← c5 .two .ensures)
 
 key-of-requires : tie.Need-key-of-requires
 key-of-requires c κs = search needs
 
 returns-4 : tie.Need-returns-4
 unfolding link-of
-returns-4 c = simp (lt-leb _ _ (c .if4 .taken), ← c .before .before .key-of .ensures .0, lt-ltb _ _ (c .before .before .before .if3 .left), ← c .before .before .before .before .two2 .ensures, lt-ltb _ _ (c .before .before .before .before .before .if2 .left), lt-ltb _ _ (c .before .before .before .before .before .before .before .if1 .left), ← c .before .before .before .before .before .before .before .before .two .ensures)
+returns-4 c =
+    let c2 = c .before .before in
+    let c3 = c2 .before in
+    let c4 = c3 .before in
+    let c5 = c4 .before in
+    let c7 = c5 .before .before in
+    let c8 = c7 .before in
+    simp (lt-leb _ _ (c .if4 .taken), ← c2 .key-of .ensures .0, lt-ltb _ _ (c3 .if3 .left), ← c4 .two2 .ensures, lt-ltb _ _ (c5 .if2 .left), lt-ltb _ _ (c7 .if1 .left), ← c8 .two .ensures)
 
 sub-t6 : tie.Need-sub-t6
 sub-t6 c = search needs
@@ -44,7 +55,14 @@ add-t14 c = search needs
 
 returns-5 : tie.Need-returns-5
 unfolding link-of
-returns-5 c = simp (le-leb _ _ (c .before .if4 .left), ← c .before .before .before .key-of .ensures .0, lt-ltb _ _ (c .before .before .before .before .if3 .left), ← c .before .before .before .before .before .two2 .ensures, lt-ltb _ _ (c .before .before .before .before .before .before .if2 .left), lt-ltb _ _ (c .before .before .before .before .before .before .before .before .if1 .left), ← c .before .before .before .before .before .before .before .before .before .two .ensures)
+returns-5 c =
+    let c3 = c .before .before .before in
+    let c4 = c3 .before in
+    let c5 = c4 .before in
+    let c6 = c5 .before in
+    let c8 = c6 .before .before in
+    let c9 = c8 .before in
+    simp (le-leb _ _ (c .before .if4 .left), ← c3 .key-of .ensures .0, lt-ltb _ _ (c4 .if3 .left), ← c5 .two2 .ensures, lt-ltb _ _ (c6 .if2 .left), lt-ltb _ _ (c8 .if1 .left), ← c9 .two .ensures)
 
 pub judge-link-spec : {M : Type 1} → statement M
 judge-link-spec =

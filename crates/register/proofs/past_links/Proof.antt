@@ -37,7 +37,10 @@ number-at-requires : tie.Need-number-at-requires Inv-loop μ-loop
 number-at-requires c κs = search needs
 
 loop-holds : tie.Need-loop-holds Inv-loop μ-loop
-loop-holds c = linked-start _ _ _ _ _ (c .before .before .before .before .before .if1 .left) (c .before .before .before .before .before .before .before .before .pre) (omega arith) (c .number-at .ensures)
+loop-holds c =
+    let c5 = c .before .before .before .before .before in
+    let c8 = c5 .before .before .before in
+    linked-start _ _ _ _ _ (c5 .if1 .left) (c8 .pre) (omega arith) (c .number-at .ensures)
 
 link-passes-requires : tie.Need-link-passes-requires Inv-loop μ-loop
 link-passes-requires c κs = search needs
@@ -58,7 +61,13 @@ loop-less : tie.Need-loop-less Inv-loop μ-loop
 loop-less c = let h = linked-room (c .before .before .before .loop .inv) (c .before .before .link-passes .ensures (c .before .if3 .taken)) in omega (arith, h)
 
 loop-again : tie.Need-loop-again Inv-loop μ-loop
-loop-again c = linked-more (c .before .before .before .loop .inv) (c .before .before .link-passes .ensures (c .before .if3 .taken)) (λ k. omega (arith, c .before .before .before .before .before .before .before .before .before .before .before .shared-slice-known .given k)) (c .before .before .before .before .before .before .long .ensures .0) (c .before .before .before .before .before .before .long .ensures .1) _ (c .number-at2 .ensures)
+loop-again c =
+    let c2 = c .before .before in
+    let c3 = c2 .before in
+    let c6 = c3 .before .before .before in
+    let c11 = c6 .before .before .before .before .before in
+    linked-more (c3 .loop .inv) (c2 .link-passes .ensures (c .before .if3 .taken)) (λ k. omega (arith, c11 .shared-slice-known .given k)) (c6 .long .ensures .0) (c6 .long .ensures .1) _
+    (c .number-at2 .ensures)
 
 sub-t11 : tie.Need-sub-t11 Inv-loop μ-loop
 sub-t11 c = c .before .before .loop .inv .base

@@ -29,12 +29,14 @@ at-body c = seen-at _ _ (c .before .before .before .before .due-at .ensures) (c 
 -- the code's body is the definition's
 at-part : (c : tie.After-body-at Inv-loop μ-loop) →
     now (c .body-at .result) ≡ take (c .before .before .len .given .0 .1 .0) (drop (c .before .before .before .before .before .before .loop .at + 3) (now (c .before .before .before .before .before .before .before .before .args .s)))
-at-part c = c .body-at .ensures ∙ body-found _ _ _ _ _ (at-body (c .before))
+at-part c =
+    c .body-at .ensures ∙ body-found _ _ _ _ _ (at-body (c .before))
 
 is-judged : (c : tie.After-judge Inv-loop μ-loop) →
     let l = c .before .before .before .before .before .before .before .loop in
     judged (l .st) (l .at) (take (c .before .before .before .len .given .0 .1 .0) (drop (l .at + 3) (now (c .before .before .before .before .before .before .before .before .before .args .s)))) ≡ turn-said (c .judge .result)
-is-judged c = rw (← at-part (c .before)) (sym (c .judge .ensures))
+is-judged c =
+    rw (← at-part (c .before)) (sym (c .judge .ensures))
 
 loop-holds : tie.Need-loop-holds Inv-loop μ-loop
 loop-holds c = reading-start _
@@ -77,31 +79,49 @@ enum-known-r-2 : tie.Need-enum-known-r-2 Inv-loop μ-loop
 enum-known-r-2 c = search needs
 
 returns-3 : tie.Need-returns-3 Inv-loop μ-loop
-returns-3 c = reading-refused _ _ _ (c .before .before .before .before .before .before .before .before .before .before .loop .inv) _ _ (at-body (c .before .before .before .before .before)) _ _ (is-judged (c .before .before .before) ∙ ap turn-said (c .before .r2 .given .1))
+returns-3 c =
+    let c3 = c .before .before .before in
+    let c5 = c3 .before .before in
+    let c10 = c5 .before .before .before .before .before in
+    reading-refused _ _ _ (c10 .loop .inv) _ _ (at-body (c5)) _ _ (is-judged (c3) ∙ ap turn-said (c .before .r2 .given .1))
 
 enum-known-q : tie.Need-enum-known-q Inv-loop μ-loop
 enum-known-q c = search needs
 
 add-past : tie.Need-add-past Inv-loop μ-loop
-add-past c = let h = reading-room _ _ _ (c .before .before .before .before .before .before .before .before .before .before .loop .inv) _ _ (at-body (c .before .before .before .before .before)) in omega arith
+add-past c =
+    let c5 = c .before .before .before .before .before in
+    let c10 = c5 .before .before .before .before .before in
+    let h = reading-room _ _ _ (c10 .loop .inv) _ _ (at-body (c5)) in
+    omega arith
 
 cast-past : tie.Need-cast-past Inv-loop μ-loop
 cast-past c = search needs
 
 add-past-2 : tie.Need-add-past-2 Inv-loop μ-loop
-add-past-2 c = let h = reading-room _ _ _ (c .before .before .before .before .before .before .before .before .before .before .loop .inv) _ _ (at-body (c .before .before .before .before .before)) in omega arith
+add-past-2 c =
+    let c5 = c .before .before .before .before .before in
+    let c10 = c5 .before .before .before .before .before in
+    let h = reading-room _ _ _ (c10 .loop .inv) _ _ (at-body (c5)) in
+    omega arith
 
 past-requires : tie.Need-past-requires Inv-loop μ-loop
 past-requires c κs = reading-room _ _ _ (c .before .before .before .before .before .before .before .before .before .before .loop .inv) _ _ (at-body (c .before .before .before .before .before))
 
 loop-less : tie.Need-loop-less Inv-loop μ-loop
 loop-less c =
-    let h = reading-room _ _ _ (c .before .before .before .before .before .before .before .before .before .before .before .before .loop .inv) _ _ (at-body (c .before .before .before .before .before .before .before)) in
+    let c7 = c .before .before .before .before .before .before .before in
+    let c12 = c7 .before .before .before .before .before in
+    let h = reading-room _ _ _ (c12 .loop .inv) _ _ (at-body (c7)) in
     omega (arith, passed-on _ _ (c .before .past .ensures) h .0)
 
 loop-again : tie.Need-loop-again Inv-loop μ-loop
 loop-again c =
-    reading-passed _ _ (c .before .past .ensures) (reading-more _ _ _ (c .before .before .before .before .before .before .before .before .before .before .before .before .loop .inv) _ _ (at-body (c .before .before .before .before .before .before .before)) _ (is-judged (c .before .before .before .before .before) ∙ ap turn-said (c .before .before .before .q .given .1)))
+    let c3 = c .before .before .before in
+    let c5 = c3 .before .before in
+    let c7 = c5 .before .before in
+    let c12 = c7 .before .before .before .before .before in
+    reading-passed _ _ (c .before .past .ensures) (reading-more _ _ _ (c12 .loop .inv) _ _ (at-body (c7)) _ (is-judged (c5) ∙ ap turn-said (c3 .q .given .1)))
 
 pub read-spec : {M : Type 1} → statement M
 read-spec =

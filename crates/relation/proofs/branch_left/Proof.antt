@@ -49,7 +49,11 @@ loop-less : tie.Need-loop-less Inv-loop μ-loop
 loop-less c = search needs
 
 loop-again : tie.Need-loop-again Inv-loop μ-loop
-loop-again c = (omega arith, branch-more (c .before .before .before .before .before .before .before .args .q) (c .before .before .before .before .before .before .before .args .n) (c .before .before .before .before .before .loop .inv .1) (c .before .before .branch-row .ensures) (omega arith) (omega arith) (omega arith))
+loop-again c =
+    let c2 = c .before .before in
+    let c5 = c2 .before .before .before in
+    let c7 = c5 .before .before in
+    (omega arith, branch-more (c7 .args .q) (c7 .args .n) (c5 .loop .inv .1) (c2 .branch-row .ensures) (omega arith) (omega arith) (omega arith))
 
 same-length : tie.Need-same-length Inv-loop μ-loop
 same-length c = search needs

@@ -25,7 +25,11 @@ same-length : tie.Need-same-length
 same-length c = search needs
 
 returns : tie.Need-returns
-returns c = branched (c .before .before .before .before .before .before .before .before .before .before .args .q) (c .before .before .before .before .before .before .before .before .before .before .pre .4) (c .before .before .before .before .before .before .sources .ensures) (c .before .before .keep-targets .ensures)
+returns c =
+    let c2 = c .before .before in
+    let c6 = c2 .before .before .before .before in
+    let c10 = c6 .before .before .before .before in
+    branched (c10 .args .q) (c10 .pre .4) (c6 .sources .ensures) (c2 .keep-targets .ensures)
 
 pub branch-right-spec : {M : Type 1} → statement M
 branch-right-spec =

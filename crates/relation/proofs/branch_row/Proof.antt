@@ -22,8 +22,12 @@ same-length c = search needs
 
 returns : tie.Need-returns
 returns c =
-    let a = c .before .before .before .before .before .before .before .before .args in
-    branch-yes _ (a .d) (a .s) (a .n) _ (c .before .before .before .before .before .before .before .before .pre .4) (omega arith) (sym (c .before .before .before .before .before .any .ensures) ∙ c .before .before .before .before .if1 .taken) (c .before .before .copy-row .ensures)
+    let c2 = c .before .before in
+    let c4 = c2 .before .before in
+    let c5 = c4 .before in
+    let c8 = c5 .before .before .before in
+    let a = c8 .args in
+    branch-yes _ (a .d) (a .s) (a .n) _ (c8 .pre .4) (omega arith) (sym (c5 .any .ensures) ∙ c4 .if1 .taken) (c2 .copy-row .ensures)
 
 same-length-2 : tie.Need-same-length-2
 same-length-2 c = search needs

@@ -24,7 +24,11 @@ same-length : tie.Need-same-length
 same-length c = search needs
 
 returns : tie.Need-returns
-returns c = row-copied (λ a b. b) (c .before .before .before .before .before .before .before .before .before .before .args .s) (c .before .before .before .before .before .before .copy .ensures) (c .before .before .copy2 .ensures)
+returns c =
+    let c2 = c .before .before in
+    let c6 = c2 .before .before .before .before in
+    let c10 = c6 .before .before .before .before in
+    row-copied (λ a b. b) (c10 .args .s) (c6 .copy .ensures) (c2 .copy2 .ensures)
 
 pub copy-row-spec : {M : Type 1} → statement M
 copy-row-spec =

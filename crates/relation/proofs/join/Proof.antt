@@ -45,9 +45,12 @@ loop-less c = search needs
 
 loop-again : tie.Need-loop-again Inv-loop μ-loop
 loop-again c =
-    let s = c .before .before .before .before .before .before .before .before in
+    let c2 = c .before .before in
+    let c5 = c2 .before .before .before in
+    let c8 = c5 .before .before .before in
+    let s = c8 in
     let a = s .args in
-    (omega arith, join-more (a .mask .now) (a .p) (a .q) (a .n) (a .w) (c .before .before .before .before .before .loop .inv .1) (c .before .before .join-row .ensures) (omega arith) (omega arith) (omega arith))
+    (omega arith, join-more (a .mask .now) (a .p) (a .q) (a .n) (a .w) (c5 .loop .inv .1) (c2 .join-row .ensures) (omega arith) (omega arith) (omega arith))
 
 same-length : tie.Need-same-length Inv-loop μ-loop
 same-length c = search needs

@@ -20,7 +20,10 @@ same-length : tie.Need-same-length
 same-length c = search needs
 
 returns : tie.Need-returns
-returns c = made-pair (c .before .before .before .before .before .args .t) (c .before .before .set .ensures (c .before .before .before .before .before .args .w) (omega arith)) (c .before .before .before .before .before .pre .2)
+returns c =
+    let c2 = c .before .before in
+    let c5 = c2 .before .before .before in
+    made-pair (c5 .args .t) (c2 .set .ensures (c5 .args .w) (omega arith)) (c5 .pre .2)
 
 pub set-pair-spec : {M : Type 1} → statement M
 set-pair-spec = tie.close (tie.spec mul-set add-set set-requires same-length returns)

@@ -23,13 +23,23 @@ load-requires : tie.Need-load-requires Inv-loop μ-loop
 load-requires c κs = copies-load (c .before .before .before .before .before .pre) (c .before .before .loop .inv) (c .before .loop-test .taken)
 
 add-requires : tie.Need-add-requires Inv-loop μ-loop
-add-requires c κs = copies-asks (c .before .before .before .before .before .before .before .pre) (c .before .before .before .before .loop .inv) (c .before .before .before .loop-test .taken) (c .before .load .ensures)
+add-requires c κs =
+    let c3 = c .before .before .before in
+    let c4 = c3 .before in
+    let c7 = c4 .before .before .before in
+    copies-asks (c7 .pre) (c4 .loop .inv) (c3 .loop-test .taken) (c .before .load .ensures)
 
 same-length : tie.Need-same-length Inv-loop μ-loop
 same-length c = search needs
 
 returns : tie.Need-returns Inv-loop μ-loop
-returns c = copies-many (c .before .before .before .before .before .before .before .before .before .before .before .pre) (c .before .before .before .before .before .before .before .before .loop .inv) (c .before .before .before .before .before .before .before .loop-test .taken) (c .before .before .before .before .before .load .ensures) (c .before .before .before .add .ensures) (c .if1 .taken)
+returns c =
+    let c3 = c .before .before .before in
+    let c5 = c3 .before .before in
+    let c7 = c5 .before .before in
+    let c8 = c7 .before in
+    let c11 = c8 .before .before .before in
+    copies-many (c11 .pre) (c8 .loop .inv) (c7 .loop-test .taken) (c5 .load .ensures) (c3 .add .ensures) (c .if1 .taken)
 
 add-j : tie.Need-add-j Inv-loop μ-loop
 add-j c = search needs
@@ -38,7 +48,13 @@ loop-less : tie.Need-loop-less Inv-loop μ-loop
 loop-less c = search needs
 
 loop-again : tie.Need-loop-again Inv-loop μ-loop
-loop-again c = copies-turn (c .before .before .before .before .before .before .before .before .before .before .before .pre) (c .before .before .before .before .before .before .before .before .loop .inv) (c .before .before .before .before .before .before .before .loop-test .taken) (c .before .before .before .before .before .load .ensures) (c .before .before .before .add .ensures) (c .if1 .left)
+loop-again c =
+    let c3 = c .before .before .before in
+    let c5 = c3 .before .before in
+    let c7 = c5 .before .before in
+    let c8 = c7 .before in
+    let c11 = c8 .before .before .before in
+    copies-turn (c11 .pre) (c8 .loop .inv) (c7 .loop-test .taken) (c5 .load .ensures) (c3 .add .ensures) (c .if1 .left)
 
 same-length-2 : tie.Need-same-length-2 Inv-loop μ-loop
 same-length-2 c = search needs

@@ -23,7 +23,12 @@ same-length : tie.Need-same-length
 same-length c = search needs
 
 returns-2 : tie.Need-returns-2
-returns-2 c = mark-added (c .before .before .before .before .before .before .before .before .pre) _ (c .before .before .before .before .before .marked .ensures) (not-false _ (c .before .before .before .before .if1 .left)) (c .before .before .add .ensures)
+returns-2 c =
+    let c2 = c .before .before in
+    let c4 = c2 .before .before in
+    let c5 = c4 .before in
+    let c8 = c5 .before .before .before in
+    mark-added (c8 .pre) _ (c5 .marked .ensures) (not-false _ (c4 .if1 .left)) (c2 .add .ensures)
 
 pub add-mark-spec : {M : Type 1} → statement M
 add-mark-spec = tie.close (tie.spec marked-requires returns add-requires same-length returns-2)

@@ -25,19 +25,37 @@ same-length : tie.Need-same-length
 same-length c = search needs
 
 returns : tie.Need-returns
-returns c = pair-skipped (c .before .before .before .before .before .before .before .before .pre) (c .before .before .before .before .load .ensures) (c .before .before .load2 .ensures) (c .before .fits2 .ensures) (not-true _ (c .if1 .taken))
+returns c =
+    let c2 = c .before .before in
+    let c4 = c2 .before .before in
+    let c8 = c4 .before .before .before .before in
+    pair-skipped (c8 .pre) (c4 .load .ensures) (c2 .load2 .ensures) (c .before .fits2 .ensures) (not-true _ (c .if1 .taken))
 
 paired-requires : tie.Need-paired-requires
 paired-requires c κs = search needs
 
 add-requires : tie.Need-add-requires
-add-requires c κs = rw (c .paired .ensures) (pair-candidate (c .before .before .before .before .before .before .before .before .before .before .pre) (c .before .before .before .before .before .before .load .ensures) (c .before .before .before .before .load2 .ensures) (c .before .before .before .fits2 .ensures) (not-false _ (c .before .before .if1 .left)))
+add-requires c κs =
+    let c2 = c .before .before in
+    let c3 = c2 .before in
+    let c4 = c3 .before in
+    let c6 = c4 .before .before in
+    let c10 = c6 .before .before .before .before in
+    rw (c .paired .ensures) (pair-candidate (c10 .pre) (c6 .load .ensures) (c4 .load2 .ensures) (c3 .fits2 .ensures) (not-false _ (c2 .if1 .left)))
 
 same-length-2 : tie.Need-same-length-2
 same-length-2 c = search needs
 
 returns-2 : tie.Need-returns-2
-returns-2 c = pair-added (c .before .before .before .before .before .before .before .before .before .before .before .before .before .pre) (c .before .before .before .before .before .before .before .before .before .load .ensures) (c .before .before .before .before .before .before .before .load2 .ensures) (c .before .before .before .before .before .before .fits2 .ensures) (not-false _ (c .before .before .before .before .before .if1 .left)) (rw (c .before .before .before .paired .ensures) at (c .before .before .add .ensures))
+returns-2 c =
+    let c2 = c .before .before in
+    let c3 = c2 .before in
+    let c5 = c3 .before .before in
+    let c6 = c5 .before in
+    let c7 = c6 .before in
+    let c9 = c7 .before .before in
+    let c13 = c9 .before .before .before .before in
+    pair-added (c13 .pre) (c9 .load .ensures) (c7 .load2 .ensures) (c6 .fits2 .ensures) (not-false _ (c5 .if1 .left)) (rw (c3 .paired .ensures) at (c2 .add .ensures))
 
 pub add-pair-spec : {M : Type 1} → statement M
 add-pair-spec =

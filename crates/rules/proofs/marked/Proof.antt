@@ -32,7 +32,11 @@ bit-requires : tie.Need-bit-requires
 bit-requires c κs = search needs
 
 returns : tie.Need-returns
-returns c = forward-marked _ _ _ _ (c .before .before .before .before .before .step-link .ensures .0) (c .before .before .before .before .if1 .taken) (c .before .before .before .word-of .ensures .0) (c .bit .ensures)
+returns c =
+    let c3 = c .before .before .before in
+    let c4 = c3 .before in
+    let c5 = c4 .before in
+    forward-marked _ _ _ _ (c5 .step-link .ensures .0) (c4 .if1 .taken) (c3 .word-of .ensures .0) (c .bit .ensures)
 
 word-of-requires-2 : tie.Need-word-of-requires-2
 word-of-requires-2 c κs = search needs
@@ -50,7 +54,12 @@ bit-requires-2 : tie.Need-bit-requires-2
 bit-requires-2 c κs = search needs
 
 returns-2 : tie.Need-returns-2
-returns-2 c = reverse-marked _ _ _ _ (c .before .before .before .before .before .step-link .ensures .0) (c .before .before .before .before .if1 .left) (c .before .before .before .before .before .before .pre .0) (c .before .before .before .word-of2 .ensures .0) (c .bit2 .ensures)
+returns-2 c =
+    let c3 = c .before .before .before in
+    let c4 = c3 .before in
+    let c5 = c4 .before in
+    let c6 = c5 .before in
+    reverse-marked _ _ _ _ (c5 .step-link .ensures .0) (c4 .if1 .left) (c6 .pre .0) (c3 .word-of2 .ensures .0) (c .bit2 .ensures)
 
 pub marked-spec : {M : Type 1} → statement M
 marked-spec =

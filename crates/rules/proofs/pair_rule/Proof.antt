@@ -31,13 +31,23 @@ loop-holds : tie.Need-loop-holds Inv-loop μ-loop
 loop-holds c = rule-start (c .before .before .before .before .before .pre .0) (c .before .before .before .before .before .pre .1) (sym (c .before .rows-short .ensures) ∙ not-false _ (c .if1 .left))
 
 add-new-row-requires : tie.Need-add-new-row-requires Inv-loop μ-loop
-add-new-row-requires c κs = rule-asks (c .before .before .before .before .before .before .before .before .pre .0) (c .before .before .before .before .before .before .before .before .pre .1) (c .before .before .loop .inv) (c .before .loop-test .taken)
+add-new-row-requires c κs =
+    let c2 = c .before .before in
+    let c8 = c2 .before .before .before .before .before .before in
+    rule-asks (c8 .pre .0) (c8 .pre .1) (c2 .loop .inv) (c .before .loop-test .taken)
 
 same-length-2 : tie.Need-same-length-2 Inv-loop μ-loop
 same-length-2 c = search needs
 
 returns-2 : tie.Need-returns-2 Inv-loop μ-loop
-returns-2 c = rule-many (c .before .before .before .before .before .before .before .before .before .before .before .before .pre .0) (c .before .before .before .before .before .before .before .before .before .before .before .before .pre .1) (c .before .before .before .before .before .before .loop .inv) (c .before .before .before .before .before .loop-test .taken) (c .before .before .before .add-new-row .ensures) (sym (c .before .before .before .before .before .before .before .before .rows-short .ensures) ∙ not-false _ (c .before .before .before .before .before .before .before .if1 .left)) (c .if2 .taken)
+returns-2 c =
+    let c3 = c .before .before .before in
+    let c5 = c3 .before .before in
+    let c6 = c5 .before in
+    let c7 = c6 .before in
+    let c8 = c7 .before in
+    let c12 = c8 .before .before .before .before in
+    rule-many (c12 .pre .0) (c12 .pre .1) (c6 .loop .inv) (c5 .loop-test .taken) (c3 .add-new-row .ensures) (sym (c8 .rows-short .ensures) ∙ not-false _ (c7 .if1 .left)) (c .if2 .taken)
 
 add-i : tie.Need-add-i Inv-loop μ-loop
 add-i c = search needs
@@ -46,13 +56,22 @@ loop-less : tie.Need-loop-less Inv-loop μ-loop
 loop-less c = search needs
 
 loop-again : tie.Need-loop-again Inv-loop μ-loop
-loop-again c = rule-turn (c .before .before .before .before .before .before .before .before .before .before .before .before .pre .0) (c .before .before .before .before .before .before .before .before .before .before .before .before .pre .1) (c .before .before .before .before .before .before .loop .inv) (c .before .before .before .before .before .loop-test .taken) (c .before .before .before .add-new-row .ensures) (c .if2 .left)
+loop-again c =
+    let c3 = c .before .before .before in
+    let c5 = c3 .before .before in
+    let c6 = c5 .before in
+    let c12 = c6 .before .before .before .before .before .before in
+    rule-turn (c12 .pre .0) (c12 .pre .1) (c6 .loop .inv) (c5 .loop-test .taken) (c3 .add-new-row .ensures) (c .if2 .left)
 
 same-length-3 : tie.Need-same-length-3 Inv-loop μ-loop
 same-length-3 c = search needs
 
 returns-3 : tie.Need-returns-3 Inv-loop μ-loop
-returns-3 c = rule-over (c .before .before .before .before .before .before .before .pre .0) (c .before .before .before .before .before .before .before .pre .1) (c .before .loop .inv) (sym (c .before .before .before .rows-short .ensures) ∙ not-false _ (c .before .before .if1 .left)) (c .loop-test .left)
+returns-3 c =
+    let c2 = c .before .before in
+    let c3 = c2 .before in
+    let c7 = c3 .before .before .before .before in
+    rule-over (c7 .pre .0) (c7 .pre .1) (c .before .loop .inv) (sym (c3 .rows-short .ensures) ∙ not-false _ (c2 .if1 .left)) (c .loop-test .left)
 
 pub pair-rule-spec : {M : Type 1} → statement M
 pair-rule-spec =

@@ -30,7 +30,13 @@ pair-short-requires : tie.Need-pair-short-requires Inv-loop μ-loop
 pair-short-requires c κs = search needs
 
 returns : tie.Need-returns Inv-loop μ-loop
-returns c = row-long (c .before .before .before .before .before .before .before .before .pre .0) (c .before .before .before .before .loop .inv) (c .before .before .before .before .before .before .before .before .pre .1) (c .before .before .before .before .before .before .before .before .pre .2) (c .before .before .before .loop-test .taken) (c .before .before .before .before .before .load .ensures) (c .before .before .load2 .ensures) (c .before .pair-short .ensures) (not-true _ (c .if1 .taken))
+returns c =
+    let c2 = c .before .before in
+    let c3 = c2 .before in
+    let c4 = c3 .before in
+    let c5 = c4 .before in
+    let c8 = c5 .before .before .before in
+    row-long (c8 .pre .0) (c4 .loop .inv) (c8 .pre .1) (c8 .pre .2) (c3 .loop-test .taken) (c5 .load .ensures) (c2 .load2 .ensures) (c .before .pair-short .ensures) (not-true _ (c .if1 .taken))
 
 add-j : tie.Need-add-j Inv-loop μ-loop
 add-j c = search needs
@@ -39,7 +45,13 @@ loop-less : tie.Need-loop-less Inv-loop μ-loop
 loop-less c = search needs
 
 loop-again : tie.Need-loop-again Inv-loop μ-loop
-loop-again c = row-goes (c .before .before .before .before .before .before .before .before .pre .0) (c .before .before .before .before .loop .inv) (c .before .before .before .before .before .before .before .before .pre .1) (c .before .before .before .before .before .before .before .before .pre .2) (c .before .before .before .loop-test .taken) (c .before .before .before .before .before .load .ensures) (c .before .before .load2 .ensures) (c .before .pair-short .ensures) (not-false _ (c .if1 .left))
+loop-again c =
+    let c2 = c .before .before in
+    let c3 = c2 .before in
+    let c4 = c3 .before in
+    let c5 = c4 .before in
+    let c8 = c5 .before .before .before in
+    row-goes (c8 .pre .0) (c4 .loop .inv) (c8 .pre .1) (c8 .pre .2) (c3 .loop-test .taken) (c5 .load .ensures) (c2 .load2 .ensures) (c .before .pair-short .ensures) (not-false _ (c .if1 .left))
 
 returns-2 : tie.Need-returns-2 Inv-loop μ-loop
 returns-2 c = row-shorter (c .before .before .before .before .before .pre .0) (c .before .loop .inv) (c .loop-test .left)

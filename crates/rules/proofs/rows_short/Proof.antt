@@ -23,7 +23,11 @@ row-short-requires : tie.Need-row-short-requires Inv-loop μ-loop
 row-short-requires c κs = search needs
 
 returns : tie.Need-returns Inv-loop μ-loop
-returns c = rows-long (c .before .before .before .before .before .before .pre .0) (c .before .before .before .loop .inv) (c .before .before .loop-test .taken) (c .before .row-short .ensures) (not-true _ (c .if1 .taken))
+returns c =
+    let c2 = c .before .before in
+    let c3 = c2 .before in
+    let c6 = c3 .before .before .before in
+    rows-long (c6 .pre .0) (c3 .loop .inv) (c2 .loop-test .taken) (c .before .row-short .ensures) (not-true _ (c .if1 .taken))
 
 add-i : tie.Need-add-i Inv-loop μ-loop
 add-i c = search needs
@@ -32,7 +36,11 @@ loop-less : tie.Need-loop-less Inv-loop μ-loop
 loop-less c = search needs
 
 loop-again : tie.Need-loop-again Inv-loop μ-loop
-loop-again c = rows-go (c .before .before .before .before .before .before .pre .0) (c .before .before .before .loop .inv) (c .before .before .loop-test .taken) (c .before .row-short .ensures) (not-false _ (c .if1 .left))
+loop-again c =
+    let c2 = c .before .before in
+    let c3 = c2 .before in
+    let c6 = c3 .before .before .before in
+    rows-go (c6 .pre .0) (c3 .loop .inv) (c2 .loop-test .taken) (c .before .row-short .ensures) (not-false _ (c .if1 .left))
 
 returns-2 : tie.Need-returns-2 Inv-loop μ-loop
 returns-2 c = rows-shorter (c .before .before .before .before .pre .0) (c .before .loop .inv) (c .loop-test .left)

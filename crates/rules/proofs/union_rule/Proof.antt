@@ -24,13 +24,23 @@ same-length-2 : tie.Need-same-length-2
 same-length-2 c = search needs
 
 returns-2 : tie.Need-returns-2
-returns-2 c = union-many (c .before .before .before .before .before .before .before .before .before .before .before .before .pre) (c .before .before .before .before .before .before .before .before .add-copies .ensures) (c .before .before .before .before .before .if1 .left) (c .before .before .before .add-copies2 .ensures) (c .if2 .taken)
+returns-2 c =
+    let c3 = c .before .before .before in
+    let c5 = c3 .before .before in
+    let c8 = c5 .before .before .before in
+    let c12 = c8 .before .before .before .before in
+    union-many (c12 .pre) (c8 .add-copies .ensures) (c5 .if1 .left) (c3 .add-copies2 .ensures) (c .if2 .taken)
 
 same-length-3 : tie.Need-same-length-3
 same-length-3 c = search needs
 
 returns-3 : tie.Need-returns-3
-returns-3 c = union-made (c .before .before .before .before .before .before .before .before .before .before .before .before .pre) (c .before .before .before .before .before .before .before .before .add-copies .ensures) (c .before .before .before .before .before .if1 .left) (c .before .before .before .add-copies2 .ensures) (c .if2 .left)
+returns-3 c =
+    let c3 = c .before .before .before in
+    let c5 = c3 .before .before in
+    let c8 = c5 .before .before .before in
+    let c12 = c8 .before .before .before .before in
+    union-made (c12 .pre) (c8 .add-copies .ensures) (c5 .if1 .left) (c3 .add-copies2 .ensures) (c .if2 .left)
 
 pub union-rule-spec : {M : Type 1} → statement M
 union-rule-spec =

@@ -37,7 +37,12 @@ key-of-requires c κs = search needs
 
 returns-4 : tie.Need-returns-4
 unfolding next
-returns-4 c = simp (lt-leb _ _ (c .if4 .taken), ← c .before .before .key-of .ensures .0, lt-ltb _ _ (c .before .before .before .if3 .left), lt-ltb _ _ (c .before .before .before .before .before .before .if2 .left), lt-ltb _ _ (c .before .before .before .before .before .before .before .before .before .if1 .left))
+returns-4 c =
+    let c2 = c .before .before in
+    let c3 = c2 .before in
+    let c6 = c3 .before .before .before in
+    let c9 = c6 .before .before .before in
+    simp (lt-leb _ _ (c .if4 .taken), ← c2 .key-of .ensures .0, lt-ltb _ _ (c3 .if3 .left), lt-ltb _ _ (c6 .if2 .left), lt-ltb _ _ (c9 .if1 .left))
 
 shared-slice-read-t8 : tie.Need-shared-slice-read-t8
 unfolding tag-length rows
@@ -59,7 +64,13 @@ add-t25 c = search needs
 
 returns-5 : tie.Need-returns-5
 unfolding next
-returns-5 c = simp (le-leb _ _ (c .before .before .before .before .if4 .left), ← c .before .before .before .before .before .before .key-of .ensures .0, lt-ltb _ _ (c .before .before .before .before .before .before .before .if3 .left), lt-ltb _ _ (c .before .before .before .before .before .before .before .before .before .before .if2 .left), lt-ltb _ _ (c .before .before .before .before .before .before .before .before .before .before .before .before .before .if1 .left))
+returns-5 c =
+    let c4 = c .before .before .before .before in
+    let c6 = c4 .before .before in
+    let c7 = c6 .before in
+    let c10 = c7 .before .before .before in
+    let c13 = c10 .before .before .before in
+    simp (le-leb _ _ (c4 .if4 .left), ← c6 .key-of .ensures .0, lt-ltb _ _ (c7 .if3 .left), lt-ltb _ _ (c10 .if2 .left), lt-ltb _ _ (c13 .if1 .left))
 
 pub grow-spec : {M : Type 1} → statement M
 grow-spec =

@@ -30,13 +30,18 @@ at-body : (c : tie.After-known-told2 Inv-loop μ-loop) →
 at-body c = seen-at _ _ (c .before .before .before .before .due .ensures) (c .before .before .before .field .ensures) (c .before .len .given .1)
 
 room : (c : tie.After-known-told2 Inv-loop μ-loop) → c .before .before .before .before .before .loop .at + 3 + c .before .len .given .0 .1 .0 ≤ length (now (c .before .before .before .before .before .before .before .args .s))
-room c = found (due-of (c .before .before .before .before .before .loop .st)) (now (c .before .before .before .before .before .before .before .args .s)) _ _ _ (at-body c) .room
+room c =
+    let c5 = c .before .before .before .before .before in
+    let c7 = c5 .before .before in
+    found (due-of (c5 .loop .st)) (now (c7 .args .s)) _ _ _ (at-body c) .room
 
 -- where it is judged
 is-judged : (c : tie.After-judge Inv-loop μ-loop) →
     let l = c .before .before .before .before .before .before .before .loop in
     judged (l .st) (l .at) (take (c .before .before .before .len .given .0 .1 .0) (drop (l .at + 3) (now (c .before .before .before .before .before .before .before .before .before .args .s)))) ≡ turn-said (c .judge .result)
-is-judged c = rw (← body-found _ _ _ _ _ (at-body (c .before .before)), ← c .before .body-at .ensures) (sym (c .judge .ensures))
+is-judged c =
+    let c2 = c .before .before in
+    rw (← body-found _ _ _ _ _ (at-body (c2)), ← c .before .body-at .ensures) (sym (c .judge .ensures))
 
 -- where it is a triple
 at-more : (c : tie.After-known-told5 Inv-loop μ-loop) →
@@ -44,7 +49,11 @@ at-more : (c : tie.After-known-told5 Inv-loop μ-loop) →
     let v = c .before .x .given .0 in
     let x = edge-said (v .0) in
     ((x .from < 64) × (x .label < 64) × (x .to < 64)) × Progress (now (c .before .before .before .before .before .before .before .before .before .before .before .before .args .s)) (Within (v .1 .0)) (l .at + 3 + c .before .before .before .before .before .before .len .given .0 .1 .0) (permit (l .table) x)
-at-more c = progress-more _ _ _ _ _ _ (c .before .before .before .before .before .before .before .before .before .before .loop .inv) (at-body (c .before .before .before .before .before)) _ _ (is-judged (c .before .before .before) ∙ ap turn-said (c .before .x .given .1))
+at-more c =
+    let c3 = c .before .before .before in
+    let c5 = c3 .before .before in
+    let c10 = c5 .before .before .before .before .before in
+    progress-more _ _ _ _ _ _ (c10 .loop .inv) (at-body (c5)) _ _ (is-judged (c3) ∙ ap turn-said (c .before .x .given .1))
 
 loop-holds : tie.Need-loop-holds Inv-loop μ-loop
 loop-holds c = progress-start _
@@ -93,7 +102,9 @@ body-at-requires : tie.Need-body-at-requires Inv-loop μ-loop
 body-at-requires c κs = search needs
 
 judge-requires : tie.Need-judge-requires Inv-loop μ-loop
-judge-requires c κs = rw (c .body-at .ensures, body-found _ _ _ _ _ (at-body (c .before))) (progress-ready _ _ _ _ _ _ (c .before .before .before .before .before .before .loop .inv) (at-body (c .before)))
+judge-requires c κs =
+    let c6 = c .before .before .before .before .before .before in
+    rw (c .body-at .ensures, body-found _ _ _ _ _ (at-body (c .before))) (progress-ready _ _ _ _ _ _ (c6 .loop .inv) (at-body (c .before)))
 
 enum-known-r-2 : tie.Need-enum-known-r-2 Inv-loop μ-loop
 enum-known-r-2 c = search needs
@@ -103,8 +114,12 @@ refused-requires-2 c κs = search needs
 
 returns-3 : tie.Need-returns-3 Inv-loop μ-loop
 returns-3 c =
-    let a = progress-stop _ _ _ _ _ _ (c .before .before .before .before .before .before .before .before .before .before .before .loop .inv) (at-body (c .before .before .before .before .before .before)) _ _ (is-judged (c .before .before .before .before) ∙ ap turn-said (c .before .before .r2 .given .1)) in
-    reads-refused _ (c .before .before .r2 .given .0 .0) _ _ a (c .refused2 .ensures)
+    let c2 = c .before .before in
+    let c4 = c2 .before .before in
+    let c6 = c4 .before .before in
+    let c11 = c6 .before .before .before .before .before in
+    let a = progress-stop _ _ _ _ _ _ (c11 .loop .inv) (at-body (c6)) _ _ (is-judged (c4) ∙ ap turn-said (c2 .r2 .given .1)) in
+    reads-refused _ (c2 .r2 .given .0 .0) _ _ a (c .refused2 .ensures)
 
 enum-known-q : tie.Need-enum-known-q Inv-loop μ-loop
 enum-known-q c = search needs
@@ -113,7 +128,11 @@ loop-less : tie.Need-loop-less Inv-loop μ-loop
 loop-less c = let r = room (c .before .before .before .before .before) in omega arith
 
 loop-again : tie.Need-loop-again Inv-loop μ-loop
-loop-again c = progress-go _ _ _ _ _ _ (c .before .before .before .before .before .before .before .before .before .before .loop .inv) (at-body (c .before .before .before .before .before)) _ (is-judged (c .before .before .before) ∙ ap turn-said (c .before .q .given .1))
+loop-again c =
+    let c3 = c .before .before .before in
+    let c5 = c3 .before .before in
+    let c10 = c5 .before .before .before .before .before in
+    progress-go _ _ _ _ _ _ (c10 .loop .inv) (at-body (c5)) _ (is-judged (c3) ∙ ap turn-said (c .before .q .given .1))
 
 enum-known-x : tie.Need-enum-known-x Inv-loop μ-loop
 enum-known-x c = search needs

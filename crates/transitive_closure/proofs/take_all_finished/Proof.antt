@@ -59,7 +59,8 @@ returns c =
     let c12 = c8 .before .before .before .before in
     let c17 = c12 .before .before .before .before .before in
     let a = c17 .args in
-    took-word {m = 16} (a .work .now) (a .b) (a .i) (a .v) (c12 .gather .ensures) (c8 .unite .ensures) (c3 .exclude .ensures) (omega arith) (omega arith) (omega (arith, c3 .exclude .ensures .kept .len))
+    took-word {m = 16} (a .work .now) (a .b) (a .i) (a .v) (c12 .gather .ensures) (c8 .unite .ensures) (c3 .exclude .ensures) (omega arith) (omega arith)
+    (omega (arith, c3 .exclude .ensures .kept .len))
 
 pub take-all-finished-spec : {M : Type 1} → statement M
 take-all-finished-spec =

@@ -32,8 +32,14 @@ take-all-finished-requires c κs =
     let c11 = c .before .before .before .before .before .before .before .before .before .before .before in
     let c12 = c11 .before in
     let a = c12 .args in
-    let p = c12 .pre in
-    (p .2, p .3, p .0 .room, p .4, p .0 .words, λ j e. in-range (p .0) (a .i) j (p .1) (p .4) (word-bits (a .row .now) (a .left .now) (a .finished .now) (a .i) j (omega (arith, c11 .slice-known .given (a .i))) e))
+    let p = c12 .pre in (
+      p .2,
+      p .3,
+      p .0 .room,
+      p .4,
+      p .0 .words,
+      λ j e. in-range (p .0) (a .i) j (p .1) (p .4) (word-bits (a .row .now) (a .left .now) (a .finished .now) (a .i) j (omega (arith, c11 .slice-known .given (a .i))) e),
+    )
 
 same-length : tie.Need-same-length
 same-length c = search needs
@@ -48,7 +54,8 @@ returns c =
     let c17 = c16 .before in
     let a = c17 .args in
     let p = c17 .pre in
-    grown-word (p .0) (a .i) _ (p .1) (λ j e. let y = word-bits (a .row .now) (a .left .now) (a .finished .now) (a .i) j (omega (arith, c16 .slice-known .given (a .i))) e in (in-range (p .0) (a .i) j (p .1) (p .4) y, y .1, y .2)) (c4 .take-all-finished .ensures)
+    grown-word (p .0) (a .i) _ (p .1) (λ j e. let y = word-bits (a .row .now) (a .left .now) (a .finished .now) (a .i) j (omega (arith, c16 .slice-known .given (a .i))) e in
+    (in-range (p .0) (a .i) j (p .1) (p .4) y, y .1, y .2)) (c4 .take-all-finished .ensures)
 
 returns-2 : tie.Need-returns-2
 returns-2 c = grown-none (c .before .before .before .before .before .before .before .before .before .before .pre .1)

@@ -46,8 +46,13 @@ loop-holds : tie.Need-loop-holds Inv-loop μ-loop
 loop-holds c =
     let c5 = c .before .before .before .before .before in
     let c12 = c5 .before .before .before .before .before .before .before in
-    let p = c12 .pre in
-    (stage-none p, trail-none (c12 .args .pending .now) _ (c5 .copy .ensures) (p .inner) (omega arith) (omega (arith, p .words, c5 .copy .ensures .kept .len)), c .ahead .ensures, refl, c5 .copy .ensures .kept .len)
+    let p = c12 .pre in (
+      stage-none p,
+      trail-none (c12 .args .pending .now) _ (c5 .copy .ensures) (p .inner) (omega arith) (omega (arith, p .words, c5 .copy .ensures .kept .len)),
+      c .ahead .ensures,
+      refl,
+      c5 .copy .ensures .kept .len,
+    )
 
 mul-loop : tie.Need-mul-loop Inv-loop μ-loop
 mul-loop c = omega (arith, c .loop .inv .0 .ready .words)

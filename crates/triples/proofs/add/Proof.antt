@@ -24,7 +24,10 @@ same-length : tie.Need-same-length
 same-length c = search needs
 
 returns : tie.Need-returns
-returns c = added-no (c .before .before .before .before .before .before .before .before .before .pre) (c .before .before .before .before .before .store .ensures) (sym (c .before .stands .ensures) ∙ c .if1 .taken)
+returns c =
+    let c5 = c .before .before .before .before .before in
+    let c9 = c5 .before .before .before .before in
+    added-no (c9 .pre) (c5 .store .ensures) (sym (c .before .stands .ensures) ∙ c .if1 .taken)
 
 add-result : tie.Need-add-result
 add-result c = search needs
@@ -33,7 +36,10 @@ same-length-2 : tie.Need-same-length-2
 same-length-2 c = search needs
 
 returns-2 : tie.Need-returns-2
-returns-2 c = added-yes (c .before .before .before .before .before .before .before .before .before .pre) (c .before .before .before .before .before .store .ensures) (sym (c .before .stands .ensures) ∙ c .if1 .left)
+returns-2 c =
+    let c5 = c .before .before .before .before .before in
+    let c9 = c5 .before .before .before .before in
+    added-yes (c9 .pre) (c5 .store .ensures) (sym (c .before .stands .ensures) ∙ c .if1 .left)
 
 pub add-spec : {M : Type 1} → statement M
 add-spec =

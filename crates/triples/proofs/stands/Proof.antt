@@ -34,15 +34,26 @@ same-requires : tie.Need-same-requires Inv-loop μ-loop
 same-requires c κs = search needs
 
 returns : tie.Need-returns Inv-loop μ-loop
-returns c = let a = c .before .before .before .before .before .before .args in
-    sym (c .before .before .before .loop .inv .2 ∙ look-yes (a .question .now) (a .words .now) (triple? (triple-of (a .question .now) (a .words .now) (a .u))) (a .s) (c .before .before .before .loop .j) (omega arith) (sym (c .before .same .ensures) ∙ c .if1 .taken))
+returns c =
+    let c3 = c .before .before .before in
+    let c6 = c3 .before .before .before in
+    let a = c6 .args in
+    sym (c3 .loop .inv .2 ∙ look-yes (a .question .now) (a .words .now) (triple? (triple-of (a .question .now) (a .words .now) (a .u))) (a .s) (c3 .loop .j) (omega arith)
+    (sym (c .before .same .ensures) ∙ c .if1 .taken))
 
 loop-less : tie.Need-loop-less Inv-loop μ-loop
 loop-less c = search needs
 
 loop-again : tie.Need-loop-again Inv-loop μ-loop
-loop-again c = let a = c .before .before .before .before .before .before .args in
-    (omega arith, omega arith, c .before .before .before .loop .inv .2 ∙ look-on (a .question .now) (a .words .now) (triple? (triple-of (a .question .now) (a .words .now) (a .u))) (a .s) (c .before .before .before .loop .j) (omega arith) (sym (c .before .same .ensures) ∙ c .if1 .left))
+loop-again c =
+    let c3 = c .before .before .before in
+    let c6 = c3 .before .before .before in
+    let a = c6 .args in (
+      omega arith,
+      omega arith,
+      c3 .loop .inv .2 ∙ look-on (a .question .now) (a .words .now) (triple? (triple-of (a .question .now) (a .words .now) (a .u))) (a .s) (c3 .loop .j) (omega arith)
+          (sym (c .before .same .ensures) ∙ c .if1 .left),
+    )
 
 returns-2 : tie.Need-returns-2 Inv-loop μ-loop
 returns-2 c = let a = c .before .before .before .before .args in

@@ -16,7 +16,7 @@ ghost use Rattle.rules.specs.Marks.{marked?, of-marks, mark-of, marks-of
 
 // What a rule makes.
 pub enum Part {
-    // so many triples
+    // this many triples
     Made(usize),
     // 12: over 128
     Many,
@@ -72,7 +72,7 @@ fn paired(made: usize, i: usize, j: usize, x: Node, y: Node) -> Node
     }
 }
 
-// Where the pair fits, has its path at most 48 symbols?
+// If the pair fits, does its path have at most 48 symbols?
 fn pair_short(made: usize, x: Node, y: Node) -> bool
     requires { ⌜ (x .size < 64) × (y .size < 64) ⌝ }
     ensures { λ r. ⌜ r ≡ pair-short? made x y ⌝ }
@@ -85,7 +85,7 @@ fn pair_short(made: usize, x: Node, y: Node) -> bool
 
 // ---- sizes: 13
 
-// Has what node i gives with each of the nodes q to e at most 48 symbols?
+// Has each path that node i gives with nodes q to e at most 48 symbols?
 fn row_short(
     words: &[u64],
     question: &[u8],
@@ -110,7 +110,7 @@ fn row_short(
     true
 }
 
-// The same of each of the nodes p to d with each of the nodes q to e.
+// The same for each of the nodes p to d in place of i.
 fn rows_short(
     words: &[u64],
     question: &[u8],
@@ -136,7 +136,7 @@ fn rows_short(
 
 // ---- rows that repeat
 
-// Have nodes i and j the same from kind and the same path?
+// Do nodes i and j have the same from kind and the same path?
 fn alike(words: &[u64], used: usize, question: &[u8], i: usize, j: usize) -> bool
     requires { ⌜ Has (now question) (now words) used i × Has (now question) (now words) used j ⌝ }
     ensures { λ r. ⌜ Alike (now (question .entry)) (now (words .entry)) i j r ⌝ }
@@ -147,8 +147,8 @@ fn alike(words: &[u64], used: usize, question: &[u8], i: usize, j: usize) -> boo
     triples::same_path(words, used, question, i, j)
 }
 
-// Gives one of the nodes p to i the row that node i gives? A branch left drops the to kind of the left triple, so that
-// nodes that differ there alone give one row; the newest come first, since such nodes mostly stand side by side.
+// Does one of the nodes p to i, i left out, give the same row as node i? A branch left drops the to kind of its left
+// triple, so nodes that differ only there do; the newest are tried first, since such nodes mostly stand side by side.
 fn repeats(words: &[u64], used: usize, question: &[u8], made: usize, p: usize, i: usize) -> bool
     requires { ⌜ Has (now question) (now words) used i × (p ≤ i) ⌝ }
     ensures { λ r. ⌜ Repeats (now (question .entry)) (now (words .entry)) made p i r ⌝ }
@@ -215,7 +215,7 @@ pub fn add_row(
     count
 }
 
-// The same where the rows of nodes p to i are in the part: a row that repeats one of them is not gone through.
+// The same if the rows of nodes p to i are already in the part: a row that repeats one of them is skipped.
 fn add_new_row(
     words: &mut [u64],
     question: &[u8],
@@ -318,7 +318,7 @@ pub fn union_rule(
 
 // ---- a step
 
-// Has a sheet's table the bit of the step with code c from kind a to kind b?
+// Does a sheet's table have the bit of the step with code c from kind a to kind b?
 fn marked(table: &[u64; 4096], c: usize, a: Kind, b: Kind) -> bool
     requires { ⌜ (c < 128) × (a .0 < 64) × (b .0 < 64) ⌝ }
     ensures { λ r. ⌜ r ≡ marked? (now (table .entry)) c (a .0) (b .0) ⌝ }
@@ -384,7 +384,7 @@ fn add_marks(
     count
 }
 
-// The rule of the step with code c, by a sheet's table of so many kinds: its part is made from s on.
+// The rule of the step with code c, by a sheet's table of `kinds` kinds: its part is made from s on.
 pub fn step_rule(
     words: &mut [u64],
     question: &[u8],

@@ -1,4 +1,4 @@
--- `rules::add_copies` meets its contract.
+-- `rules::add_copies` meets its contract: a copy has the triple of its node, and the part with the copies still to come is at each turn the list that is due.
 -- Assumes nothing.
 use Rattle.rules.proofs.Copies.{CopiesGrowing, copies-start, copies-load, copies-asks, copies-turn, copies-many, copies-over}
 use borrow.Author.Needs.{needs}

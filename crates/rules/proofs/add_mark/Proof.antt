@@ -1,4 +1,4 @@
--- `rules::add_mark` meets its contract.
+-- `rules::add_mark` meets its contract: the new node has the step's triple from a to b, and where the table lacks the bit there is no triple to add.
 -- Assumes nothing.
 use borrow.Author.Tests.{not-true, not-false}
 use Rattle.rules.proofs.Steps.{mark-skipped, mark-candidate, mark-added}

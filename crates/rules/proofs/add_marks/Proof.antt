@@ -1,4 +1,4 @@
--- `rules::add_marks` meets its contract.
+-- `rules::add_marks` meets its contract: a turn adds the triple to kind b, where the table has it, and the triples to the kinds after b are what is left to add.
 -- Assumes nothing.
 use Rattle.theory.specs.Lists.{adjoin-all}
 use Rattle.theory.specs.Inference.{triple?}

@@ -1,4 +1,4 @@
--- `rules::add_new_row` meets its contract.
+-- `rules::add_new_row` meets its contract: the triples of a row that repeats an earlier one stand in the part already, so that it adds none; any other row is added.
 -- Assumes nothing.
 use Rattle.rules.proofs.Repeating.{row-repeated}
 use borrow.Author.Needs.{needs}

@@ -1,4 +1,4 @@
--- `rules::add_pair` meets its contract.
+-- `rules::add_pair` meets its contract: the node of a pair has the triple that the two give, and two triples that do not fit give none.
 -- Assumes nothing.
 use borrow.Author.Tests.{not-true, not-false}
 use Rattle.rules.proofs.Pairs.{pair-skipped, pair-candidate, pair-added}

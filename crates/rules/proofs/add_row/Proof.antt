@@ -1,4 +1,4 @@
--- `rules::add_row` meets its contract.
+-- `rules::add_row` meets its contract: a turn adds what node i gives with node j, and the rest of the row is what is left; past 128 triples the whole has too many as well.
 -- Assumes nothing.
 use Rattle.rules.proofs.Rows.{RowGrowing, row-start, row-asks, row-turn, row-many, row-over}
 use borrow.Author.Needs.{needs}

@@ -1,4 +1,4 @@
--- `rules::alike` meets its contract.
+-- `rules::alike` meets its contract: it tells true only of nodes whose from kinds are equal and whose paths `same_path` finds equal.
 -- Assumes nothing.
 use Rattle.rules.proofs.Repeating.{not-alike, alike-paths}
 use borrow.Author.Needs.{needs}

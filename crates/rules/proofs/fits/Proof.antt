@@ -1,4 +1,4 @@
--- `rules::fits` meets its contract.
+-- `rules::fits` meets its contract: the operator both needs equal ends, branch left equal from kinds, join and branch right an end that meets a start: the three tests.
 -- Assumes nothing.
 use borrow.Author.Tests.{eq-eqb, ne-eqb}
 use Rattle.rules.specs.Two.{fitting}

@@ -1,4 +1,4 @@
--- `rules::last` meets its contract.
+-- `rules::last` meets its contract: the triple of both and of branch right ends where the first ends, that of branch left and of join where the second does.
 -- Assumes nothing.
 use borrow.Author.Tests.{ne-eqb}
 use Rattle.rules.proofs.TwoLists.{giving-last}

@@ -1,4 +1,4 @@
--- `rules::marked` meets its contract.
+-- `rules::marked` meets its contract: a step's link is its code modulo 64, and a reverse step has the bit of the link with the two kinds swapped.
 -- Assumes nothing.
 use Rattle.rules.proofs.Steps.{forward-marked, reverse-marked}
 use borrow.Author.Needs.{needs}

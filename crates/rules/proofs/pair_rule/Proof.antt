@@ -1,4 +1,4 @@
--- `rules::pair_rule` meets its contract.
+-- `rules::pair_rule` meets its contract: leaving repeats out changes no path, so 13 is judged over all candidates; then a turn adds one row, and the rows after it are left.
 -- Assumes nothing.
 use mathlib.Core.Path.{sym, _∙_}
 use borrow.Author.Tests.{not-true, not-false}

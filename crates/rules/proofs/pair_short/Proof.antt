@@ -1,4 +1,4 @@
--- `rules::pair_short` meets its contract.
+-- `rules::pair_short` meets its contract: the path of a pair has the symbols of both and the operator's, and a pair that does not fit has no path.
 -- Assumes nothing.
 use mathlib.Core.Path.{sym, _∙_}
 use borrow.Author.Tests.{not-true, not-false}

@@ -1,4 +1,4 @@
--- `rules::paired` meets its contract.
+-- `rules::paired` meets its contract: the size is that of both paths and the operator's symbol, and the to kind is the one that `last` gives.
 -- Assumes nothing.
 use borrow.Author.Needs.{needs}
 use Rattle.rules.proofs.paired.Statement.{statement}

@@ -1,4 +1,4 @@
--- `rules::repeats` meets its contract.
+-- `rules::repeats` meets its contract: a branch left drops the to kind of its left triple, so two nodes with equal from kinds and paths give the same row with any part.
 -- Assumes nothing.
 use Rattle.rules.proofs.Repeating.{has-below, not-found, found-row}
 use borrow.Author.Needs.{needs}

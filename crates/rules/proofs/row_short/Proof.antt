@@ -1,4 +1,4 @@
--- `rules::row_short` meets its contract.
+-- `rules::row_short` meets its contract: while each pair passed is short, the row is short if the rest of it is; one long pair makes the row long.
 -- Assumes nothing.
 use borrow.Author.Tests.{not-true, not-false}
 use Rattle.rules.proofs.Rows.{RowLeft, row-left, row-long, row-goes, row-shorter}

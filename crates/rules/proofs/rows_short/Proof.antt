@@ -1,4 +1,4 @@
--- `rules::rows_short` meets its contract.
+-- `rules::rows_short` meets its contract: while each row passed is short, the whole is short if the rows after it are; one long row makes the whole long.
 -- Assumes nothing.
 use borrow.Author.Tests.{not-true, not-false}
 use Rattle.rules.proofs.Rows.{RowsLeft, rows-left, rows-long, rows-go, rows-shorter}

@@ -1,4 +1,4 @@
--- `rules::step_rule` meets its contract.
+-- `rules::step_rule` meets its contract: a turn adds the triples from one kind, those from the kinds after it are left, and a path of one step is never over 48 symbols.
 -- Assumes nothing.
 use Rattle.theory.specs.Inference.{distinct}
 use Rattle.rules.specs.Marks.{of-marks, marks-of}

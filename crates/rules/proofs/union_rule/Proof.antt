@@ -1,4 +1,4 @@
--- `rules::union_rule` meets its contract.
+-- `rules::union_rule` meets its contract: the candidates are one part and then the other, and no path of either is over 48 symbols long.
 -- Assumes nothing.
 use Rattle.rules.proofs.Unions.{first-asks, first-many, second-asks, union-many, union-made}
 use borrow.Author.Needs.{needs}

@@ -30,7 +30,7 @@ fn wide(x: u8) -> u64
     x as u64
 }
 
-// A refusal: its place, the number of what it is about, and as result its own number.
+// Tells a refusal: leaves its place and the number of what it is about, returns its own number.
 fn tell_refusal(s: Source, r: Refusal, first: &mut u64, second: &mut u64) -> u64
     ensures { λ n. ⌜ tells n (now (first .exit)) (now (second .exit)) ≡ tells (number-of r) (place-of r) (source-number s) ⌝ }
 {

@@ -1,4 +1,4 @@
--- `paths::judge_narrowed` meets its contract.
+-- `paths::judge_narrowed` meets its contract: the reader of narrowed questions refuses where the form does, with its number and place, and what it accepts the form reads.
 -- Assumes nothing.
 use borrow.Author.Needs.{needs}
 use Rattle.paths.proofs.judge_narrowed.Statement.{statement}

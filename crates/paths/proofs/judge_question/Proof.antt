@@ -1,4 +1,4 @@
--- `paths::judge_question` meets its contract.
+-- `paths::judge_question` meets its contract: the reader of questions refuses where the form does, with its number and place, and the codes that it hands out are the form's.
 -- Assumes nothing.
 use borrow.Author.Needs.{needs}
 use Rattle.paths.proofs.judge_question.Statement.{statement}

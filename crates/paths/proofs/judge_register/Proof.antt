@@ -1,4 +1,4 @@
--- `paths::judge_register` meets its contract.
+-- `paths::judge_register` meets its contract: `register::read` tells the refusal of the form, or accepts a file that the form reads as a register.
 -- Assumes nothing.
 use borrow.Author.Needs.{needs}
 use Rattle.paths.proofs.judge_register.Statement.{statement}

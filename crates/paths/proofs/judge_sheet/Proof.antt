@@ -1,4 +1,4 @@
--- `paths::judge_sheet` meets its contract.
+-- `paths::judge_sheet` meets its contract: `sheet::read` tells the refusal of the form, or accepts a file whose sheet the form reads.
 -- Assumes nothing.
 use borrow.Author.Needs.{needs}
 use Rattle.paths.proofs.judge_sheet.Statement.{statement}

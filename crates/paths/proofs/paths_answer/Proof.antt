@@ -1,4 +1,4 @@
--- `paths::paths_answer` meets its contract.
+-- `paths::paths_answer` meets its contract: `plain_answer` leaves the outcome and both areas that are due, and `tell` only puts the outcome into three numbers.
 -- Assumes nothing.
 use borrow.Author.Needs.{needs}
 use Rattle.paths.proofs.paths_answer.Statement.{statement}

@@ -1,4 +1,4 @@
--- `paths::paths_answer_narrowed` meets its contract.
+-- `paths::paths_answer_narrowed` meets its contract: both areas are as `narrowed_answer` left them, and `tell` tells its outcome.
 -- Assumes nothing.
 use borrow.Author.Needs.{needs}
 use Rattle.paths.proofs.paths_answer_narrowed.Statement.{statement}

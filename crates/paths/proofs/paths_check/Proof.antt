@@ -1,4 +1,4 @@
--- `paths::paths_check` meets its contract.
+-- `paths::paths_check` meets its contract: the outcome that `check` yields is what `tell` puts into three numbers.
 -- Assumes nothing.
 use borrow.Author.Needs.{needs}
 use Rattle.paths.proofs.paths_check.Statement.{statement}

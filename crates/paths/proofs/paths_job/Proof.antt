@@ -1,4 +1,4 @@
--- `paths::paths_job` meets its contract.
+-- `paths::paths_job` meets its contract: `whole_job` leaves what is due; as 0 is told of acceptance alone, the answer is then the question's plain answer too.
 -- Assumes nothing.
 use borrow.Author.Needs.{needs}
 use Rattle.paths.proofs.paths_job.Statement.{statement}

@@ -1,4 +1,4 @@
--- `paths::paths_narrow` meets its contract.
+-- `paths::paths_narrow` meets its contract: work words and file are as `narrowing` left them, and `tell_file` tells the members and bytes, or the refusal.
 -- Assumes nothing.
 use borrow.Author.Needs.{needs}
 use Rattle.paths.proofs.paths_narrow.Statement.{statement}

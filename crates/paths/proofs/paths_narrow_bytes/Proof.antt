@@ -1,4 +1,4 @@
--- `paths::paths_narrow_bytes` meets its contract.
+-- `paths::paths_narrow_bytes` meets its contract: `narrowed_size` yields the size or the refusal and leaves the work words that are due, and `tell_file` tells the outcome.
 -- Assumes nothing.
 use borrow.Author.Needs.{needs}
 use Rattle.paths.proofs.paths_narrow_bytes.Statement.{statement}

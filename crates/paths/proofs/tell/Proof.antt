@@ -1,4 +1,4 @@
--- `paths::tell` meets its contract.
+-- `paths::tell` meets its contract: acceptance is told by three zeros, a refusal by its own numbers, and no refusal has the number 0.
 -- Assumes nothing.
 use borrow.Author.Needs.{needs}
 use Rattle.paths.proofs.tell.Statement.{statement}

@@ -1,4 +1,4 @@
--- `paths::tell_file` meets its contract.
+-- `paths::tell_file` meets its contract: a file is told by 0 and its two sizes, and no refusal has the number 0, so that 0 always tells of a file.
 -- Assumes nothing.
 use borrow.Author.Needs.{needs}
 use Rattle.paths.proofs.tell_file.Statement.{statement}

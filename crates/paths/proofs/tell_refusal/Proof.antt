@@ -1,4 +1,4 @@
--- `paths::tell_refusal` meets its contract.
+-- `paths::tell_refusal` meets its contract: each of the three numbers is the one that `fields` gives for the refusal or its source, and widening keeps it.
 -- Assumes nothing.
 use borrow.Author.Needs.{needs}
 use Rattle.paths.proofs.tell_refusal.Statement.{statement}

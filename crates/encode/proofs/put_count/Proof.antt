@@ -1,4 +1,4 @@
--- `encode::put_count` meets its contract.
+-- `encode::put_count` meets its contract: the head and the two bytes of the number, one after the other, are the field 41.
 -- Assumes nothing.
 use Rattle.fields.specs.Table.{rows, tag-length, field-size}
 use Rattle.encode.proofs.Along.{wrote-more}

@@ -1,4 +1,4 @@
--- `encode::put_eight` meets its contract.
+-- `encode::put_eight` meets its contract: the number's quotients by powers of 65536, each modulo 65536, are its four pairs of bytes, the highest first.
 -- Assumes nothing.
 use Rattle.encode.proofs.Along.{wrote-more}
 use borrow.Author.Needs.{needs}

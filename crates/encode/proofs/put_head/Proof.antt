@@ -1,4 +1,4 @@
--- `encode::put_head` meets its contract.
+-- `encode::put_head` meets its contract: the byte of the tag and the two of the length follow each other.
 -- Assumes nothing.
 use Rattle.encode.proofs.Along.{wrote-more}
 use borrow.Author.Needs.{needs}

@@ -1,4 +1,4 @@
--- `encode::put_member` meets its contract.
+-- `encode::put_member` meets its contract: a member is its field 42, which tells n, and the fields of its n symbols.
 -- Assumes nothing.
 use Rattle.fields.specs.Table.{rows, tag-length, field-size}
 use Rattle.encode.proofs.Parts.{member-wrote}

@@ -1,4 +1,4 @@
--- `encode::put_members` meets its contract.
+-- `encode::put_members` meets its contract: after i members the bytes of the others are what is left of the file; with at most 48 symbols to a member, k stays in the arrays.
 -- Assumes nothing.
 use mathlib.Core.Path.{_≡_, _∙_}
 use lib.ListN.{length}

@@ -1,4 +1,4 @@
--- `encode::put_open` meets its contract.
+-- `encode::put_open` meets its contract: head, number of symbols, from set and to set, one after the other, are the field 42.
 -- Assumes nothing.
 use Rattle.fields.specs.Table.{rows, tag-length, field-size}
 use Rattle.encode.proofs.Along.{wrote-more}

@@ -1,4 +1,4 @@
--- `encode::put_operator` meets its contract.
+-- `encode::put_operator` meets its contract: the head and the byte of the operator are the field 44.
 -- Assumes nothing.
 use Rattle.fields.specs.Table.{rows, tag-length, field-size}
 use Rattle.encode.proofs.Along.{wrote-more}

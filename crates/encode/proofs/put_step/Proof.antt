@@ -1,4 +1,4 @@
--- `encode::put_step` meets its contract.
+-- `encode::put_step` meets its contract: the head, the byte of the direction and that of the link are the field 43.
 -- Assumes nothing.
 use Rattle.fields.specs.Table.{rows, tag-length, field-size}
 use Rattle.encode.proofs.Along.{wrote-more}

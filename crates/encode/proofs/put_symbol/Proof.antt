@@ -1,4 +1,4 @@
--- `encode::put_symbol` meets its contract.
+-- `encode::put_symbol` meets its contract: a number below 128 is a step (direction number / 64, link modulo 64), 255 a join through a set, any other an operator.
 -- Assumes nothing.
 use Rattle.encode.proofs.Parts.{step-bytes, through-bytes, operator-bytes, step-room, through-room, operator-room}
 use borrow.Author.Needs.{needs}

@@ -1,4 +1,4 @@
--- `encode::put_symbols` meets its contract.
+-- `encode::put_symbols` meets its contract: a turn writes one symbol's field, and the fields of the symbols left are always what is still to be written.
 -- Assumes nothing.
 use Rattle.encode.proofs.Symbols.{Symbols, symbols-start, symbols-room, symbols-next, symbols-end}
 use Rattle.encode.proofs.Along.{along-length}

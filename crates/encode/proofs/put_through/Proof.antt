@@ -1,4 +1,4 @@
--- `encode::put_through` meets its contract.
+-- `encode::put_through` meets its contract: the head and the eight bytes of the set are the field 45.
 -- Assumes nothing.
 use Rattle.fields.specs.Table.{rows, tag-length, field-size}
 use Rattle.encode.proofs.Along.{wrote-more}

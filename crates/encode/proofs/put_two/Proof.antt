@@ -1,4 +1,4 @@
--- `encode::put_two` meets its contract.
+-- `encode::put_two` meets its contract: quotient and remainder by 256 are the two bytes, the high one first, and both are below 256.
 -- Assumes nothing.
 use Rattle.encode.proofs.Along.{wrote-more}
 use borrow.Author.Needs.{needs}

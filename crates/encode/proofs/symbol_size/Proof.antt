@@ -1,4 +1,4 @@
--- `encode::symbol_size` meets its contract.
+-- `encode::symbol_size` meets its contract: the number tells the field's tag, and the table of tags has lengths that make 5, 11 and 4 bytes.
 -- Assumes nothing.
 use Rattle.fields.specs.Table.{rows, tag-length, field-size}
 use mathlib.Core.Path.{refl}

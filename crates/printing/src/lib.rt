@@ -141,7 +141,7 @@ pub fn put_answer(
     put_pairs(out, c, words, n, w)
 }
 
-// What a refusal is about.
+// ` in ` and the name of what a refusal is about.
 fn put_source(out: &mut [u8], at: usize, source: Source) -> usize
     requires { ⌜ at + length (in-source source) ≤ length (now out) ⌝ }
     ensures { λ r. ⌜ Wrote (now (out .entry)) (now (out .exit)) at r (in-source source) ⌝ }

@@ -1,4 +1,4 @@
--- `printing::count_pairs` meets its contract.
+-- `printing::count_pairs` meets its contract: row s of the words has the pairs from s, and what was counted with the pairs of the rows to come is the whole number.
 -- Assumes nothing.
 use borrow.Author.Needs.{needs}
 use Prim.Native.Nat.{ℕ, _-_, _*_, _≤_}

@@ -1,4 +1,4 @@
--- `printing::count_row` meets its contract.
+-- `printing::count_row` meets its contract: a turn adds one where the bit is set, and what was counted with the bits still to come is the whole number, at most one a turn.
 -- Assumes nothing.
 use borrow.Author.Needs.{needs}
 use Prim.Native.Nat.{_-_, _≤_}

@@ -1,4 +1,4 @@
--- `printing::put_answer` meets its contract.
+-- `printing::put_answer` meets its contract: `count_pairs` gives the number that is due, and the two numbers, a line end and the lines of the pairs make the text.
 -- Assumes nothing.
 use borrow.Author.Needs.{needs}
 use Rattle.printing.proofs.put_answer.Statement.{statement}

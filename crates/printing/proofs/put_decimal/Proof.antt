@@ -1,4 +1,4 @@
--- `printing::put_decimal` meets its contract.
+-- `printing::put_decimal` meets its contract: the fewest digits that hold a number are its decimal digits, and a number of 64 bits has at most 20.
 -- Assumes nothing.
 use borrow.Author.Needs.{needs}
 use Rattle.printing.proofs.put_decimal.Statement.{statement}

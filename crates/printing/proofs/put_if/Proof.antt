@@ -1,4 +1,4 @@
--- `printing::put_if` meets its contract.
+-- `printing::put_if` meets its contract: where there is no pair its text is empty, and nothing is written.
 -- Assumes nothing.
 use borrow.Author.Needs.{needs}
 use Rattle.printing.proofs.put_if.Statement.{statement}

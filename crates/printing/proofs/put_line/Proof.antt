@@ -1,4 +1,4 @@
--- `printing::put_line` meets its contract.
+-- `printing::put_line` meets its contract: the two numbers, a space between them and a line end are the line, and each finds the room that the ones before it leave.
 -- Assumes nothing.
 use borrow.Author.Needs.{needs}
 use Rattle.printing.proofs.put_line.Statement.{statement}

@@ -1,4 +1,4 @@
--- `printing::put_number` meets its contract.
+-- `printing::put_number` meets its contract: the digits start where the text ends, and what it leaves of the area has room for them.
 -- Assumes nothing.
 use borrow.Author.Needs.{needs}
 use Rattle.printing.proofs.put_number.Statement.{statement}

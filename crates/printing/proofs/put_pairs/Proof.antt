@@ -1,4 +1,4 @@
--- `printing::put_pairs` meets its contract.
+-- `printing::put_pairs` meets its contract: row s of the words has the pairs from s, so a turn writes the lines of one record, and those of the records after it are left.
 -- Assumes nothing.
 use borrow.Author.Needs.{needs}
 use Prim.Native.Nat.{ℕ, _-_}

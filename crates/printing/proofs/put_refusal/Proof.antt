@@ -1,4 +1,4 @@
--- `printing::put_refusal` meets its contract.
+-- `printing::put_refusal` meets its contract: number, source and place are the refusal's own, and their four pieces in this order are the text.
 -- Assumes nothing.
 use borrow.Author.Needs.{needs}
 use Rattle.printing.proofs.put_refusal.Statement.{statement}

@@ -1,4 +1,4 @@
--- `printing::put_row` meets its contract.
+-- `printing::put_row` meets its contract: a bit that is set has its line and any other an empty piece, and the pieces in order are the lines of the bits that are set.
 -- Assumes nothing.
 use borrow.Author.Needs.{needs}
 use Prim.Native.Nat.{_-_}

@@ -1,4 +1,4 @@
--- `printing::put_source` meets its contract.
+-- `printing::put_source` meets its contract: the bytes of each arm are ` in ` and the name of its source.
 -- Assumes nothing.
 use borrow.Author.Needs.{needs}
 use Rattle.printing.proofs.put_source.Statement.{statement}

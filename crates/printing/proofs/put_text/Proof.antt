@@ -1,4 +1,4 @@
--- `printing::put_text` meets its contract.
+-- `printing::put_text` meets its contract: a turn writes byte i, and the bytes after it are what is left.
 -- Assumes nothing.
 use borrow.Author.Needs.{needs}
 use Prim.Native.Nat.{_-_, _≤_}

@@ -28,7 +28,7 @@ pub fn wide(k: Kind) -> usize
     k.0 as usize
 }
 
-// The word of a mask for the m records from g on: those whose kind is in the set. No test of a kind is a branch.
+// The word of a mask for the m records from g on: those whose kind is in the set, found without a branch.
 fn kind_word(register: &[u8], g: usize, m: usize, set: u64) -> u64
     requires { ⌜ Accepted (now register) × (g + m ≤ records (register-in (now register))) × (m ≤ 64) ⌝ }
     ensures { λ v. ⌜ Word (λ i. has set (kind (register-in (now (register .entry))) (g + i))) m v ⌝ }
@@ -112,8 +112,8 @@ pub fn step(work: &mut [u64], b: usize, n: usize, w: usize, register: &[u8], l: 
     add_links(work, b, n, w, register, l, forward);
 }
 
-// The relation at p becomes its plain join with the one at q. Its bits are taken from these two as they came, with no spare relation: no
-// word outside the one at p changes (`kept` of `Made`).
+// The relation at p becomes its plain join with the one at q, both as they were at entry. It needs no spare relation: no word outside
+// the one at p changes (`kept` of `Made`).
 fn join(work: &mut [u64], p: usize, q: usize, n: usize, w: usize, register: &[u8])
     requires { ⌜ (p + n * w ≤ q) × (q + n * w ≤ length (now work)) × Ground (now register) n w × Clean (now work) p n w ⌝ }
     ensures { λ _. ⌜ Made p n w (binary? (register-in (now (register .entry))) (s-join any) (pair-at (now (work .entry)) p w) (pair-at (now (work .entry)) q w)) (now (work .entry)) (now (work .exit)) ⌝ }
@@ -157,7 +157,7 @@ fn combine(
     }
 }
 
-// The symbol is a closure.
+// Is the symbol a closure?
 fn closes(number: u8) -> bool
     ensures { λ r. ⌜ r ≡ closes? number ⌝ }
 {
@@ -167,7 +167,7 @@ fn closes(number: u8) -> bool
     133 <= number
 }
 
-// One symbol more. The stack ends at word b; where it ends after it.
+// Applies one symbol to the stack, which ends at word b; returns where it ends then.
 fn apply(
     work: &mut [u64],
     b: usize,
@@ -198,7 +198,7 @@ fn apply(
     a
 }
 
-// The relation at 0 becomes the pairs of the path that the `count` symbols from the first on make.
+// The relation at 0 becomes the pairs of the path that the `count` symbols from number `first` on make.
 pub fn evaluate(
     work: &mut [u64],
     n: usize,

@@ -1,4 +1,4 @@
--- `evaluation::add_link` meets its contract.
+-- `evaluation::add_link` meets its contract: a link named l leads from its first record to its second, or back where the step is reversed, and a link of another name adds no pair.
 -- Assumes nothing.
 use Rattle.evaluation.specs.Ground.{direction}
 use Rattle.evaluation.proofs.Links.{made-forward, made-reverse, made-neither}

@@ -1,4 +1,4 @@
--- `evaluation::add_links` meets its contract.
+-- `evaluation::add_links` meets its contract: the relation with the pairs of the links still to come is always the one that is due, and each link joins two of the n records.
 -- Assumes nothing.
 use Rattle.evaluation.proofs.Links.{Passing, passing-start, passing-end, passing-more, link-inside}
 use Rattle.evaluation.proofs.Grounds.{rows-hold}

@@ -1,4 +1,4 @@
--- `evaluation::apply` meets its contract.
+-- `evaluation::apply` meets its contract: a symbol that fits has its operands on top of the stack; its relation takes their place, a step's goes on top, and those below stay.
 -- Assumes nothing.
 use Rattle.evaluation.proofs.Applying.{fits-operator}
 use mathlib.Core.Path.{sym, _∙_}

@@ -1,4 +1,4 @@
--- `evaluation::closes` meets its contract.
+-- `evaluation::closes` meets its contract: its tests are those of the definition: 133 and up, but for 255, a join through a set.
 -- Assumes nothing.
 use borrow.Author.Tests.{eq-eqb, ne-eqb}
 use Rattle.evaluation.specs.Ground.{closes?}

@@ -1,4 +1,4 @@
--- `evaluation::combine` meets its contract.
+-- `evaluation::combine` meets its contract: each arm makes the pairs of the operator with its number, and any other number that is no closure is 255, a join through a set.
 -- Assumes nothing.
 use Rattle.evaluation.proofs.Joins.{by-join, by-op}
 use Rattle.symbols.proofs.Numbers.{join-number, union-number, conjunction-number, right-number, left-number, through-number}

@@ -1,4 +1,4 @@
--- `evaluation::evaluate` meets its contract.
+-- `evaluation::evaluate` meets its contract: the rest of the symbols makes the path out of the relations on the stack, of which 48 symbols never need more than 24.
 -- Assumes nothing.
 use Rattle.evaluation.proofs.Going.{Going, going-start, going-more, going-end, fits}
 use Rattle.register.specs.Form.{register-in}

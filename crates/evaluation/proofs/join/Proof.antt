@@ -1,4 +1,4 @@
--- `evaluation::join` meets its contract.
+-- `evaluation::join` meets its contract: a mask of ones lets every record pass, so the join through it is the plain one.
 -- Assumes nothing.
 use Rattle.evaluation.proofs.Joins.{join-plain}
 use Rattle.evaluation.proofs.Grounds.{rows-hold, narrow}

@@ -1,4 +1,4 @@
--- `evaluation::join_through` meets its contract.
+-- `evaluation::join_through` meets its contract: the mask has exactly the records whose kind is in the set, and the join goes through the records that it has.
 -- Assumes nothing.
 use Rattle.evaluation.proofs.Joins.{join-kinds}
 use Rattle.evaluation.proofs.Grounds.{rows-hold, narrow}

@@ -1,4 +1,4 @@
--- `evaluation::kind_mask` meets its contract.
+-- `evaluation::kind_mask` meets its contract: a turn makes one word, of the 64 records that it stands for or of all that are left.
 -- Assumes nothing.
 use Rattle.rows.specs.Row.{Row, mask-of}
 use Rattle.rows.proofs.Masks.{mask-start, mask-word}

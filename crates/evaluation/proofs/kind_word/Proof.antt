@@ -1,4 +1,4 @@
--- `evaluation::kind_word` meets its contract.
+-- `evaluation::kind_word` meets its contract: a turn moves the bit that the set has for the record's kind to the record's place, and changes no other bit.
 -- Assumes nothing.
 use mathlib.Core.Path.{_≡_}
 use Rattle.rows.specs.Row.{Word}

@@ -1,4 +1,4 @@
--- `evaluation::step` meets its contract.
+-- `evaluation::step` meets its contract: a relation that was cleared took in the pairs of the step, and so has no others.
 -- Assumes nothing.
 use Rattle.register.specs.Form.{register-in}
 use Rattle.evaluation.proofs.Links.{step-made}

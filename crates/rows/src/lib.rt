@@ -16,7 +16,7 @@ pub fn has(words: &[u64], r: usize, t: usize) -> bool
     bits::bit(words[r + t / 64], t % 64)
 }
 
-// The row at d has bit t too.
+// Sets bit t of the row at d.
 pub fn set(words: &mut [u64], d: usize, t: usize)
     requires { ⌜ d + t / 64 < length (now words) ⌝ }
     ensures { λ _. ⌜ Put d t (λ j. row-bit (now (words .entry)) d j || eqb j t) (now (words .entry)) (now (words .exit)) ⌝ }
@@ -25,7 +25,7 @@ pub fn set(words: &mut [u64], d: usize, t: usize)
     words[a] = bits::with_bit(words[a], t % 64);
 }
 
-// The row at d loses bit t.
+// Clears bit t of the row at d.
 pub fn unset(words: &mut [u64], d: usize, t: usize)
     requires { ⌜ d + t / 64 < length (now words) ⌝ }
     ensures { λ _. ⌜ Put d t (λ j. row-bit (now (words .entry)) d j && not (eqb j t)) (now (words .entry)) (now (words .exit)) ⌝ }
@@ -34,7 +34,7 @@ pub fn unset(words: &mut [u64], d: usize, t: usize)
     words[a] = bits::without_bit(words[a], t % 64);
 }
 
-// The row at the start has bit t too, where b is true.
+// Sets bit t of the row at the start, if b is true.
 pub fn set_if(words: &mut [u64], t: usize, b: bool)
     requires { ⌜ t / 64 < length (now words) ⌝ }
     ensures { λ _. ⌜ Put 0 t (λ j. row-bit (now (words .entry)) 0 j || (b && eqb j t)) (now (words .entry)) (now (words .exit)) ⌝ }
@@ -66,7 +66,7 @@ pub fn in_word(n: usize, g: usize) -> usize
     64
 }
 
-// As `any`, by a loop: the union of the words, so that no turn hangs on the one before it.
+// As `any`, by a loop that unites the words: with no early exit it can be vectorised.
 fn any_words(words: &[u64], r: usize, n: usize) -> bool
     requires { ⌜ r + n ≤ length (now words) ⌝ }
     ensures { λ a. ⌜ a ≡ some? (row-bit (now (words .entry)) r) (range (64 * n)) ⌝ }
@@ -92,7 +92,7 @@ fn any_narrow(words: &[u64], r: usize, n: usize) -> bool
     }
 }
 
-// Whether the row of n words at r has a bit. Of constant length where `copy` is.
+// Whether the row of n words at r has a bit. Fixed loop lengths as in `copy`.
 pub fn any(words: &[u64], r: usize, n: usize) -> bool
     requires { ⌜ r + n ≤ length (now words) ⌝ }
     ensures { λ a. ⌜ a ≡ some? (row-bit (now (words .entry)) r) (range (64 * n)) ⌝ }
@@ -129,7 +129,7 @@ fn meets_narrow(words: &[u64], r: usize, a: &[u64], b: &[u64], n: usize) -> bool
     }
 }
 
-// Whether the row of n words at r and both masks have a bit in common. Of constant length where `copy` is.
+// Whether the row of n words at r and both masks have a bit in common. Fixed loop lengths as in `copy`.
 fn meets(words: &[u64], r: usize, a: &[u64], b: &[u64], n: usize) -> bool
     requires { ⌜ (r + n ≤ length (now words)) × (n ≤ length (now a)) × (n ≤ length (now b)) ⌝ }
     ensures { λ m. ⌜ m ≡ some? (common (now (words .entry)) r (now (a .entry)) (now (b .entry))) (range (64 * n)) ⌝ }
@@ -154,8 +154,8 @@ fn first_by_word(words: &[u64], r: usize, a: &[u64], b: &[u64], n: usize) -> usi
     64 * n
 }
 
-// The first bit that the row of n words at r and both masks have; 64 n where there is none. That there is none is told by a loop that is
-// made wide, without a branch for each word.
+// The first bit that the row of n words at r and both masks have; 64 n where there is none. Whether there is one is told by a loop that
+// can be vectorised, without a branch for each word.
 pub fn first(words: &[u64], r: usize, a: &[u64], b: &[u64], n: usize) -> usize
     requires { ⌜ (r + n ≤ length (now words)) × (n ≤ length (now a)) × (n ≤ length (now b)) × (n ≤ 16) ⌝ }
     ensures { λ k. ⌜ Least (common (now (words .entry)) r (now (a .entry)) (now (b .entry))) (64 * n) k ⌝ }
@@ -190,8 +190,8 @@ fn copy_narrow(to: &mut [u64], d: usize, from: &[u64], s: usize, n: usize)
     }
 }
 
-// The row of n words at d becomes the one at s. Rows of 1, 2, 4, 8 and 16 words are worth a loop of constant length; that of 16, the largest
-// registers', one that is taken in where it is called.
+// The row of n words at d becomes the one at s. Rows of 1, 2, 4, 8 and 16 words have a loop of constant length each; that of 16 words,
+// for the largest registers, is inlined at the call.
 pub fn copy(to: &mut [u64], d: usize, from: &[u64], s: usize, n: usize)
     requires { ⌜ (d + n ≤ length (now to)) × (s + n ≤ length (now from)) ⌝ }
     ensures { λ _. ⌜ Row d n (row-bit (now (from .entry)) s) (now (to .entry)) (now (to .exit)) ⌝ }
@@ -227,7 +227,7 @@ fn unite_narrow(to: &mut [u64], d: usize, from: &[u64], s: usize, n: usize)
     }
 }
 
-// The row of n words at d takes in the bits of the one at s. Of constant length where `copy` is.
+// The row of n words at d takes in the bits of the one at s. Fixed loop lengths as in `copy`.
 pub fn unite(to: &mut [u64], d: usize, from: &[u64], s: usize, n: usize)
     requires { ⌜ (d + n ≤ length (now to)) × (s + n ≤ length (now from)) ⌝ }
     ensures { λ _. ⌜ Row d n (λ t. row-bit (now (to .entry)) d t || row-bit (now (from .entry)) s t) (now (to .entry)) (now (to .exit)) ⌝ }
@@ -263,7 +263,7 @@ fn restrict_narrow(to: &mut [u64], d: usize, from: &[u64], s: usize, n: usize)
     }
 }
 
-// The row of n words at d loses the bits that the one at s lacks. Of constant length where `copy` is.
+// The row of n words at d loses the bits that the one at s lacks. Fixed loop lengths as in `copy`.
 pub fn restrict(to: &mut [u64], d: usize, from: &[u64], s: usize, n: usize)
     requires { ⌜ (d + n ≤ length (now to)) × (s + n ≤ length (now from)) ⌝ }
     ensures { λ _. ⌜ Row d n (λ t. row-bit (now (to .entry)) d t && row-bit (now (from .entry)) s t) (now (to .entry)) (now (to .exit)) ⌝ }
@@ -300,7 +300,7 @@ fn exclude_narrow(to: &mut [u64], d: usize, from: &[u64], s: usize, n: usize)
     }
 }
 
-// The row of n words at d loses the bits of the one at s. Of constant length where `copy` is.
+// The row of n words at d loses the bits of the one at s. Fixed loop lengths as in `copy`.
 pub fn exclude(to: &mut [u64], d: usize, from: &[u64], s: usize, n: usize)
     requires { ⌜ (d + n ≤ length (now to)) × (s + n ≤ length (now from)) ⌝ }
     ensures { λ _. ⌜ Row d n (λ t. row-bit (now (to .entry)) d t && not (row-bit (now (from .entry)) s t)) (now (to .entry)) (now (to .exit)) ⌝ }
@@ -336,7 +336,7 @@ fn unite_masked_narrow(to: &mut [u64], d: usize, from: &[u64], s: usize, mask: &
     }
 }
 
-// The row of n words at d takes in those bits of the one at s that the mask has. Of constant length where `copy` is.
+// The row of n words at d takes in those bits of the one at s that the mask has. Fixed loop lengths as in `copy`.
 pub fn unite_masked(to: &mut [u64], d: usize, from: &[u64], s: usize, mask: &[u64], n: usize)
     requires { ⌜ (d + n ≤ length (now to)) × (s + n ≤ length (now from)) × (n ≤ length (now mask)) ⌝ }
     ensures { λ _. ⌜ Row d n (λ t. row-bit (now (to .entry)) d t || (row-bit (now (from .entry)) s t && row-bit (now (mask .entry)) 0 t)) (now (to .entry)) (now (to .exit)) ⌝ }

@@ -1,4 +1,4 @@
--- `rows::any_words` meets its contract.
+-- `rows::any_words` meets its contract: the union of the words is 0 only where each of them is, and a word that is not 0 has a bit.
 -- Assumes nothing.
 use Rattle.rows.proofs.Folded.{Folded, row-words, folded-none, folded-more, folded-any}
 use borrow.Author.Needs.{needs}

@@ -1,4 +1,4 @@
--- `rows::clear` meets its contract.
+-- `rows::clear` meets its contract: after j turns the first j words are 0, and no word outside of them has changed.
 -- Assumes nothing.
 use mathlib.Core.Path.{refl}
 use Rattle.rows.proofs.Words.{wrote-more, wrote-all}

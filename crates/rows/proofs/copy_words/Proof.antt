@@ -1,4 +1,4 @@
--- `rows::copy_words` meets its contract.
+-- `rows::copy_words` meets its contract: after j turns the first j words are those of the source, and rows of equal words have equal bits.
 -- Assumes nothing.
 use mathlib.Core.Path.{refl}
 use lib.ListN.{getD}

@@ -1,4 +1,4 @@
--- `rows::has` meets its contract.
+-- `rows::has` meets its contract: bit t of a row is defined as bit t mod 64 of its word t div 64.
 -- Assumes nothing.
 use Rattle.rows.specs.Row.{row-bit}
 use borrow.Author.Needs.{needs}

@@ -1,4 +1,4 @@
--- `rows::restrict_words` meets its contract.
+-- `rows::restrict_words` meets its contract: each turn finds a word as it was at the start, and cuts it down to the bits that the source's word has too.
 -- Assumes nothing.
 use mathlib.Core.Path.{refl, ap₂}
 use lib.Bits.{bitAnd}

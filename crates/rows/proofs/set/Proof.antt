@@ -1,4 +1,4 @@
--- `rows::set` meets its contract.
+-- `rows::set` meets its contract: word t div 64 gains bit t mod 64, and no other bit of the row is in that place.
 -- Assumes nothing.
 use Rattle.rows.proofs.Rows.{put-bit}
 use borrow.Author.Needs.{needs}

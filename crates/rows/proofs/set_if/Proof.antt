@@ -1,4 +1,4 @@
--- `rows::set_if` meets its contract.
+-- `rows::set_if` meets its contract: where b holds it is `set`, and otherwise the row that is due is the row as it was.
 -- Assumes nothing.
 use Rattle.rows.proofs.Rows.{put-yes, put-no}
 use borrow.Author.Needs.{needs}

@@ -1,4 +1,4 @@
--- `rows::unite_masked_words` meets its contract.
+-- `rows::unite_masked_words` meets its contract: each turn finds a word as it was at the start, and adds the bits that the source's word and the mask's have in common.
 -- Assumes nothing.
 use mathlib.Core.Path.{refl, ap₂}
 use lib.Bits.{bitOr, bitAnd}

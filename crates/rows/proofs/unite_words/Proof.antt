@@ -1,4 +1,4 @@
--- `rows::unite_words` meets its contract.
+-- `rows::unite_words` meets its contract: each turn finds a word as it was at the start, and adds the bits of the source's word.
 -- Assumes nothing.
 use mathlib.Core.Path.{refl, ap₂}
 use lib.Bits.{bitOr}

@@ -1,4 +1,4 @@
--- `rows::unset` meets its contract.
+-- `rows::unset` meets its contract: word t div 64 loses bit t mod 64, and every other bit of the row stays.
 -- Assumes nothing.
 use Rattle.rows.proofs.Rows.{put-none}
 use borrow.Author.Needs.{needs}

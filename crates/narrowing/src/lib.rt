@@ -17,7 +17,7 @@ ghost use Rattle.narrowing.specs.Said.{Narrows, Sizes, Unnamed, FirstUnn
 const NEED: usize = 8192;
 
 // The members of a question before a byte of their file is written: the numbers of members and of bytes, or why there are none;
-// and, in the members' order, the nodes of so many triples, out of those in use.
+// the nodes of their triples in the members' order, and how many; and how many nodes are in use.
 struct Counted {
     outcome: Written,
     order: [usize; 128],
@@ -32,7 +32,7 @@ struct Prepared {
     words: usize,
 }
 
-// Is the code that of a step whose link is not one of so many?
+// Is the code that of a step whose link is not below `links`?
 fn unnamed(code: u8, links: u8) -> bool
     ensures { λ r. ⌜ Unnamed links code r ⌝ }
 {
@@ -43,7 +43,7 @@ fn unnamed(code: u8, links: u8) -> bool
     false
 }
 
-// 11: the first of `count` symbols whose link is not one of so many; `count` where there is none.
+// 11: the first of `count` symbols whose link is not below `links`; `count` where there is none.
 pub fn first_unnamed(codes: &[u8], count: usize, links: u8) -> usize
     requires { ⌜ count ≤ length (now codes) ⌝ }
     ensures { λ r. ⌜ FirstUnnamed links (take count (now (codes .entry))) r ⌝ }
@@ -87,7 +87,7 @@ fn count_members(words: &[u64], codes: &[u8], s: usize, e: usize) -> Counted
     }
 }
 
-// 12 or 13, or the members, by a sheet's table of so many kinds.
+// Refusal 12 or 13, or the members, by a sheet's table of `kinds` kinds.
 fn count_named(
     codes: &[u8],
     count: usize,
@@ -104,7 +104,7 @@ fn count_named(
     }
 }
 
-// 11, or what comes of it.
+// Refusal 11, or what `count_named` finds.
 fn count_codes(
     codes: &[u8],
     count: usize,
@@ -134,7 +134,7 @@ fn unprepared(s: Source, r: Refusal) -> Prepared
     }
 }
 
-// The files, 15, and what comes of them: all of narrowing but the file.
+// The files' refusals, 15, or what `count_codes` finds: narrowing up to the file.
 fn prepare(sheet: &[u8], question: &[u8], work: &mut [u64]) -> Prepared
     ensures { λ p. ⌜ Prepares (now (sheet .entry)) (now (question .entry)) (now (work .entry)) (now (work .exit)) p ⌝ }
 {
@@ -169,7 +169,7 @@ fn prepare(sheet: &[u8], question: &[u8], work: &mut [u64]) -> Prepared
     }
 }
 
-// 14, or the file of the members; a refusal stays.
+// An earlier refusal, 14, or the file of the members.
 fn put_members(words: &[u64], codes: &[u8], counted: Counted, file: &mut [u8]) -> Written
     requires { ⌜ Known (now codes) (now words) counted ⌝ }
     ensures { λ o. ⌜ Puts (now (codes .entry)) (now (words .entry)) counted (now (file .entry)) (now (file .exit)) o ⌝ }
@@ -195,7 +195,7 @@ fn put_members(words: &[u64], codes: &[u8], counted: Counted, file: &mut [u8]) -
     }
 }
 
-// 12 or 13, 14, or the file, by a sheet's table of so many kinds.
+// Refusal 12, 13 or 14, or the file, by a sheet's table of `kinds` kinds.
 pub fn narrow_named(
     codes: &[u8],
     count: usize,

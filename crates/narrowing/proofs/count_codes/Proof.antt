@@ -1,4 +1,4 @@
--- `narrowing::count_codes` meets its contract.
+-- `narrowing::count_codes` meets its contract: the first link without a name is refused with 11, before all else; where each has one, what `count_named` counts is due.
 -- Assumes nothing.
 use borrow.Author.Needs.{needs}
 use Rattle.narrowing.proofs.count_codes.Statement.{statement}

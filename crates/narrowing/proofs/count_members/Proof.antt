@@ -1,4 +1,4 @@
--- `narrowing::count_members` meets its contract.
+-- `narrowing::count_members` meets its contract: the triples in the order of `arrange` group into exactly the members, of which `measure` tells number and bytes.
 -- Assumes nothing.
 use borrow.Author.Needs.{needs}
 use Rattle.narrowing.proofs.count_members.Statement.{statement}

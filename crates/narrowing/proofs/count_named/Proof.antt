@@ -1,4 +1,4 @@
--- `narrowing::count_named` meets its contract.
+-- `narrowing::count_named` meets its contract: inference gives the refusal that is due, 12 or 13, or nodes that are the question's triples, whose members are counted.
 -- Assumes nothing.
 use borrow.Author.Needs.{needs}
 use Rattle.narrowing.proofs.count_named.Statement.{statement}

@@ -1,4 +1,4 @@
--- `narrowing::first_unnamed` meets its contract.
+-- `narrowing::first_unnamed` meets its contract: a symbol whose link has a name refuses nothing, so the search from i on finds what the search from 0 finds.
 -- Assumes nothing.
 use borrow.Author.Needs.{needs}
 use Prim.Native.Nat.{_-_}

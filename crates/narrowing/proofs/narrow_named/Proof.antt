@@ -1,4 +1,4 @@
--- `narrowing::narrow_named` meets its contract.
+-- `narrowing::narrow_named` meets its contract: what `count_named` found to be due, members or a refusal, is what `put_members` puts into the area.
 -- Assumes nothing.
 use borrow.Author.Needs.{needs}
 use Rattle.narrowing.proofs.narrow_named.Statement.{statement}

@@ -1,4 +1,4 @@
--- `narrowing::narrowed_size` meets its contract.
+-- `narrowing::narrowed_size` meets its contract: `prepare` counted the members and bytes of the file, or found its refusal, and the words that it used are zeroed.
 -- Assumes nothing.
 use borrow.Author.Needs.{needs}
 use Rattle.narrowing.proofs.narrowed_size.Statement.{statement}

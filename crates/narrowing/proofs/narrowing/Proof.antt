@@ -1,4 +1,4 @@
--- `narrowing::narrowing` meets its contract.
+-- `narrowing::narrowing` meets its contract: `put_members` puts what `prepare` found to be due into the area, and then the work words that were used are zeroed.
 -- Assumes nothing.
 use borrow.Author.Needs.{needs}
 use Rattle.narrowing.proofs.narrowing.Statement.{statement}

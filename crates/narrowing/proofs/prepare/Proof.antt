@@ -1,4 +1,4 @@
--- `narrowing::prepare` meets its contract.
+-- `narrowing::prepare` meets its contract: the sheet is judged first, then the question, 15, and 11 to 13, and before 15 is passed no work word is touched.
 -- Assumes nothing.
 use borrow.Author.Needs.{needs}
 use Rattle.narrowing.proofs.prepare.Statement.{statement}

@@ -1,4 +1,4 @@
--- `narrowing::put_members` meets its contract.
+-- `narrowing::put_members` meets its contract: a refusal changes no byte, and the bytes counted are the length of the file, so that 14 is told just where it has no room.
 -- Assumes nothing.
 use borrow.Author.Needs.{needs}
 use Rattle.narrowing.proofs.put_members.Statement.{statement}

@@ -1,4 +1,4 @@
--- `narrowing::unnamed` meets its contract.
+-- `narrowing::unnamed` meets its contract: a step's link is its code modulo 64, with a name where it is below the number of links; no other symbol has a link.
 -- Assumes nothing.
 use borrow.Author.Needs.{needs}
 use Rattle.narrowing.proofs.unnamed.Statement.{statement}

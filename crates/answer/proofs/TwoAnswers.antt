@@ -1,5 +1,5 @@
 -- Demand 3 on a register's file: a plain answer of a question and a narrowed answer of the file of its members, neither refused.
--- 01-scope.md, "How far a contract reaches", point 5.
+-- SPECIFICATION, Promises.
 -- Assumes nothing.
 use mathlib.Core.Path.{_≡_, refl, sym, ap, subst, _∙_}
 use mathlib.Core.List.{List, [], _∷_, map, List·Memᴰ as In, List·Memᴰ·head as here, List·Memᴰ·tail as there}

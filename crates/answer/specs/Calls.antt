@@ -1,5 +1,5 @@
 -- The plain and the narrowed answer: what each call yields, and what it leaves in the areas that are lent to it.
--- 01-scope.md, "Refused on the state's account": the words of an answer, 14, 15, the order of refusals, the work words.
+-- SPECIFICATION, Areas and words: the words of an answer, the work words; The calls: the order of refusals.
 -- Assumes nothing.
 use mathlib.Core.Bool.{Bool, false, cond}
 use mathlib.Core.List.{List, [], _∷_}

@@ -1,5 +1,5 @@
 -- What the rule of a closure asks, and what its pieces ask.
--- 01-scope.md, "Inference and merging": "Chain of a part".
+-- SPECIFICATION, Chains in inference.
 -- Assumes nothing.
 use mathlib.Core.Path.{_≡_}
 use mathlib.Core.Bool.{true}

@@ -1,5 +1,5 @@
 -- The closures that stay as they are, by the words of a graph.
--- 01-scope.md, "Inference and merging": "Where a walk from A to B meets a ringed kind, ends counted, (A, chain of the original part, B) is in."
+-- SPECIFICATION, Chains in inference: where a walk between two kinds meets a cyclic one, the chain of the original part stands between them.
 -- Assumes nothing.
 use mathlib.Core.List.{List, [], _∷_}
 use Prim.Native.Nat.{ℕ, _-_}

@@ -1,5 +1,5 @@
 -- The check: does a register obey a sheet.
--- 01-scope.md, "What the work covers"; refusal 16; the order of refusals: sheet, register, 16.
+-- SPECIFICATION, Words (obeys); Refusals, 16; The calls: sheet, register, 16.
 -- Assumes nothing.
 use mathlib.Core.List.{List}
 use mathlib.Core.Option.{Option, none, some}

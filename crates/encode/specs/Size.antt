@@ -1,5 +1,5 @@
 -- How many bytes a symbol's field takes.
--- 01-scope.md, "Fields of a file": 43, 44, 45.
+-- SPECIFICATION, Files in general: 43, 44, 45.
 -- Assumes nothing.
 use mathlib.Core.Bool.{cond}
 use Prim.Native.Nat.{ℕ}

@@ -1,5 +1,5 @@
 -- What a call yields: a value; or a refusal, with what it is about, its number and its place.
--- 01-scope.md, case 11: "number, file (`work` for 11 to 16), place".
+-- SPECIFICATION, Refusals: a number, a file (the work for 11 to 16), a place.
 -- Assumes nothing.
 use mathlib.Core.Bool.{cond}
 use mathlib.Core.List.{List}

@@ -1,5 +1,5 @@
 -- What it is to read a file: one definition for the four kinds of file.
--- 01-scope.md, "Refused on the input's account": "Fields are taken from the left. In one field the order is 5, 1 for the head, 2, 1 for the body, 3, 6, 4."
+-- SPECIFICATION, Order in a field: 5, 1 for the head, 2, 1 for the body, 3, 6, 4; fields are taken from the left.
 -- Assumes nothing.
 use mathlib.Core.Bool.{Bool, cond, _&&_}
 use mathlib.Core.List.{List}

@@ -1,4 +1,4 @@
--- The table of tags. 01-scope.md, "Fields of a file": "Each tag has one fixed length."
+-- The table of tags. SPECIFICATION, Files in general.
 -- Assumes nothing.
 use mathlib.Core.Bool.{Bool, true, false, cond, _&&_, _||_}
 use mathlib.Core.List.{List, [], _∷_}

@@ -1,5 +1,5 @@
 -- The bytes of a field.
--- 01-scope.md, "Fields of a file": "a one-byte tag, a two-byte length and a body"; "Numbers in files have their high byte first."
+-- SPECIFICATION, Files in general: a tag, a length of two bytes, a body; the high byte first.
 -- Assumes nothing.
 use mathlib.Core.List.{List, [], _∷_, _++_}
 use Prim.Native.Nat.{ℕ, _/_, _%_, _<_}

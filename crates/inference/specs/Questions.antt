@@ -1,5 +1,5 @@
 -- The inference of a whole question: what it asks, and what its answer says by any sheet that has the table.
--- 01-scope.md, "Inference and merging"; "Refused on the state's account": 12 and 13, at the first symbol that has either.
+-- SPECIFICATION, Inference; Limits of narrowing: 12 and 13, at the first symbol that has either.
 -- Assumes nothing.
 use mathlib.Core.Path.{_≡_}
 use mathlib.Core.Bool.{true}

@@ -1,5 +1,5 @@
 -- One symbol of a question: what its rule asks of the parts that it takes, and the triples of the part that it ends.
--- 01-scope.md, "Inference and merging": "Each symbol of the question ends a part of it, and each part has a set of triples".
+-- SPECIFICATION, Inference: each symbol ends a part, and each part has a set of triples.
 -- Assumes nothing.
 use mathlib.Core.Path.{_≡_}
 use mathlib.Core.Bool.{cond}

@@ -1,5 +1,5 @@
 -- The whole job: what the call yields, and what it leaves in the areas that are lent to it.
--- 01-scope.md, "Refused on the state's account": 11 to 16, the order of refusals, the work words, the words and bytes past the results.
+-- SPECIFICATION, The calls: the order of refusals; Areas and words: the work words, the words and bytes past the results.
 -- Assumes nothing.
 use mathlib.Core.Bool.{cond}
 use mathlib.Core.List.{List}

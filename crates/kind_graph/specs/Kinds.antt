@@ -1,5 +1,5 @@
 -- The graph of a part's kinds in 128 words.
--- 01-scope.md, "Inference and merging": a walk, a ringed kind, and the walks that meet one.
+-- SPECIFICATION, Chains in inference: a walk, a cyclic kind, and the walks that meet one.
 -- Assumes nothing.
 use mathlib.Core.Path.{_≡_}
 use mathlib.Core.Bool.{Bool}

@@ -1,5 +1,5 @@
 -- Members in the fields of a file: the numbers of their symbols, and how many bytes they take.
--- 01-scope.md, "Fields of a file": 41 to 45.
+-- SPECIFICATION, Narrowed files.
 -- Assumes nothing.
 use mathlib.Core.Path.{_≡_}
 use mathlib.Core.Bool.{cond}

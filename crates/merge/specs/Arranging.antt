@@ -1,5 +1,5 @@
 -- The nodes of a part, sorted by the codes of their paths, in an array of node numbers.
--- 01-scope.md, "Fields of a file" (the order of members).
+-- SPECIFICATION, Order of members.
 -- Assumes nothing.
 use mathlib.Core.Path.{_≡_}
 use mathlib.Core.Bool.{Bool}

@@ -1,5 +1,5 @@
 -- A run of nodes with equal codes in the sorted array, and the member that it makes.
--- 01-scope.md, "Inference and merging": "from set, to set and each join set are the unions".
+-- SPECIFICATION, Merging: from set, to set and each join set are the unions.
 -- Assumes nothing.
 use mathlib.Core.Path.{_≡_}
 use mathlib.Core.Bool.{Bool, true, false}

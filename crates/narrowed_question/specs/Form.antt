@@ -1,5 +1,5 @@
 -- The narrowed question's file: 41 and, for each member, 42 and its symbols.
--- 01-scope.md, "Fields of a file": 41 to 45, the order of members; refusals 3, 6 and 4.
+-- SPECIFICATION, Narrowed files, Order of members, Refused narrowed files.
 -- Assumes nothing.
 use mathlib.Core.Bool.{false, cond, _&&_}
 use mathlib.Core.List.{List, [], _∷_, _++_, map}

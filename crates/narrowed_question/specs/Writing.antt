@@ -1,5 +1,5 @@
 -- The bytes of a narrowed question.
--- 01-scope.md, "Fields of a file": 41, 42, and the symbols of each member.
+-- SPECIFICATION, Narrowed files: 41, 42, and the symbols of each member.
 -- Assumes nothing.
 use mathlib.Core.List.{List, _∷_, _++_}
 use Prim.Native.Nat.{ℕ}

@@ -1,5 +1,5 @@
 -- What the writer makes of the members that it is given.
--- 01-scope.md: "What the writer is given is judged as the file it would make: same number, same place, before 14."
+-- SPECIFICATION, The calls: what the writer is given is judged as the file that it would make, before 14.
 -- Assumes nothing.
 use mathlib.Core.Path.{_≡_}
 use mathlib.Core.Bool.{cond}

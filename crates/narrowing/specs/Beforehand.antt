@@ -1,5 +1,5 @@
 -- What the size of a narrowed question's file says of a narrowing with the same files and work area.
--- 02-change-requests.md, m: "a narrowing lent that many bytes is never refused with 14, and lent one fewer always is".
+-- SPECIFICATION, The calls: a narrowing lent that many bytes is never refused with 14, and lent one fewer always is.
 -- Assumes nothing.
 use mathlib.Core.Path.{_≡_}
 use mathlib.Core.List.{List}

@@ -1,6 +1,6 @@
 -- Narrowing, and the size of its file: what the calls yield, and what they leave in the areas that are lent to them.
--- 01-scope.md, "Refused on the state's account": 11 to 15, the order of refusals, the work words, the bytes past a narrowed file.
--- 02-change-requests.md, m: "its exact length in bytes, or the refusal that narrowing would give, without any area for the file".
+-- SPECIFICATION, The calls: the order of refusals; Areas and words: the work words, the bytes past a narrowed file.
+-- The bytes needed: the exact length, or the refusal that narrowing would give, without any area for the file.
 -- Assumes nothing.
 use mathlib.Core.Bool.{cond}
 use mathlib.Core.List.{List}

@@ -1,5 +1,5 @@
 -- Demand 3, whole, and no idle kind at a join: a sheet's file, a question's file, and the file that narrowing or the whole job wrote of them.
--- 01-scope.md, "How far a contract reaches", point 5; 02-change-requests.md, j. narrow-call, plain-call, narrowed-call and job-call are what the contracts of the calls cite.
+-- SPECIFICATION, Promises. narrow-call, plain-call, narrowed-call and job-call are what the contracts of the calls cite.
 -- Assumes nothing.
 use mathlib.Core.Path.{_≡_}
 use mathlib.Core.List.{List}

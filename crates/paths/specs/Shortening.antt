@@ -1,5 +1,5 @@
 -- A question's file and the file that shortening wrote of it, answered and narrowed.
--- 02-change-requests.md, g: "The result has the same pairs on every register"; "Narrowing a shortened question is judged by the rules over the shortened one."
+-- SPECIFICATION, Shortening: the same pairs on every register; narrowing is judged by the rules over the shortened question.
 -- Assumes nothing.
 use mathlib.Core.Path.{_≡_}
 use mathlib.Core.List.{List}

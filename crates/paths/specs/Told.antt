@@ -1,5 +1,5 @@
 -- What a caller is told: how a file is judged; in C, the outcome of a call in three numbers, and the areas that were lent.
--- 01-scope.md, "Refused on the state's account": "The calls are also exported for our fleet office program in C"; "The form each place needs": "a definition gives this paper's number and values for each case".
+-- SPECIFICATION, The calls; Refusals: number and place.
 -- Assumes nothing.
 use mathlib.Core.Path.{_≡_}
 use mathlib.Core.List.{List}

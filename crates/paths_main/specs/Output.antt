@@ -1,6 +1,5 @@
 -- What the program prints, by the bytes of its three files.
--- 01-scope.md, case 11: "The program reads files named sheet, question and register [..] The program lends 8,192 work words, 256 answer
--- words and 65,536 bytes for the narrowed file".
+-- SPECIFICATION, The program: it reads the files sheet, question and register, and lends 8,192 work words, 256 answer words and 65,536 bytes.
 -- Assumes nothing.
 use mathlib.Core.Path.{_≡_}
 use mathlib.Core.List.{List}

@@ -1,6 +1,6 @@
 -- What the program prints, as bytes.
--- 01-scope.md, case 11: "it prints exactly: `members 2 pairs 5`, then `0 3`, .., a line each (from and to record, ascending). A refusal
--- prints, for example, `refused 4 in sheet at 11`: number, file (`work` for 11 to 16), place."
+-- SPECIFICATION, The program: `members 2 pairs 5`, then `0 3`, .., a line each (from and to record, ascending). A refusal
+-- prints, for example, `refused 4 in sheet at 11`: number, file (`work` for 11 to 16), place.
 -- Assumes nothing.
 use mathlib.Core.Bool.{Bool, cond}
 use mathlib.Core.List.{List, [], _∷_, _++_}

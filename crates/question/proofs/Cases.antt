@@ -1,4 +1,4 @@
--- Files with what reading them yields, computed: the questions of cases 1 and 4 of 01-scope.md and the edges of a question.
+-- Files with what reading them yields, computed: the questions of cases 1 and 4 of SPECIFICATION and the edges of a question.
 -- Assumes nothing.
 use mathlib.Core.Path.{refl}
 use mathlib.Core.List.{List, [], _∷_}

@@ -1,5 +1,5 @@
 -- The question file: 21 and its symbols.
--- 01-scope.md, "Fields of a file": 21, 43, 44; refusals 3 and 6.
+-- SPECIFICATION, Questions, Refused questions.
 -- Assumes nothing.
 use mathlib.Core.Bool.{false, cond, _&&_}
 use mathlib.Core.List.{List, [], _∷_, _++_, map}

@@ -1,5 +1,5 @@
 -- The bytes of a question, by the codes of its symbols.
--- 01-scope.md, "Fields of a file": 21, and its symbols.
+-- SPECIFICATION, Questions.
 -- Assumes nothing.
 use mathlib.Core.List.{List, [], _∷_, _++_, map}
 use Prim.Native.Nat.{ℕ}

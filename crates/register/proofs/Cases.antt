@@ -1,4 +1,4 @@
--- Files with what reading them yields, computed: case 11 of 01-scope.md and the edges of a register.
+-- Files with what reading them yields, computed: case 11 of SPECIFICATION and the edges of a register.
 -- Assumes nothing.
 use mathlib.Core.Path.{refl}
 use mathlib.Core.List.{List, [], _∷_}

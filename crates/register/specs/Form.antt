@@ -1,5 +1,5 @@
 -- The register file: 31, its 32s, its 33s, the links strictly ascending.
--- 01-scope.md, "Fields of a file" (31, 32, 33) and "Refused on the input's account" (3, 4, 5).
+-- SPECIFICATION, Registers, Refused registers.
 -- Assumes nothing.
 use mathlib.Core.Bool.{Bool, false, cond, _&&_}
 use mathlib.Core.List.{List, [], _∷_, _++_}

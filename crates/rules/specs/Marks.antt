@@ -1,5 +1,5 @@
 -- The triples of a step by a sheet's table of permitted kinds.
--- 01-scope.md, "Inference and merging": "A forward step has each permitted triple of its link. Reverse swaps A and B."
+-- SPECIFICATION, Inference: a forward step has each permitted triple of its link, a reverse one swaps its kinds.
 -- Assumes nothing.
 use mathlib.Core.Path.{_≡_}
 use mathlib.Core.Bool.{Bool, cond}

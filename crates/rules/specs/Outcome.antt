@@ -1,5 +1,5 @@
 -- What a rule leaves: the outcome of its list of triples, and a part of the table that is that list.
--- 01-scope.md, "Inference and merging"; refusals 12 and 13, 13 before 12.
+-- SPECIFICATION, Inference; Limits of narrowing: 13 before 12.
 -- Assumes nothing.
 use mathlib.Core.Path.{_≡_}
 use mathlib.Core.Bool.{cond}

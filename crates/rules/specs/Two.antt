@@ -1,5 +1,5 @@
 -- The triples of two parts under an operator's code, and how the code makes them: which pairs fit, and what a pair gives.
--- 01-scope.md, "Inference and merging".
+-- SPECIFICATION, Inference.
 -- Assumes nothing.
 use mathlib.Core.Path.{_≡_}
 use mathlib.Core.Bool.{Bool, true, cond}

@@ -1,5 +1,5 @@
 -- Files with what reading them yields, computed: a sheet, and the edges of one.
--- 01-scope.md, refusals 1 to 5.
+-- SPECIFICATION, Refused sheets.
 -- Assumes nothing.
 use mathlib.Core.Path.{refl}
 use mathlib.Core.List.{List, [], _∷_, _++_}

@@ -1,5 +1,5 @@
 -- The sheet file: 11 and then 12s, up to 512 of them, strictly ascending.
--- 01-scope.md, "Fields of a file": 11, 12; "What the work covers": the limits; refusals 3 and 4.
+-- SPECIFICATION, Sheets, Limits, Refused sheets.
 -- Assumes nothing.
 use mathlib.Core.Bool.{true, false, cond, _&&_}
 use mathlib.Core.List.{List, [], _∷_, _++_}

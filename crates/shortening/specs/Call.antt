@@ -1,5 +1,5 @@
 -- Shortening a question: what the call yields, and what it leaves in the area that is lent to it.
--- 02-change-requests.md, g: "They are applied until none fits, and the result is written as a question file; an area too short for it is 14, after the file".
+-- SPECIFICATION, Shortening; The calls: an area too short for the result is 14, after the file.
 -- Assumes nothing.
 use mathlib.Core.List.{List, []}
 use mathlib.Core.Option.{Option, none, some}

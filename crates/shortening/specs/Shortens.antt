@@ -1,5 +1,5 @@
 -- What is promised of a question's file and of the file that shortening wrote of it. shorten-call is what the contract of the call cites.
--- 02-change-requests.md, g: "The result has the same pairs on every register, is never longer, does not depend on where one begins, and a second pass leaves it be."
+-- SPECIFICATION, Shortening: the same pairs on every register, never longer, the same wherever one begins, and left as it is by a second pass.
 -- Assumes nothing.
 use mathlib.Core.Path.{_≡_}
 use mathlib.Core.Logic.{_↔_}

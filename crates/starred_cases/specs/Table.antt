@@ -1,5 +1,5 @@
 -- The starred cases as one table: a question, the members that it narrows to on the sheet of the cases, and their file where the paper prints it.
--- 01-scope.md, "Sheet and register of the cases".
+-- SPECIFICATION, The example fleet, Cases.
 -- Assumes nothing.
 use mathlib.Core.List.{List, [], _∷_}
 use mathlib.Core.Option.{Option, none, some}

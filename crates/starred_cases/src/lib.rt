@@ -1,1 +1,1 @@
-// The starred cases of 01-scope.md: one table in specs/, one proof.
+// The starred cases of SPECIFICATION: one table in specs/, one proof.

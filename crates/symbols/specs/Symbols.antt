@@ -1,5 +1,5 @@
 -- The symbols of a path: what a symbol's field holds, and the counting of operands.
--- 01-scope.md, "Fields of a file": 43, 44, 45; refusals 3 and 6.
+-- SPECIFICATION, Paths and symbols; Refusals, 3 and 6.
 -- Assumes nothing.
 use mathlib.Core.Path.{_≡_}
 use mathlib.Core.Logic.{_⊎_}

@@ -1,5 +1,5 @@
 -- The bytes of a path's symbols.
--- 01-scope.md, "Fields of a file": 43, 44, 45.
+-- SPECIFICATION, Paths and symbols.
 -- Assumes nothing.
 use mathlib.Core.Bool.{cond}
 use mathlib.Core.List.{List, [], _∷_}

@@ -1,5 +1,5 @@
 -- The pairs of a narrowed question, and what narrowing promises of them: demand 3, over the definitions.
--- 01-scope.md, "The meaning of a path" (a narrowed question's answer) and "How far a contract reaches", point 5.
+-- SPECIFICATION, Answers, Promises.
 -- Assumes nothing.
 use mathlib.Core.Path.{_≡_}
 use mathlib.Core.Logic.{_↔_}

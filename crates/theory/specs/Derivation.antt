@@ -1,5 +1,5 @@
 -- The rules of inference as relations: what the triples of a part are. specs/Inference.antt computes them.
--- 01-scope.md, "Inference and merging" (source 000: figure 8 and definition 8, as amended there).
+-- SPECIFICATION, Inference, Chains in inference.
 -- Assumes nothing.
 use mathlib.Core.List.{List, [], _∷_, List·Memᴰ as In}
 use Prim.Native.Nat.{ℕ}

@@ -1,5 +1,5 @@
 -- The pairs of a path on a register, computed: a table of N rows of N. proofs/Evaluation.antt: they are those of `Holds`.
--- 01-scope.md, "The meaning of a path".
+-- SPECIFICATION, The meaning of a path.
 -- Assumes nothing.
 use mathlib.Core.Bool.{Bool, true, _&&_, _||_}
 use mathlib.Core.List.{List}

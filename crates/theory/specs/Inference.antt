@@ -1,5 +1,5 @@
 -- The triples of a part, computed as a list without repeats. proofs/Inference.antt: its elements are those of specs/Derivation.antt.
--- 01-scope.md, "Inference and merging".
+-- SPECIFICATION, Inference, Chains in inference.
 -- Assumes nothing.
 use mathlib.Core.Bool.{Bool, _&&_, _||_, not}
 use mathlib.Core.List.{List, [], _∷_, _++_}

@@ -1,4 +1,4 @@
--- Kind sets. 01-scope.md, "Fields of a file": "A kind set is 64 bits with kind k at value 2^k."
+-- Kind sets. SPECIFICATION, Files in general: a number of 64 bits in which kind k has the value 2^k.
 -- All else uses a set only through `has`, `singleton` and `set-union`, so that the width stands here alone.
 -- Assumes nothing.
 use mathlib.Core.Bool.{Bool}

@@ -1,5 +1,5 @@
 -- Members: triples whose paths differ only in join sets become one, in the order of their codes.
--- 01-scope.md, "Inference and merging" (source 000: definition 9) and "Fields of a file" (the order).
+-- SPECIFICATION, Merging, Order of members.
 -- Assumes nothing.
 use mathlib.Core.Bool.{Bool, cond}
 use mathlib.Core.List.{List, [], _∷_, List·Memᴰ as In}

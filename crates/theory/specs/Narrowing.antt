@@ -1,5 +1,5 @@
 -- Narrowing a question on a sheet: a refusal with its place, or the members.
--- 01-scope.md, "Refused on the state's account": 11, 12, 13 and their order; "Fields of a file" for what a file of members can hold.
+-- SPECIFICATION, Limits of narrowing: 11, 12, 13 and their order; Limits: what a file of members can hold.
 -- Assumes nothing.
 use mathlib.Core.Logic.{_⊎_}
 use mathlib.Core.Bool.{Bool, cond}

@@ -1,5 +1,5 @@
 -- No idle kind at a join: each kind in a member's join set matters on some register that conforms to the sheet.
--- 02-change-requests.md, j.
+-- SPECIFICATION, Promises.
 -- Assumes nothing.
 use mathlib.Core.List.{List, List·Memᴰ as In}
 use Prim.Native.Nat.{ℕ}

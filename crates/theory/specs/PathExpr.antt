@@ -1,5 +1,5 @@
 -- Path expressions, their symbols in postfix order, the symbols' codes and the order of codes.
--- 01-scope.md, "Fields of a file": symbols, operators, codes, the order of members.
+-- SPECIFICATION, Paths and symbols, Order of members.
 -- Assumes nothing.
 use mathlib.Core.Bool.{Bool, true, false, _&&_, _||_}
 use mathlib.Core.List.{List, [], _∷_, _++_, map}
@@ -18,12 +18,12 @@ pub data Via : Type 0 where
   through : ℕ → Via
   deriving Discrete as Via-discrete
 
--- the operators of two operands but join; conjunction is "both" of 01-scope.md
+-- the operators of two operands but join; conjunction is "both" of SPECIFICATION
 pub data Op : Type 0 where
   union conjunction branch-right branch-left : Op
   deriving Discrete as Op-discrete
 
--- a step along a link; the transitive closure is "chain" of 01-scope.md
+-- a step along a link; the transitive closure is "chain" of SPECIFICATION
 pub data PathExpr : Type 0 where
   step : Direction → ℕ → PathExpr
   join : Via → PathExpr → PathExpr → PathExpr

@@ -1,5 +1,5 @@
 -- Symbols in postfix order, read onto a stack of paths.
--- 01-scope.md: "Symbols stand in postfix order"; "chain takes one operand, the others two"; refusal 6; "Each symbol of the question ends a part of it".
+-- SPECIFICATION, Paths and symbols: postfix order, the operands of each symbol; Refusals, 6; Inference: each symbol ends a part.
 -- Assumes nothing.
 use mathlib.Core.List.{List, [], _∷_}
 use mathlib.Core.Option.{Option, none, some}

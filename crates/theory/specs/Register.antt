@@ -1,5 +1,5 @@
 -- Registers of any size, and the meaning of a path on one.
--- 01-scope.md, "What the work covers" (records, links) and "The meaning of a path".
+-- SPECIFICATION, Words (record, link), The meaning of a path.
 -- Assumes nothing.
 use mathlib.Core.Logic.{_⊎_}
 use mathlib.Core.Bool.{Bool, _&&_}

@@ -1,5 +1,5 @@
--- A sheet: its kinds, its link names, its permitted triples; when a register conforms to it ("obeys" in 01-scope.md), and the place where it does not.
--- 01-scope.md, "What the work covers", and refusal 16.
+-- A sheet: its kinds, its link names, its permitted triples; when a register conforms to it ("obeys" in SPECIFICATION), and the place where it does not.
+-- SPECIFICATION, Words; Refusals, 16.
 -- Assumes nothing.
 use mathlib.Core.Bool.{Bool, _&&_}
 use mathlib.Core.List.{List, List·Memᴰ as In}

@@ -1,5 +1,5 @@
--- Questions shortened beforehand: the five simplifications of source document 000, figure 6, R1 to R5, each anywhere in a path; and the path to which they lead.
--- 02-change-requests.md, g, which reads R2 and R4 without the chain outside.
+-- Questions shortened beforehand: the five simplifications R1 to R5, each anywhere in a path; and the path to which they lead.
+-- SPECIFICATION, Shortening.
 -- Assumes nothing.
 use Rattle.theory.specs.PathExpr.{Via, any, through, Op, union, conjunction, branch-right, branch-left, PathExpr, step, join, op, closure}
 

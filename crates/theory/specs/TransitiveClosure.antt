@@ -1,5 +1,5 @@
 -- The transitive closure of a relation: as a type; and as a table over the numbers below n, by Warshall's rule.
--- 01-scope.md: "Chain: one or more p joined" (the meaning of a path) and "a walk is one or more of its triples end to end" (inference).
+-- SPECIFICATION, Chain: one or more of a path joined; Chains in inference: a walk is one or more triples end to end.
 -- Assumes nothing.
 use mathlib.Core.Bool.{Bool, false, _&&_, _||_}
 use mathlib.Core.List.{List, []}

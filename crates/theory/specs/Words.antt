@@ -1,6 +1,6 @@
 -- An answer as 64-bit words.
--- 01-scope.md, "Refused on the state's account": "W is N divided by 64, rounded up. An answer area is N times W 64-bit words: bit t mod 64 of
--- word s × W + t div 64 is the pair (s, t); bits for t of N or more are 0."
+-- SPECIFICATION, Areas and words: W is N divided by 64, rounded up; bit t mod 64 of word s × W + t div 64 of an answer is the pair (s, t),
+-- and bits for t of N or more are 0.
 -- Assumes nothing.
 use mathlib.Core.Bool.{Bool, cond, _&&_}
 use mathlib.Core.List.{List}

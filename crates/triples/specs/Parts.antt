@@ -1,5 +1,5 @@
 -- Parts of the table as lists of triples, and a part that grows at its end.
--- 01-scope.md, "Inference and merging": "Triples equal in all three places are one."
+-- SPECIFICATION, Inference: triples equal in all three places are one.
 -- Assumes nothing.
 use mathlib.Core.Path.{_≡_}
 use mathlib.Core.List.{List}

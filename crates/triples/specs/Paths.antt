@@ -1,5 +1,5 @@
 -- The triple that a node stands for, and when a table of nodes is sound.
--- 01-scope.md, "Inference and merging": triples (A, path, B); the chain of the original part.
+-- SPECIFICATION, Inference: triples (from kind, path, to kind); the chain of the original part.
 -- Assumes nothing.
 use mathlib.Core.Path.{_≡_}
 use mathlib.Core.Bool.{cond}

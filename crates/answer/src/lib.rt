@@ -24,12 +24,20 @@ ghost use Rattle.chains.specs.Route.{Routed, Leads};
 ghost use Rattle.answer.specs.Calls.{answered, asked, members-of, plain-call, narrowed-call};
 ghost use Rattle.answer.specs.Said.{Answers, Fills, Adds, Readable, Long, lent};
 
+// The relations of the work words: those of a stack, and the steps that are held past them.
+pub const RELATIONS: usize = chains::STACKED + chains::HELD;
+
+// The bits of a word, and what a number of records is rounded up by.
+const BITS: usize = 64;
+
+const ROUND_UP: usize = BITS - 1;
+
 // The words of a row of n records.
 pub fn row_words(n: usize) -> usize
     requires { ⌜ n ≤ 1024 ⌝ }
     ensures { λ w. ⌜ w ≡ row-words n ⌝ }
 {
-    (n + 63) / 64
+    (n + ROUND_UP) / BITS
 }
 
 // 14; or the pairs of the path of `count` codes, as the answer's words.
@@ -50,7 +58,7 @@ fn plain_words(
     if answer.len() < need {
         return Outcome::Refused(Source::Work, Refusal::AreaShort(need));
     }
-    let sets = [0u64; 32];
+    let sets = [0u64; question::MOST_SYMBOLS];
     evaluation::evaluate(work, n, w, register, codes, &sets, 0, count);
     rows::copy(answer, 0, work, 0, need);
     Outcome::Accepted
@@ -70,7 +78,7 @@ fn plain_in(
         (now (work .entry)) (now (answer .entry))) o (now (work .exit)) (now (answer .exit)) ⌝ }
 {
     let w = row_words(n);
-    let need = 28 * (n * w);
+    let need = RELATIONS * (n * w);
     if work.len() < need {
         return Outcome::Refused(Source::Work, Refusal::WorkShort(need));
     }
@@ -342,7 +350,7 @@ fn narrowed_in(
         (now (work .entry)) (now (answer .entry))) o (now (work .exit)) (now (answer .exit)) ⌝ }
 {
     let w = row_words(n);
-    let room = 28 * (n * w);
+    let room = RELATIONS * (n * w);
     if work.len() < room {
         return Outcome::Refused(Source::Work, Refusal::WorkShort(room));
     }
@@ -372,11 +380,11 @@ pub fn narrowed_answer(
 ) -> Outcome
     ensures { λ o. ⌜ Answers (narrowed-call (now (narrowed .entry)) (now (register .entry)) (now (work .entry)) (now (answer .entry))) o (now (work .exit)) (now (answer .exit)) ⌝ }
 {
-    let mut sizes = [0u8; 128];
-    let mut from = [0u64; 128];
-    let mut to = [0u64; 128];
-    let mut numbers = [0u8; 6144];
-    let mut sets = [0u64; 6144];
+    let mut sizes = [0u8; fields::MEMBERS];
+    let mut from = [0u64; fields::MEMBERS];
+    let mut to = [0u64; fields::MEMBERS];
+    let mut numbers = [0u8; narrowed_question::SYMBOLS];
+    let mut sets = [0u64; narrowed_question::SYMBOLS];
     match narrowed_question::read_into(
         narrowed,
         &mut sizes,

@@ -21,7 +21,7 @@ ghost use Rattle.chains.specs.Route.{routed, Routed, Leads, between, Gai
 pub const HELD: usize = 4;
 
 // The relations of a stack, past which they lie.
-const STACKED: usize = 24;
+pub const STACKED: usize = 24;
 
 // The number in place of a step's where none is held.
 pub const NONE: u8 = 255;
@@ -42,14 +42,14 @@ fn chained(numbers: &[u8], first: usize, size: usize) -> bool
     if size % 2 == 0 {
         return false;
     }
-    if 128 <= numbers[first] {
+    if symbols::STEPS <= numbers[first] {
         return false;
     }
     for j in 0..size / 2 {
-        if 128 <= numbers[first + 2 * j + 1] {
+        if symbols::STEPS <= numbers[first + 2 * j + 1] {
             return false;
         }
-        if numbers[first + 2 * j + 2] != 255 {
+        if numbers[first + 2 * j + 2] != symbols::THROUGH {
             return false;
         }
     }
@@ -91,7 +91,7 @@ fn hold(work: &mut [u64], register: &[u8], n: usize, w: usize, held: &mut [u8], 
         w,
         register,
         symbols::step_link(number),
-        number < 64,
+        number < fields::LINKS,
     );
     held[free] = number;
     free

@@ -47,8 +47,8 @@ fn grow_walks(words: &mut [u64], question: &[u8], s: usize, f: usize) -> usize
     let mut count = f;
     let mut i = s;
     while i < s + count {
-        count = rules::add_row(words, question, 128, s, count, i, s, s + f);
-        if 128 < count {
+        count = rules::add_row(words, question, triples::JOIN, s, count, i, s, s + f);
+        if triples::MOST < count {
             return count;
         }
         i += 1;
@@ -77,7 +77,7 @@ fn add_kept(
         return count;
     }
     let node = Node {
-        made: 133,
+        made: triples::CLOSURE,
         left: o,
         right: n,
         size: n + 1,
@@ -106,9 +106,9 @@ fn add_kept_from(
     }
     let mut count = start;
     let mut b: usize = 0;
-    while b < 64 {
+    while b < kind_graph::KINDS {
         count = add_kept(words, question, work, s, count, o, n, a, Kind(b as u8));
-        if 128 < count {
+        if triples::MOST < count {
             return count;
         }
         b += 1;
@@ -131,9 +131,9 @@ fn add_all_kept(
 {
     let mut count = start;
     let mut a: usize = 0;
-    while a < 64 {
+    while a < kind_graph::KINDS {
         count = add_kept_from(words, question, work, s, count, o, n, Kind(a as u8));
-        if 128 < count {
+        if triples::MOST < count {
             return count;
         }
         a += 1;
@@ -156,18 +156,18 @@ pub fn closure_rule(
     requires { ⌜ Closing (now question) (now words) s p d o n ⌝ }
     ensures { λ r. ⌜ Ruled (now (question .entry)) (now (words .entry)) (now (words .exit)) s (distinct (of-closure 64 (original (now (question .entry)) o n) (part (now (question .entry)) (now (words .entry)) p d))) r ⌝ }
 {
-    let mut work = [0u64; 128];
+    let mut work = [0u64; kind_graph::GRAPH];
     kind_graph::graph(words, question, p, d, &mut work);
     let f = copy_acyclic(words, question, &work, s, p, d);
     if !kind_graph::walks_short(words, question, s, s + f) {
         return Part::Long;
     }
     let w = grow_walks(words, question, s, f);
-    if 128 < w {
+    if triples::MOST < w {
         return Part::Many;
     }
     let k = add_all_kept(words, question, &work, s, w, o, n);
-    if 128 < k {
+    if triples::MOST < k {
         return Part::Many;
     }
     Part::Made(k)

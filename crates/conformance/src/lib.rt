@@ -37,7 +37,7 @@ fn first_unknown(register: &[u8], n: usize, kinds: u8) -> Failing
 }
 
 // Whether a sheet's table has the bit of a triple.
-fn permitted(table: &[u64; 4096], from: Kind, link: Link, to: Kind) -> bool
+fn permitted(table: &[u64; sheet::TABLE], from: Kind, link: Link, to: Kind) -> bool
     requires { ⌜ (from .0 < 64) × ((link .0 < 64) × (to .0 < 64)) ⌝ }
     ensures { λ r. ⌜ r ≡ tabled? (now (table .entry)) (from .0) (link .0) (to .0) ⌝ }
 {
@@ -46,7 +46,7 @@ fn permitted(table: &[u64; 4096], from: Kind, link: Link, to: Kind) -> bool
 }
 
 // The first link that the table does not permit, counted from n, the number of records.
-fn first_forbidden(register: &[u8], n: usize, table: &[u64; 4096]) -> Failing
+fn first_forbidden(register: &[u8], n: usize, table: &[u64; sheet::TABLE]) -> Failing
     requires { ⌜ Accepted (now register) × (n ≡ records (register-in (now register))) ⌝ }
     ensures { λ r. ⌜ failing-said r ≡ first-forbidden (now (table .entry)) (register-in (now (register .entry))) ⌝ }
 {
@@ -72,7 +72,7 @@ fn first_forbidden(register: &[u8], n: usize, table: &[u64; 4096]) -> Failing
 }
 
 // The place of 16: that of a record, or n more than that of a link.
-pub fn first_breach(register: &[u8], n: usize, kinds: u8, table: &[u64; 4096]) -> Failing
+pub fn first_breach(register: &[u8], n: usize, kinds: u8, table: &[u64; sheet::TABLE]) -> Failing
     requires { ⌜ Accepted (now register) × (n ≡ records (register-in (now register))) ⌝ }
     ensures { λ r. ⌜ failing-said r ≡ first-breach kinds (now (table .entry)) (register-in (now (register .entry))) ⌝ }
 {

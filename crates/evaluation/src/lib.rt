@@ -148,11 +148,11 @@ fn combine(
     ensures { λ _. ⌜ Made p n w (binary? (register-in (now (register .entry))) (symbol-numbered number set) (pair-at (now (work .entry)) p w) (pair-at (now (work .entry)) q w)) (now (work .entry)) (now (work .exit)) ⌝ }
 {
     match number {
-        128 => join(work, p, q, n, w, register),
-        129 => relation::union(work, p, q, n, w),
-        130 => relation::intersection(work, p, q, n, w),
-        131 => relation::branch_right(work, p, q, n, w),
-        132 => relation::branch_left(work, p, q, n, w),
+        symbols::JOIN => join(work, p, q, n, w, register),
+        symbols::UNION => relation::union(work, p, q, n, w),
+        symbols::CONJUNCTION => relation::intersection(work, p, q, n, w),
+        symbols::BRANCH_RIGHT => relation::branch_right(work, p, q, n, w),
+        symbols::BRANCH_LEFT => relation::branch_left(work, p, q, n, w),
         _ => join_through(work, p, q, n, w, register, set),
     }
 }
@@ -161,10 +161,10 @@ fn combine(
 fn closes(number: u8) -> bool
     ensures { λ r. ⌜ r ≡ closes? number ⌝ }
 {
-    if number == 255 {
+    if number == symbols::THROUGH {
         return false;
     }
-    133 <= number
+    symbols::CLOSURE <= number
 }
 
 // Applies one symbol to the stack, which ends at word b; returns where it ends then.
@@ -181,11 +181,11 @@ fn apply(
     ensures { λ c. ⌜ Applied (register-in (now (register .entry))) n w b (symbol-numbered number set) c (now (work .entry)) (now (work .exit)) ⌝ }
 {
     let z = n * w;
-    if number < 64 {
+    if number < fields::LINKS {
         step(work, b, n, w, register, symbols::step_link(number), true);
         return b + z;
     }
-    if number < 128 {
+    if number < symbols::STEPS {
         step(work, b, n, w, register, symbols::step_link(number), false);
         return b + z;
     }

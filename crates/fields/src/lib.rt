@@ -109,6 +109,16 @@ pub enum File {
     Narrowed,
 }
 
+// How many kinds, and how many link names, there are at most.
+pub const KINDS: u8 = 64;
+
+pub const LINKS: u8 = 64;
+
+// The most members of a narrowed question, and the most symbols of a member.
+pub const MEMBERS: usize = 128;
+
+pub const MEMBER_SYMBOLS: usize = 48;
+
 // The bytes of a field's head: its tag, and the length of its body.
 pub const HEAD: usize = 3;
 

@@ -20,6 +20,9 @@ pub struct Span {
     pub from: usize,
 }
 
+// The parts that a question can have on its stack, and a place to spare.
+const STACK: usize = question::MOST_SYMBOLS + 1;
+
 // No part yet.
 const NONE: Span = Span {
     start: 0,
@@ -31,7 +34,7 @@ const NONE: Span = Span {
 fn rule(
     words: &mut [u64],
     question: &[u8],
-    table: &[u64; 4096],
+    table: &[u64; sheet::TABLE],
     kinds: usize,
     c: u8,
     used: usize,
@@ -42,10 +45,10 @@ fn rule(
     requires { ⌜ Turned (now question) (now words) kinds c used i x y ⌝ }
     ensures { λ r. ⌜ Ruled (now (question .entry)) (now (words .entry)) (now (words .exit)) used (made-of (now (question .entry)) (now (words .entry)) (now (table .entry)) kinds c i x y) r ⌝ }
 {
-    if c < 128 {
+    if c < symbols::STEPS {
         return rules::step_rule(words, question, table, kinds, c as usize, used);
     }
-    if c == 133 {
+    if c == symbols::CLOSURE {
         return closure_rule::closure_rule(
             words,
             question,
@@ -56,7 +59,7 @@ fn rule(
             i - x.from,
         );
     }
-    if c == 129 {
+    if c == symbols::UNION {
         return rules::union_rule(words, question, used, x.start, x.end, y.start, y.end);
     }
     rules::pair_rule(
@@ -75,7 +78,7 @@ fn rule(
 fn origin(c: u8, i: usize, x: Span) -> usize
     ensures { λ r. ⌜ r ≡ origin-of c i x ⌝ }
 {
-    if c < 128 {
+    if c < symbols::STEPS {
         return i;
     }
     x.from
@@ -86,14 +89,14 @@ pub fn infer(
     words: &mut [u64],
     question: &[u8],
     count: usize,
-    table: &[u64; 4096],
+    table: &[u64; sheet::TABLE],
     kinds: usize,
 ) -> Inferred
     requires { ⌜ Asking (now question) (now words) count kinds ⌝ }
     ensures { λ r. ⌜ Infers (now (question .entry)) (now (words .entry)) (now (words .exit)) (now (table .entry)) count kinds r ⌝ }
 {
     // One place more than symbols: every symbol looks at a second part.
-    let mut parts = [NONE; 33];
+    let mut parts = [NONE; STACK];
     let mut depth: usize = 0;
     let mut used: usize = 0;
     for i in 0..count {

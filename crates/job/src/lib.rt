@@ -20,11 +20,11 @@ fn work_need(n: usize, w: usize) -> usize
     requires { ⌜ n * w ≤ 16384 ⌝ }
     ensures { λ r. ⌜ r ≡ larger narrow-need (28 * (n * w)) ⌝ }
 {
-    let words = 28 * (n * w);
-    if 8192 < words {
+    let words = answer::RELATIONS * (n * w);
+    if narrowing::NEED < words {
         return words;
     }
-    8192
+    narrowing::NEED
 }
 
 // The file in an area of which it has the first bytes.
@@ -48,11 +48,11 @@ fn answer_file(
     requires { ⌜ HasMembers bytes (now area) × Ground (now register) n w × (28 * (n * w) ≤ length (now work)) × (n * w ≤ length (now answer)) ⌝ }
     ensures { λ _. ⌜ Answers-file (take bytes (now (area .entry))) (register-in (now (register .entry))) n w (now (work .entry)) (now (work .exit)) (now (answer .entry)) (now (answer .exit)) ⌝ }
 {
-    let mut sizes = [0u8; 128];
-    let mut from = [0u64; 128];
-    let mut to = [0u64; 128];
-    let mut numbers = [0u8; 6144];
-    let mut sets = [0u64; 6144];
+    let mut sizes = [0u8; fields::MEMBERS];
+    let mut from = [0u64; fields::MEMBERS];
+    let mut to = [0u64; fields::MEMBERS];
+    let mut numbers = [0u8; narrowed_question::SYMBOLS];
+    let mut sets = [0u64; narrowed_question::SYMBOLS];
     let file = file_in(area, bytes);
     match narrowed_question::read_into(
         file,
@@ -86,7 +86,7 @@ fn answer_file(
 fn job_codes(
     codes: &[u8],
     count: usize,
-    table: &[u64; 4096],
+    table: &[u64; sheet::TABLE],
     kinds: u8,
     links: u8,
     register: &[u8],
@@ -121,7 +121,7 @@ fn job_codes(
 fn job_words(
     codes: &[u8],
     count: usize,
-    table: &[u64; 4096],
+    table: &[u64; sheet::TABLE],
     kinds: u8,
     links: u8,
     register: &[u8],
@@ -157,7 +157,7 @@ fn job_words(
 fn job_in(
     codes: &[u8],
     count: usize,
-    table: &[u64; 4096],
+    table: &[u64; sheet::TABLE],
     kinds: u8,
     links: u8,
     register: &[u8],

@@ -11,16 +11,25 @@ ghost use Rattle.triples.specs.Parts.{part-of};
 ghost use Rattle.kind_graph.specs.Kinds.{Edges, Linked, TellsAcyclic, TellsMeets, TellsMeetsAny};
 ghost use Rattle.kind_graph.specs.Sizes.{Part, extended, size-of, weight, Raised, Raising, AtMost, Small};
 
+// How many kinds there are: a graph of them has a word for each.
+pub const KINDS: usize = fields::KINDS as usize;
+
+// The words of a graph and of what is asked of it.
+pub const GRAPH: usize = 2 * KINDS;
+
+// The most triples of a walk whose size is still asked for, but the first: one of more has more than 48 symbols.
+const ROUNDS: usize = 24;
+
 // A bit for the kinds of each triple of the nodes from s to e.
 fn edges(words: &[u64], question: &[u8], s: usize, e: usize, work: &mut [u64])
     requires { ⌜ (s ≤ e) × (e ≤ length (now words)) × (length (now work) ≡ 128) ⌝ }
     ensures { λ _. ⌜ Edges (part-of (now (question .entry)) (now (words .entry)) s (e - s)) (now (work .exit)) ⌝ }
 {
-    rows::clear(work, 0, 64);
+    rows::clear(work, 0, KINDS);
     let mut i = s;
     while i < e {
         let x = triples::load(words, i);
-        relation::set_pair(work, 0, 64, 1, x.from.0 as usize, x.to.0 as usize);
+        relation::set_pair(work, 0, KINDS, 1, x.from.0 as usize, x.to.0 as usize);
         i += 1;
     }
 }
@@ -31,7 +40,7 @@ fn cyclic(mask: &mut [u64], work: &[u64])
     ensures { λ _. ⌜ Row 0 1 (mask-of (λ z. row-bit (now (work .entry)) z z) 64) (now (mask .entry)) (now (mask .exit)) ⌝ }
 {
     rows::clear(mask, 0, 1);
-    for z in 0..64 {
+    for z in 0..KINDS {
         let b = rows::has(work, z, z);
         rows::set_if(mask, z, b);
     }
@@ -42,9 +51,9 @@ fn double(work: &mut [u64])
     requires { ⌜ length (now work) ≡ 128 ⌝ }
     ensures { λ _. ⌜ Row 64 64 (row-bit (now (work .entry)) 0) (now (work .entry)) (now (work .exit)) ⌝ }
 {
-    let mut half = [0u64; 64];
-    rows::copy(&mut half, 0, work, 0, 64);
-    rows::copy(work, 64, &half, 0, 64);
+    let mut half = [0u64; KINDS];
+    rows::copy(&mut half, 0, work, 0, KINDS);
+    rows::copy(work, KINDS, &half, 0, KINDS);
 }
 
 // Word 64 + a: the kinds to which a walk over the nodes from s to e leads from kind a.
@@ -55,10 +64,10 @@ pub fn graph(words: &[u64], question: &[u8], s: usize, e: usize, work: &mut [u64
 {
     let mut mask = [0u64; 1];
     edges(words, question, s, e, work);
-    transitive_closure::closure(work, 0, 64, 1);
+    transitive_closure::closure(work, 0, KINDS, 1);
     cyclic(&mut mask, work);
     double(work);
-    relation::join(work, 0, 64, 64, 1, &mask);
+    relation::join(work, 0, KINDS, KINDS, 1, &mask);
 }
 
 // Is neither kind cyclic?
@@ -67,11 +76,11 @@ pub fn acyclic(work: &[u64], a: Kind, b: Kind) -> bool
     ensures { λ r. ⌜ TellsAcyclic (now (work .entry)) (a .0) (b .0) r ⌝ }
 {
     let i = a.0 as usize;
-    if rows::has(work, 64 + i, i) {
+    if rows::has(work, KINDS + i, i) {
         return false;
     }
     let j = b.0 as usize;
-    !rows::has(work, 64 + j, j)
+    !rows::has(work, KINDS + j, j)
 }
 
 // Does a walk from a to b meet a cyclic kind?
@@ -158,17 +167,17 @@ pub fn walks_short(words: &[u64], question: &[u8], s: usize, e: usize) -> bool
     requires { ⌜ Part (now question) (now words) s e ⌝ }
     ensures { λ r. ⌜ r ≡ short? (walks 24 (part-of (now (question .entry)) (now (words .entry)) s (e - s)) (part-of (now (question .entry)) (now (words .entry)) s (e - s))) ⌝ }
 {
-    let mut best = [0u64; 64];
+    let mut best = [0u64; KINDS];
     first_round(words, question, s, e, &mut best);
     if !at_most(&best, 48) {
         return false;
     }
     let mut n: usize = 0;
-    while n < 24 {
+    while n < ROUNDS {
         if at_most(&best, 0) {
             return true;
         }
-        let mut next = [0u64; 64];
+        let mut next = [0u64; KINDS];
         round(words, question, s, e, &best, &mut next);
         if !at_most(&next, 48) {
             return false;

@@ -7,7 +7,7 @@ ghost use Rattle.evaluation.specs.Ground.{Ground};
 ghost use Rattle.kind_rows.specs.Kinds.{KindRows, in-set};
 
 // How many kinds there are.
-const KINDS: usize = 64;
+const KINDS: usize = fields::KINDS as usize;
 
 // The words of a table for the largest registers.
 pub const TABLE: usize = 1024;

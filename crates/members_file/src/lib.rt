@@ -24,13 +24,13 @@ pub struct Extent {
 fn number(code: u8, set: u64) -> u8
     ensures { λ r. ⌜ r ≡ number-of code set ⌝ }
 {
-    if code != 128 {
+    if code != symbols::JOIN {
         return code;
     }
     if set == 0 {
-        return 128;
+        return symbols::JOIN;
     }
-    255
+    symbols::THROUGH
 }
 
 // Makes the codes of n symbols numbers; the bytes of their fields.
@@ -79,8 +79,8 @@ pub fn measure(words: &[u64], used: usize, question: &[u8], order: &[usize], n: 
     requires { ⌜ Measuring (now question) (now words) (now order) used n ⌝ }
     ensures { λ r. ⌜ Measured (now (question .entry)) (now (words .entry)) (now (order .entry)) n r ⌝ }
 {
-    let mut codes = [0u8; 48];
-    let mut sets = [0u64; 48];
+    let mut codes = [0u8; fields::MEMBER_SYMBOLS];
+    let mut sets = [0u64; fields::MEMBER_SYMBOLS];
     let mut members: usize = 0;
     let mut bytes = encode::NARROWED_BYTES;
     let mut k: usize = 0;
@@ -109,8 +109,8 @@ pub fn put_file(
     requires { ⌜ Filing (now question) (now words) (now order) used n members (now out) ⌝ }
     ensures { λ r. ⌜ Filed (now (question .entry)) (now (words .entry)) (now (order .entry)) n (now (out .entry)) (now (out .exit)) r ⌝ }
 {
-    let mut codes = [0u8; 48];
-    let mut sets = [0u64; 48];
+    let mut codes = [0u8; fields::MEMBER_SYMBOLS];
+    let mut sets = [0u64; fields::MEMBER_SYMBOLS];
     let mut at = encode::put_count(out, 0, members as u16);
     let mut k: usize = 0;
     while k < n {

@@ -47,9 +47,9 @@ fn before(words: &[u64], used: usize, question: &[u8], i: usize, j: usize) -> bo
     requires { ⌜ Usable (now question) (now words) used i × Usable (now question) (now words) used j ⌝ }
     ensures { λ r. ⌜ r ≡ earlier? (now (question .entry)) (now (words .entry)) i j ⌝ }
 {
-    let mut a = [0u8; 48];
-    let mut b = [0u8; 48];
-    let mut vias = [0u64; 48];
+    let mut a = [0u8; fields::MEMBER_SYMBOLS];
+    let mut b = [0u8; fields::MEMBER_SYMBOLS];
+    let mut vias = [0u64; fields::MEMBER_SYMBOLS];
     let n = triples::expand(words, used, question, i, &mut a, &mut vias, 0);
     let m = triples::expand(words, used, question, j, &mut b, &mut vias, 0);
     precedes(&a, n, &b, m)
@@ -129,8 +129,8 @@ fn take_in(
     requires { ⌜ Taking (now question) (now words) used i (now codes) (now sets) n ⌝ }
     ensures { λ r. ⌜ Taken (now (question .entry)) (now (words .entry)) i (now (codes .entry)) (now (sets .entry)) (now (sets .exit)) n r ⌝ }
 {
-    let mut own = [0u8; 48];
-    let mut vias = [0u64; 48];
+    let mut own = [0u8; fields::MEMBER_SYMBOLS];
+    let mut vias = [0u64; fields::MEMBER_SYMBOLS];
     let m = triples::expand(words, used, question, i, &mut own, &mut vias, 0);
     if precedes(codes, n, &own, m) {
         return false;

@@ -23,15 +23,22 @@ pub enum Outcome {
     Refused(Refusal),
 }
 
+// The most symbols of all members.
+pub const SYMBOLS: usize = fields::MEMBERS * fields::MEMBER_SYMBOLS;
+
+const MOST_MEMBERS: u16 = fields::MEMBERS as u16;
+
+const MOST_SIZE: u8 = fields::MEMBER_SYMBOLS as u8;
+
 // Members one after the other: of each the number of symbols, from set and to set; of each symbol, through all members, its number
 // (255 for a join through a set) and its set. 0 past them.
 pub struct Members {
     pub count: usize,
-    pub sizes: [u8; 128],
-    pub from: [u64; 128],
-    pub to: [u64; 128],
-    pub numbers: [u8; 6144],
-    pub sets: [u64; 6144],
+    pub sizes: [u8; fields::MEMBERS],
+    pub from: [u64; fields::MEMBERS],
+    pub to: [u64; fields::MEMBERS],
+    pub numbers: [u8; SYMBOLS],
+    pub sets: [u64; SYMBOLS],
 }
 
 pub struct Narrowed {
@@ -99,7 +106,7 @@ fn count(at: usize, b: &[u8]) -> Turn
     ensures { λ r. ⌜ turn-said r ≡ count-of at (now (b .entry)) ⌝ }
 {
     let n = fields::two(b, 0);
-    if 128 < n {
+    if MOST_MEMBERS < n {
         return Turn::Stop(Refusal::OutOfRange(at));
     }
     let st = Standing::Between(n as u8);
@@ -115,7 +122,7 @@ fn open_member(l: u8, at: usize, b: &[u8]) -> Turn
     if n < 1 {
         return Turn::Stop(Refusal::OutOfRange(at));
     }
-    if 48 < n {
+    if MOST_SIZE < n {
         return Turn::Stop(Refusal::OutOfRange(at));
     }
     let q = Stack { left: n, depth: 0 };
@@ -162,8 +169,8 @@ fn judge(st: Standing, at: usize, next: usize, tag: u8, b: &[u8]) -> Turn
 fn code(number: u8) -> u8
     ensures { λ r. ⌜ r ≡ order-code number ⌝ }
 {
-    if number == 255 {
-        return 128;
+    if number == symbols::THROUGH {
+        return symbols::JOIN;
     }
     number
 }
@@ -208,11 +215,11 @@ fn start() -> Marks
 
 fn accepted(
     count: usize,
-    sizes: [u8; 128],
-    from: [u64; 128],
-    to: [u64; 128],
-    numbers: [u8; 6144],
-    sets: [u64; 6144],
+    sizes: [u8; fields::MEMBERS],
+    from: [u64; fields::MEMBERS],
+    to: [u64; fields::MEMBERS],
+    numbers: [u8; SYMBOLS],
+    sets: [u64; SYMBOLS],
 ) -> Narrowed
     ensures { λ x. ⌜ (x .outcome ≡ Outcome.Accepted count) × (x .members ≡ arrays count sizes from to numbers sets) ⌝ }
 {
@@ -232,11 +239,11 @@ fn refused(r: Refusal) -> Narrowed
     ensures { λ x. ⌜ (x .outcome ≡ Outcome.Refused r) × Packed [] (x .members) ⌝ }
 {
     let outcome = Outcome::Refused(r);
-    let sizes = [0u8; 128];
-    let from = [0u64; 128];
-    let to = [0u64; 128];
-    let numbers = [0u8; 6144];
-    let sets = [0u64; 6144];
+    let sizes = [0u8; fields::MEMBERS];
+    let from = [0u64; fields::MEMBERS];
+    let to = [0u64; fields::MEMBERS];
+    let numbers = [0u8; SYMBOLS];
+    let sets = [0u64; SYMBOLS];
     let members = Members {
         count: 0,
         sizes,
@@ -384,11 +391,11 @@ pub fn read_into(
 pub fn read(s: &[u8]) -> Narrowed
     ensures { λ r. ⌜ Reads (read-file narrowed-form (now (s .entry))) (r .outcome) (r .members) ⌝ }
 {
-    let mut sizes = [0u8; 128];
-    let mut from = [0u64; 128];
-    let mut to = [0u64; 128];
-    let mut numbers = [0u8; 6144];
-    let mut sets = [0u64; 6144];
+    let mut sizes = [0u8; fields::MEMBERS];
+    let mut from = [0u64; fields::MEMBERS];
+    let mut to = [0u64; fields::MEMBERS];
+    let mut numbers = [0u8; SYMBOLS];
+    let mut sets = [0u64; SYMBOLS];
     match read_into(s, &mut sizes, &mut from, &mut to, &mut numbers, &mut sets) {
         Outcome::Refused(r) => refused(r),
         Outcome::Accepted(count) => accepted(count, sizes, from, to, numbers, sets),

@@ -14,13 +14,13 @@ ghost use Rattle.narrowing.specs.Call.{narrow-need, narrow-call, size-ca
 ghost use Rattle.narrowing.specs.Said.{Narrows, Sizes, Unnamed, FirstUnnamed, Listed, Ready, Counts, Known, Puts, Counts-named, Infers-file, Counts-codes, Unprepared, Prepares};
 
 // The work words that narrowing needs.
-const NEED: usize = 8192;
+pub const NEED: usize = 8192;
 
 // The members of a question before a byte of their file is written: the numbers of members and of bytes, or why there are none;
 // the nodes of their triples in the members' order, and how many; and how many nodes are in use.
 struct Counted {
     outcome: Written,
-    order: [usize; 128],
+    order: [usize; triples::MOST],
     triples: usize,
     nodes: usize,
 }
@@ -28,7 +28,7 @@ struct Counted {
 // The same with the question's codes, and how many work words are to be zeroed in the end.
 struct Prepared {
     counted: Counted,
-    codes: [u8; 32],
+    codes: [u8; question::MOST_SYMBOLS],
     words: usize,
 }
 
@@ -36,7 +36,7 @@ struct Prepared {
 fn unnamed(code: u8, links: u8) -> bool
     ensures { λ r. ⌜ Unnamed links code r ⌝ }
 {
-    if code < 128 {
+    if code < symbols::STEPS {
         let link = symbols::step_link(code);
         return links <= link.0;
     }
@@ -64,7 +64,7 @@ fn uncounted(s: Source, r: Refusal) -> Counted
 {
     Counted {
         outcome: Written::Refused(s, r),
-        order: [0; 128],
+        order: [0; triples::MOST],
         triples: 0,
         nodes: 0,
     }
@@ -76,7 +76,7 @@ fn count_members(words: &[u64], codes: &[u8], s: usize, e: usize) -> Counted
     ensures { λ c. ⌜ Counts (now (codes .entry)) (now (words .entry)) (accepts (members (part (now (codes .entry)) (now (words .entry)) s e))) c ⌝ }
 {
     let n = e - s;
-    let mut order = [0usize; 128];
+    let mut order = [0usize; triples::MOST];
     merge::arrange(words, e, codes, &mut order, s, n);
     let x = members_file::measure(words, e, codes, &order, n);
     Counted {
@@ -91,7 +91,7 @@ fn count_members(words: &[u64], codes: &[u8], s: usize, e: usize) -> Counted
 fn count_named(
     codes: &[u8],
     count: usize,
-    table: &[u64; 4096],
+    table: &[u64; sheet::TABLE],
     kinds: usize,
     work: &mut [u64],
 ) -> Counted
@@ -108,7 +108,7 @@ fn count_named(
 fn count_codes(
     codes: &[u8],
     count: usize,
-    table: &[u64; 4096],
+    table: &[u64; sheet::TABLE],
     kinds: usize,
     links: u8,
     work: &mut [u64],
@@ -129,7 +129,7 @@ fn unprepared(s: Source, r: Refusal) -> Prepared
 {
     Prepared {
         counted: uncounted(s, r),
-        codes: [0; 32],
+        codes: [0; question::MOST_SYMBOLS],
         words: 0,
     }
 }
@@ -199,7 +199,7 @@ fn put_members(words: &[u64], codes: &[u8], counted: Counted, file: &mut [u8]) -
 pub fn narrow_named(
     codes: &[u8],
     count: usize,
-    table: &[u64; 4096],
+    table: &[u64; sheet::TABLE],
     kinds: usize,
     work: &mut [u64],
     file: &mut [u8],

@@ -23,6 +23,11 @@ const KIND_BYTES: usize = HEAD + fields::KIND_LENGTH as usize;
 
 const LINK_BYTES: usize = HEAD + fields::LINK_LENGTH as usize;
 
+// The most records of a register, and its most links.
+const MOST_RECORDS: u16 = 1024;
+
+const MOST_LINKS: u16 = 4096;
+
 // Where the file has its numbers of records and of links, the field of its first kind, and that kind itself.
 const RECORD_COUNT_AT: usize = HEAD;
 
@@ -69,10 +74,10 @@ fn judge_head(at: usize, b: &[u8]) -> Turn
 {
     let records = fields::two(b, 0);
     let links = fields::two(b, 2);
-    if 1024 < records {
+    if MOST_RECORDS < records {
         return Turn::Stop(Refusal::OutOfRange(at));
     }
-    if 4096 < links {
+    if MOST_LINKS < links {
         return Turn::Stop(Refusal::OutOfRange(at));
     }
     Turn::Go(Progress {
@@ -88,7 +93,7 @@ fn judge_kind(q: Progress, at: usize, b: &[u8]) -> Turn
     requires { ⌜ (length (now b) ≡ tag-length 0x32) × (0 < q .kindless) ⌝ }
     ensures { λ r. ⌜ turn-said r ≡ kind-of q at (now (b .entry)) ⌝ }
 {
-    if 64 <= b[0] {
+    if fields::KINDS <= b[0] {
         return Turn::Stop(Refusal::OutOfRange(at));
     }
     Turn::Go(Progress {
@@ -128,7 +133,7 @@ fn judge_link(q: Progress, at: usize, b: &[u8]) -> Turn
     if records <= fields::two(b, 0) {
         return Turn::Stop(Refusal::OutOfRange(at));
     }
-    if 64 <= b[2] {
+    if fields::LINKS <= b[2] {
         return Turn::Stop(Refusal::OutOfRange(at));
     }
     if records <= fields::two(b, 3) {

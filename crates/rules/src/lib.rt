@@ -26,17 +26,20 @@ pub enum Part {
 
 // ---- two nodes under an operator
 
+// Numbers below this one are forward steps.
+const LINKS: usize = fields::LINKS as usize;
+
 // Do two triples fit under the operator?
 fn fits(made: usize, x: Node, y: Node) -> bool
     ensures { λ r. ⌜ r ≡ fitting made (ends-of x) (ends-of y) ⌝ }
 {
-    if made == 130 {
+    if made == triples::CONJUNCTION {
         if x.from.0 != y.from.0 {
             return false;
         }
         return x.to.0 == y.to.0;
     }
-    if made == 132 {
+    if made == triples::BRANCH_LEFT {
         return x.from.0 == y.from.0;
     }
     x.to.0 == y.from.0
@@ -46,10 +49,10 @@ fn fits(made: usize, x: Node, y: Node) -> bool
 fn last(made: usize, x: Node, y: Node) -> Kind
     ensures { λ r. ⌜ r .0 ≡ giving made (ends-of x) (ends-of y) .to ⌝ }
 {
-    if made == 130 {
+    if made == triples::CONJUNCTION {
         return x.to;
     }
-    if made == 131 {
+    if made == triples::BRANCH_RIGHT {
         return x.to;
     }
     y.to
@@ -80,7 +83,7 @@ fn pair_short(made: usize, x: Node, y: Node) -> bool
     if !fits(made, x, y) {
         return true;
     }
-    x.size + y.size + 1 <= 48
+    x.size + y.size + 1 <= fields::MEMBER_SYMBOLS
 }
 
 // ---- sizes: 13
@@ -153,7 +156,7 @@ fn repeats(words: &[u64], used: usize, question: &[u8], made: usize, p: usize, i
     requires { ⌜ Has (now question) (now words) used i × (p ≤ i) ⌝ }
     ensures { λ r. ⌜ Repeats (now (question .entry)) (now (words .entry)) made p i r ⌝ }
 {
-    if made != 132 {
+    if made != triples::BRANCH_LEFT {
         return false;
     }
     let mut j = i;
@@ -207,7 +210,7 @@ pub fn add_row(
     let mut j = q;
     while j < e {
         count = add_pair(words, question, made, s, count, i, j);
-        if 128 < count {
+        if triples::MOST < count {
             return count;
         }
         j += 1;
@@ -257,7 +260,7 @@ pub fn pair_rule(
     let mut i = p;
     while i < d {
         count = add_new_row(words, question, made, s, count, p, i, q, e);
-        if 128 < count {
+        if triples::MOST < count {
             return Part::Many;
         }
         i += 1;
@@ -284,7 +287,7 @@ pub fn add_copies(
     while j < e {
         let n = triples::load(words, j);
         count = triples::add(words, question, s, count, n);
-        if 128 < count {
+        if triples::MOST < count {
             return count;
         }
         j += 1;
@@ -306,11 +309,11 @@ pub fn union_rule(
     ensures { λ r. ⌜ Ruled (now (question .entry)) (now (words .entry)) (now (words .exit)) s (distinct (rows-of (now (question .entry)) (now (words .entry)) 129 p d q e)) r ⌝ }
 {
     let a = add_copies(words, question, s, 0, p, d);
-    if 128 < a {
+    if triples::MOST < a {
         return Part::Many;
     }
     let b = add_copies(words, question, s, a, q, e);
-    if 128 < b {
+    if triples::MOST < b {
         return Part::Many;
     }
     Part::Made(b)
@@ -319,12 +322,12 @@ pub fn union_rule(
 // ---- a step
 
 // Does a sheet's table have the bit of the step with code c from kind a to kind b?
-fn marked(table: &[u64; 4096], c: usize, a: Kind, b: Kind) -> bool
+fn marked(table: &[u64; sheet::TABLE], c: usize, a: Kind, b: Kind) -> bool
     requires { ⌜ (c < 128) × (a .0 < 64) × (b .0 < 64) ⌝ }
     ensures { λ r. ⌜ r ≡ marked? (now (table .entry)) c (a .0) (b .0) ⌝ }
 {
     let link = symbols::step_link(c as u8);
-    if c < 64 {
+    if c < LINKS {
         return bits::bit(table[sheet::word_of(a, link)], b.0 as usize);
     }
     bits::bit(table[sheet::word_of(b, link)], a.0 as usize)
@@ -334,7 +337,7 @@ fn marked(table: &[u64; 4096], c: usize, a: Kind, b: Kind) -> bool
 fn add_mark(
     words: &mut [u64],
     question: &[u8],
-    table: &[u64; 4096],
+    table: &[u64; sheet::TABLE],
     c: usize,
     s: usize,
     count: usize,
@@ -362,7 +365,7 @@ fn add_mark(
 fn add_marks(
     words: &mut [u64],
     question: &[u8],
-    table: &[u64; 4096],
+    table: &[u64; sheet::TABLE],
     kinds: usize,
     c: usize,
     s: usize,
@@ -376,7 +379,7 @@ fn add_marks(
     let mut b: usize = 0;
     while b < kinds {
         count = add_mark(words, question, table, c, s, count, a, Kind(b as u8));
-        if 128 < count {
+        if triples::MOST < count {
             return count;
         }
         b += 1;
@@ -388,7 +391,7 @@ fn add_marks(
 pub fn step_rule(
     words: &mut [u64],
     question: &[u8],
-    table: &[u64; 4096],
+    table: &[u64; sheet::TABLE],
     kinds: usize,
     c: usize,
     s: usize,
@@ -400,7 +403,7 @@ pub fn step_rule(
     let mut a: usize = 0;
     while a < kinds {
         count = add_marks(words, question, table, kinds, c, s, count, Kind(a as u8));
-        if 128 < count {
+        if triples::MOST < count {
             return Part::Many;
         }
         a += 1;

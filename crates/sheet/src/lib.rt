@@ -20,10 +20,15 @@ pub enum Outcome {
     Refused(Refusal),
 }
 
+// The words of the table of permitted triples: one for each link and from kind, with a bit for each to kind.
+pub const TABLE: usize = fields::LINKS as usize * ROW;
+
+const ROW: usize = fields::KINDS as usize;
+
 // The outcome, and the permitted kinds: bit `to` of word link * 64 + from (all 0 where the file is refused).
 pub struct Reading {
     pub outcome: Outcome,
-    pub table: [u64; 4096],
+    pub table: [u64; TABLE],
 }
 
 // The numbers of kinds, of links, of triples so far, and the least key that is above the triple before.
@@ -83,13 +88,13 @@ fn head(at: usize, b: &[u8]) -> Turn
     if k < 1 {
         return Turn::Stop(Refusal::OutOfRange(at));
     }
-    if 64 < k {
+    if fields::KINDS < k {
         return Turn::Stop(Refusal::OutOfRange(at));
     }
     if e < 1 {
         return Turn::Stop(Refusal::OutOfRange(at));
     }
-    if 64 < e {
+    if fields::LINKS < e {
         return Turn::Stop(Refusal::OutOfRange(at));
     }
     Turn::Go(Triples {
@@ -170,7 +175,7 @@ fn refused(r: Refusal) -> Reading
     ensures { λ x. ⌜ (x .outcome ≡ Outcome.Refused r) × (x .table ≡ replicate 4096 0) ⌝ }
 {
     let outcome = Outcome::Refused(r);
-    let table = [0u64; 4096];
+    let table = [0u64; TABLE];
     Reading { outcome, table }
 }
 
@@ -179,14 +184,14 @@ pub fn word_of(from: Kind, link: Link) -> usize
     requires { ⌜ (from .0 < 64) × (link .0 < 64) ⌝ }
     ensures { λ r. ⌜ (r ≡ cell (from .0) (link .0)) × (r < 4096) ⌝ }
 {
-    link.0 as usize * 64 + from.0 as usize
+    link.0 as usize * ROW + from.0 as usize
 }
 
 // Reads a sheet's file.
 pub fn read(s: &[u8]) -> Reading
     ensures { λ r. ⌜ Reads (read-file sheet-form (now (s .entry))) (r .outcome) (r .table) ⌝ }
 {
-    let mut table = [0u64; 4096];
+    let mut table = [0u64; TABLE];
     let mut st = Standing::Head;
     let mut at = 0;
     loop {

@@ -10,14 +10,24 @@ ghost use Rattle.fields.specs.Table.{tag-length};
 ghost use Rattle.symbols.specs.Symbols.{symbol-length, step-of, operator-of, symbol-in, push, arity, due-symbols};
 ghost use Rattle.symbols.specs.Said.{symbol-said, push-said};
 
+// Numbers below this one are steps: forward ones, and then reverse ones.
+pub const STEPS: u8 = 2 * fields::LINKS;
+
 // The codes of operators by name.
-pub const JOIN: u8 = 128;
+pub const JOIN: u8 = STEPS;
+
+pub const UNION: u8 = 129;
+
+pub const CONJUNCTION: u8 = 130;
 
 pub const BRANCH_RIGHT: u8 = 131;
 
 pub const BRANCH_LEFT: u8 = 132;
 
 pub const CLOSURE: u8 = 133;
+
+// The number of a join through a set.
+pub const THROUGH: u8 = 255;
 
 // A symbol as a number: its code, and 255 for a join through a set; and the set, 0 where there is none.
 pub struct Symbol {
@@ -35,9 +45,9 @@ fn step_in(at: usize, b: &[u8]) -> Read
     ensures { λ r. ⌜ symbol-said r ≡ step-of at (now (b .entry)) ⌝ }
 {
     if b[0] < 2 {
-        if b[1] < 64 {
+        if b[1] < fields::LINKS {
             return Read::Is(Symbol {
-                number: b[0] * 64 + b[1],
+                number: b[0] * fields::LINKS + b[1],
                 set: 0,
             });
         }
@@ -50,8 +60,8 @@ fn operator_in(at: usize, b: &[u8]) -> Read
     requires { ⌜ length (now b) ≡ tag-length 0x44 ⌝ }
     ensures { λ r. ⌜ symbol-said r ≡ operator-of at (now (b .entry)) ⌝ }
 {
-    if 128 <= b[0] {
-        if b[0] <= 133 {
+    if JOIN <= b[0] {
+        if b[0] <= CLOSURE {
             return Read::Is(Symbol {
                 number: b[0],
                 set: 0,
@@ -74,7 +84,7 @@ pub fn symbol_in(at: usize, tag: u8, b: &[u8]) -> Read
         return operator_in(at, b);
     }
     Read::Is(Symbol {
-        number: 255,
+        number: THROUGH,
         set: fields::eight_at(b, 0),
     })
 }
@@ -83,14 +93,14 @@ pub fn symbol_in(at: usize, tag: u8, b: &[u8]) -> Read
 pub fn step_link(number: u8) -> Link
     ensures { λ r. ⌜ (r .0 ≡ number % 64) × (r .0 < 64) ⌝ }
 {
-    Link(number % 64)
+    Link(number % fields::LINKS)
 }
 
 // How many paths a symbol takes.
 pub fn operands(number: u8) -> u8
     ensures { λ r. ⌜ r ≡ arity number ⌝ }
 {
-    if number < 128 {
+    if number < STEPS {
         return 0;
     }
     if number == CLOSURE {

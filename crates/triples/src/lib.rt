@@ -12,6 +12,29 @@ ghost use Rattle.triples.specs.Tests.{Decides};
 ghost use Rattle.triples.specs.Expansion.{Wrote, Expanded, Ready};
 ghost use Rattle.triples.specs.Parts.{part-of, Candidate, Added};
 
+// The operators, as a node has them; a smaller number is a step.
+pub const JOIN: usize = symbols::JOIN as usize;
+
+pub const UNION: usize = symbols::UNION as usize;
+
+pub const CONJUNCTION: usize = symbols::CONJUNCTION as usize;
+
+pub const BRANCH_RIGHT: usize = symbols::BRANCH_RIGHT as usize;
+
+pub const BRANCH_LEFT: usize = symbols::BRANCH_LEFT as usize;
+
+pub const CLOSURE: usize = symbols::CLOSURE as usize;
+
+// The most triples of a part.
+pub const MOST: usize = 128;
+
+// How many numbers the fields of a node's word have room for: its kinds, its size, its operands.
+const KINDS: usize = fields::KINDS as usize;
+
+const SIZES: usize = 64;
+
+const PLACES: usize = 4096;
+
 // made: the code of the path's last symbol. left and right: the operands' nodes (of a kept chain: where its operand
 // starts in the question, and its number of symbols). size: the path's number of symbols.
 pub struct Node {
@@ -29,12 +52,12 @@ pub fn load(words: &[u64], i: usize) -> Node
 {
     let x = words[i] as usize;
     Node {
-        made: x / 64 / 64 / 64 / 4096 / 4096,
-        left: x / 64 / 64 / 64 / 4096 % 4096,
-        right: x / 64 / 64 / 64 % 4096,
-        size: x / 64 / 64 % 64,
-        from: Kind((x / 64 % 64) as u8),
-        to: Kind((x % 64) as u8),
+        made: x / KINDS / KINDS / SIZES / PLACES / PLACES,
+        left: x / KINDS / KINDS / SIZES / PLACES % PLACES,
+        right: x / KINDS / KINDS / SIZES % PLACES,
+        size: x / KINDS / KINDS % SIZES,
+        from: Kind((x / KINDS % KINDS) as u8),
+        to: Kind((x % KINDS) as u8),
     }
 }
 
@@ -42,8 +65,9 @@ pub fn store(words: &mut [u64], i: usize, n: Node)
     requires { ⌜ (i < length (now words)) × InRange n ⌝ }
     ensures { λ _. ⌜ now (words .exit) ≡ set (now (words .entry)) i (word-of n) ⌝ }
 {
-    let x = ((((n.made * 4096 + n.left) * 4096 + n.right) * 64 + n.size) * 64 + n.from.0 as usize)
-        * 64
+    let x = ((((n.made * PLACES + n.left) * PLACES + n.right) * SIZES + n.size) * KINDS
+        + n.from.0 as usize)
+        * KINDS
         + n.to.0 as usize;
     words[i] = x as u64;
 }
@@ -89,18 +113,18 @@ pub fn expand(
     let made = n.made;
     let left = n.left;
     let right = n.right;
-    if made < 128 {
+    if made < JOIN {
         return mark(codes, vias, at, made, 0);
     }
-    if made == 133 {
+    if made == CLOSURE {
         let end = copy(question, left, right, codes, vias, at);
-        return mark(codes, vias, end, 133, 0);
+        return mark(codes, vias, end, CLOSURE, 0);
     }
     let mid = expand(words, used, question, left, codes, vias, at);
     let end = expand(words, used, question, right, codes, vias, mid);
-    if made == 128 {
+    if made == JOIN {
         let k = load(words, left).to.0;
-        return mark(codes, vias, end, 128, 1 << k);
+        return mark(codes, vias, end, JOIN, 1 << k);
     }
     mark(codes, vias, end, made, 0)
 }
@@ -138,16 +162,16 @@ pub fn same_path(words: &[u64], used: usize, question: &[u8], a: usize, b: usize
     if made != y.made {
         return false;
     }
-    if made < 128 {
+    if made < JOIN {
         return true;
     }
-    if made == 133 {
+    if made == CLOSURE {
         return same_codes(question, x.left, x.right, y.left, y.right);
     }
     if load(words, x.right).made != load(words, y.right).made {
         return false;
     }
-    if made == 128 {
+    if made == JOIN {
         if load(words, x.left).to.0 != load(words, y.left).to.0 {
             return false;
         }

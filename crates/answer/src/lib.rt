@@ -64,7 +64,7 @@ fn plain_words(
     Outcome::Accepted
 }
 
-// 15; or what comes of it, after which the work words are zero.
+// 15; or as `plain_words`, and then the work words are zero.
 fn plain_in(
     codes: &[u8],
     count: usize,
@@ -330,7 +330,7 @@ fn narrowed_words(
     Outcome::Accepted
 }
 
-// 15; or what comes of it, after which the work words are zero.
+// 15; or as `narrowed_words`, and then the work words are zero.
 fn narrowed_in(
     count: usize,
     sizes: &[u8],

@@ -1,4 +1,4 @@
--- `answer::plain_answer` meets its contract.
+-- `answer::plain_answer` meets its contract: the refusal of the first file that has one, or the codes that were read make the path of the question, whose pairs `plain_in` gives.
 -- Assumes nothing.
 use Rattle.answer.proofs.Whole.{plain-refused, plain-register, plain-accepted}
 use Rattle.answer.proofs.Files.{question-accepted}

@@ -1,4 +1,4 @@
--- `answer::plain_in` meets its contract.
+-- `answer::plain_in` meets its contract: 15 where the work words are too few, else the outcome of `plain_words`, which changed no work word but those that are cleared.
 -- Assumes nothing.
 use Rattle.evaluation.proofs.Grounds.{stands}
 use Rattle.answer.proofs.Answered.{answers-15, answers-rest}

@@ -1,4 +1,4 @@
--- `answer::plain_words` meets its contract.
+-- `answer::plain_words` meets its contract: 14 where the answer is too short, else the words of the path's relation, which has no pair past the last record.
 -- Assumes nothing.
 use Rattle.answer.proofs.Answered.{fills-short, fills-plain}
 use Rattle.evaluation.proofs.Grounds.{small}

@@ -1,4 +1,4 @@
--- `bits::lowest` meets its contract.
+-- `bits::lowest` meets its contract: the count of trailing zeros of a word that is not 0 is the number of its lowest bit.
 -- Assumes nothing.
 use native.Mathlib.Omega.{arith}
 use lib.Count.{trailing-le}

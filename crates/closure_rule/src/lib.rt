@@ -15,7 +15,7 @@ ghost use Rattle.closure_rule.specs.Asks.{Closing, CopyAcyclic, GrowWalk
 
 // ---- walks that meet no cyclic kind
 
-// Copies those of the nodes p to d that meet no cyclic kind to a part from s on; their number.
+// Copies the nodes p to d whose kinds are not cyclic to a part from s on; their number.
 fn copy_acyclic(
     words: &mut [u64],
     question: &[u8],
@@ -39,7 +39,7 @@ fn copy_acyclic(
     count
 }
 
-// Adds all walks over the f nodes from s on, up to the 129th: each node of the part, as it grows, is joined with each of the f; the new count.
+// Adds all walks over the f nodes from s on, up to the 129th: each node of the growing part is joined with each of the f. The new count.
 fn grow_walks(words: &mut [u64], question: &[u8], s: usize, f: usize) -> usize
     requires { ⌜ GrowWalks (now question) (now words) s f ⌝ }
     ensures { λ r. ⌜ Done (now (question .entry)) (now (words .entry)) (now (words .exit)) (s + f) s r (distinct (walks 24 (part-of (now (question .entry)) (now (words .entry)) s f) (part-of (now (question .entry)) (now (words .entry)) s f))) ⌝ }

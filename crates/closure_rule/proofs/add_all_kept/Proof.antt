@@ -1,4 +1,4 @@
--- `closure_rule::add_all_kept` meets its contract.
+-- `closure_rule::add_all_kept` meets its contract: the part, with the closures from the kinds still to come adjoined, is the part with all of them; past 128 triples it stays too many.
 -- Assumes nothing.
 use borrow.Author.Needs.{needs}
 use Prim.Native.Nat.{_+_, _-_}

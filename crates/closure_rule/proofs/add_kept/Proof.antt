@@ -1,4 +1,4 @@
--- `closure_rule::add_kept` meets its contract.
+-- `closure_rule::add_kept` meets its contract: where a walk between the two kinds meets a cyclic kind the node stands for the closure to be adjoined, and elsewhere there is none.
 -- Assumes nothing.
 use borrow.Author.Needs.{needs}
 use Rattle.closure_rule.proofs.add_kept.Statement.{statement}

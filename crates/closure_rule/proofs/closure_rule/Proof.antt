@@ -1,4 +1,4 @@
--- `closure_rule::closure_rule` meets its contract.
+-- `closure_rule::closure_rule` meets its contract: the walks of the acyclic triples and then the kept closures are the rule's list; 13 hangs on the walks alone, and closures only make a list longer.
 -- Assumes nothing.
 use borrow.Author.Needs.{needs}
 use Rattle.closure_rule.proofs.closure_rule.Statement.{statement}

@@ -1,4 +1,4 @@
--- `closure_rule::copy_acyclic` meets its contract.
+-- `closure_rule::copy_acyclic` meets its contract: the nodes passed whose ends are not cyclic were added once each, and the filter of those from j on is still to come.
 -- Assumes nothing.
 use borrow.Author.Needs.{needs}
 use Prim.Native.Nat.{_-_}

@@ -1,4 +1,4 @@
--- `closure_rule::grow_walks` meets its contract.
+-- `closure_rule::grow_walks` meets its contract: each walk is a shorter one joined with a triple of the start, and one of 25 triples would be too long, so the growth has them all.
 -- Assumes nothing.
 use borrow.Author.Needs.{needs}
 use Prim.Native.Nat.{_+_, _-_}

@@ -36,7 +36,7 @@ fn first_unknown(register: &[u8], n: usize, kinds: u8) -> Failing
     Failing::Nowhere
 }
 
-// Whether a sheet's table has the bit of a triple.
+// Has a sheet's table the bit of a triple?
 fn permitted(table: &[u64; sheet::TABLE], from: Kind, link: Link, to: Kind) -> bool
     requires { ⌜ (from .0 < 64) × ((link .0 < 64) × (to .0 < 64)) ⌝ }
     ensures { λ r. ⌜ r ≡ tabled? (now (table .entry)) (from .0) (link .0) (to .0) ⌝ }
@@ -71,7 +71,7 @@ fn first_forbidden(register: &[u8], n: usize, table: &[u64; sheet::TABLE]) -> Fa
     }
 }
 
-// The place of 16: that of a record, or n more than that of a link.
+// The place of 16: a record's number, or n more than a link's.
 pub fn first_breach(register: &[u8], n: usize, kinds: u8, table: &[u64; sheet::TABLE]) -> Failing
     requires { ⌜ Accepted (now register) × (n ≡ records (register-in (now register))) ⌝ }
     ensures { λ r. ⌜ failing-said r ≡ first-breach kinds (now (table .entry)) (register-in (now (register .entry))) ⌝ }

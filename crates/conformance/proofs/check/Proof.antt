@@ -1,4 +1,4 @@
--- `conformance::check` meets its contract.
+-- `conformance::check` meets its contract: a refused file comes first, then the breach found by the sheet's own table, which permits what the sheet does.
 -- Assumes nothing.
 use borrow.Author.Needs.{needs}
 use Rattle.conformance.proofs.Checked.{sheet-refused, register-refused, breach-at, no-breach}

@@ -1,4 +1,4 @@
--- `conformance::first_breach` meets its contract.
+-- `conformance::first_breach` meets its contract: a record of an unknown kind comes before any link, whose places are counted from the number of records.
 -- Assumes nothing.
 use borrow.Author.Needs.{needs}
 use Rattle.conformance.proofs.Checked.{breach-of-kind, breach-of-link}

@@ -1,4 +1,4 @@
--- `conformance::first_forbidden` meets its contract.
+-- `conformance::first_forbidden` meets its contract: the search over the links still to come, counted from their place, finds what the whole search finds.
 -- Assumes nothing.
 use borrow.Author.Needs.{needs}
 use Rattle.register.proofs.Walk.{fewer}

@@ -1,4 +1,4 @@
--- `conformance::first_unknown` meets its contract.
+-- `conformance::first_unknown` meets its contract: the kinds of the records before i are known, so the search from i on finds what the whole search finds.
 -- Assumes nothing.
 use Prim.Native.Nat.{_-_}
 use native.Mathlib.Omega.{arith}

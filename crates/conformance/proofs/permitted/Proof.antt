@@ -1,4 +1,4 @@
--- `conformance::permitted` meets its contract.
+-- `conformance::permitted` meets its contract: the bit of the to kind, in the word of the from kind and the link, is the table's test.
 -- Assumes nothing.
 use borrow.Author.Needs.{needs}
 use Rattle.sheet.specs.Table.{tabled?}

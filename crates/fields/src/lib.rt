@@ -71,13 +71,13 @@ pub enum Source {
     Work,
 }
 
-// What comes of a call that tells nothing but this.
+// The outcome of a call that returns nothing else.
 pub enum Outcome {
     Accepted,
     Refused(Source, Refusal),
 }
 
-// What comes of a call that writes a file, or tells its size: the number of its members, or of a question's symbols, and that of its bytes.
+// The outcome of a call that writes a file or tells its size: the number of its members (of a question: its symbols), and of its bytes.
 pub enum Written {
     File(usize, usize),
     Refused(Source, Refusal),
@@ -225,7 +225,7 @@ fn row_of(tag: u8) -> Row
     }
 }
 
-// The table has the tag with this length for the file.
+// Has the table the tag with this length for the file?
 fn own(file: File, tag: u8, len: u16) -> bool
     ensures { λ r. ⌜ r ≡ among rows file tag len ⌝ }
 {
@@ -241,7 +241,7 @@ pub struct Due {
     pub over: bool,
 }
 
-// The tag is due, and the length is its own.
+// Is the tag due, and the length its own?
 fn is_due(due: Due, tag: u8, len: u16) -> bool
     ensures { λ r. ⌜ r ≡ fitting due tag len ⌝ }
 {

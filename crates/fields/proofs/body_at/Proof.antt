@@ -1,4 +1,4 @@
--- `fields::body_at` meets its contract.
+-- `fields::body_at` meets its contract: a whole field ends within the file, so that its body is a part of it; of any other field the body is empty.
 -- Assumes nothing.
 use borrow.Author.Needs.{needs}
 use native.Mathlib.Omega.{arith}

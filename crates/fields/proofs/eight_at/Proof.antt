@@ -1,4 +1,4 @@
--- `fields::eight_at` meets its contract.
+-- `fields::eight_at` meets its contract: four numbers of two bytes, each below 65536, are its digits in base 65536, and no step exceeds 64 bits.
 -- Assumes nothing.
 use Rattle.fields.specs.Reading.{eight}
 use borrow.Author.Needs.{needs}

@@ -1,4 +1,4 @@
--- `fields::field` meets its contract.
+-- `fields::field` meets its contract: what lies at a place, once judged, is what the definition yields, in each case of its three tests of length.
 -- Assumes nothing.
 use mathlib.Core.Path.{ap, _∙_}
 use Rattle.fields.specs.Raw.{judged}

@@ -1,4 +1,4 @@
--- `fields::is_due` meets its contract.
+-- `fields::is_due` meets its contract: a tag outside of lo to hi is not due, and of any other the table tells.
 -- Assumes nothing.
 use borrow.Author.Needs.{needs}
 use borrow.Author.Tests.{le-leb, lt-leb}

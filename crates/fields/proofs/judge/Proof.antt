@@ -1,4 +1,4 @@
--- `fields::judge` meets its contract.
+-- `fields::judge` meets its contract: each form of a field, with each test of what is due, is a case of `judged`.
 -- Assumes nothing.
 use borrow.Author.Needs.{needs}
 use Rattle.fields.proofs.judge.Statement.{statement}

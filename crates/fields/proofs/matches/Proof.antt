@@ -1,4 +1,4 @@
--- `fields::matches` meets its contract.
+-- `fields::matches` meets its contract: tag, length and file are tested in turn, and the first that does not fit settles it.
 -- Assumes nothing.
 use borrow.Author.Needs.{needs}
 use borrow.Author.Tests.{eq-eqb, ne-eqb}

@@ -1,4 +1,4 @@
--- `fields::own` meets its contract.
+-- `fields::own` meets its contract: no tag has two rows, so the row of the tag tells alone whether the table has it with this length for the file.
 -- Assumes nothing.
 use mathlib.Core.Path.{_∙_}
 use Rattle.fields.proofs.Rows.{row-among}

@@ -1,4 +1,4 @@
--- `fields::row_of` meets its contract.
+-- `fields::row_of` meets its contract: each of the eleven tags has its row in the table, and a tag that is none of them has the row that allows no file.
 -- Assumes nothing.
 use mathlib.Core.Path.{sym, ap}
 use borrow.Author.Tests.{ne-eqb}

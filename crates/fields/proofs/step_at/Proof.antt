@@ -1,4 +1,4 @@
--- `fields::step_at` meets its contract.
+-- `fields::step_at` meets its contract: three tests of the file's length tell apart the end, a head cut short, a body cut short and a whole field.
 -- Assumes nothing.
 use borrow.Author.Needs.{needs}
 use borrow.Author.Tests.{lt-ltb, lt-leb, le-ltb, le-leb}

@@ -30,7 +30,7 @@ const NONE: Span = Span {
     from: 0,
 };
 
-// The rule of symbol i with code c, for the parts x and y (of a closure x alone): its part is made from `used` on.
+// The rule of symbol i, of code c, on the parts x and y (a closure: x alone); its part's nodes start at `used`.
 fn rule(
     words: &mut [u64],
     question: &[u8],
@@ -84,7 +84,7 @@ fn origin(c: u8, i: usize, x: Span) -> usize
     x.from
 }
 
-// The triples of a question of `count` symbols, by a sheet's table of so many kinds.
+// The triples of a question of `count` symbols, by a sheet's table of `kinds` kinds.
 pub fn infer(
     words: &mut [u64],
     question: &[u8],

@@ -1,4 +1,4 @@
--- `inference::infer` meets its contract.
+-- `inference::infer` meets its contract: each part on the stack has the triples of its path, and the first symbol whose rule is refused is the first that the definition refuses.
 -- Assumes nothing.
 use borrow.Author.Needs.{needs}
 use Prim.Native.Nat.{_-_}

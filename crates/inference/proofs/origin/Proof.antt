@@ -1,4 +1,4 @@
--- `inference::origin` meets its contract.
+-- `inference::origin` meets its contract: a code below 128 is a step, which is a symbol alone; an operator's symbols begin with those of its first operand.
 -- Assumes nothing.
 use Rattle.inference.proofs.origin.Statement.{statement}
 use Rattle.inference.proofs.origin.Tie as tie

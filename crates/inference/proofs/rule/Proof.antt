@@ -1,4 +1,4 @@
--- `inference::rule` meets its contract.
+-- `inference::rule` meets its contract: the code says which rule it is, and the triples of that rule over the two parts are those of the symbol.
 -- Assumes nothing.
 use borrow.Author.Needs.{needs}
 use Rattle.inference.proofs.rule.Statement.{statement}

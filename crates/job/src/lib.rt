@@ -27,7 +27,7 @@ fn work_need(n: usize, w: usize) -> usize
     narrowing::NEED
 }
 
-// The file in an area of which it has the first bytes.
+// The file that lies in the first bytes of an area.
 fn file_in(area: &[u8], bytes: usize) -> &[u8]
     requires { ⌜ bytes ≤ length (now area) ⌝ }
     ensures { λ r. ⌜ now r ≡ take bytes (now (area .entry)) ⌝ }
@@ -117,7 +117,7 @@ fn job_codes(
     }
 }
 
-// 14 for the answer, or what comes of it.
+// 14 for the answer, or as `job_codes`.
 fn job_words(
     codes: &[u8],
     count: usize,
@@ -153,7 +153,7 @@ fn job_words(
     )
 }
 
-// 15; or what comes of it, after which the work words are zero.
+// 15; or as `job_words`, and then the work words are zero.
 fn job_in(
     codes: &[u8],
     count: usize,

@@ -1,4 +1,4 @@
--- `job::file_in` meets its contract.
+-- `job::file_in` meets its contract: the area has at least that many bytes, so that its first ones are a part of it.
 -- Assumes nothing.
 use borrow.Author.Needs.{needs}
 use Rattle.job.proofs.file_in.Statement.{statement}

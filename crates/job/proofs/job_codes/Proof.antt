@@ -1,4 +1,4 @@
--- `job::job_codes` meets its contract.
+-- `job::job_codes` meets its contract: the tests come in the order 11, 16, 12 or 13, 14; past them the file has the members that narrowing gives, and `answer_file` their pairs.
 -- Assumes nothing.
 use borrow.Author.Needs.{needs}
 use Rattle.job.proofs.job_codes.Statement.{statement}

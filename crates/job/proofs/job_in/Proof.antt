@@ -1,4 +1,4 @@
--- `job::job_in` meets its contract.
+-- `job::job_in` meets its contract: 15 where the work words are too few for either half, else the outcome of `job_words`, which changed no work word but those that are cleared.
 -- Assumes nothing.
 use borrow.Author.Needs.{needs}
 use Rattle.job.proofs.job_in.Statement.{statement}

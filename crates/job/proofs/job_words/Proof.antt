@@ -1,4 +1,4 @@
--- `job::job_words` meets its contract.
+-- `job::job_words` meets its contract: 14 where the answer is too short for the register's pairs, and else the outcome of `job_codes`, for which there is room.
 -- Assumes nothing.
 use borrow.Author.Needs.{needs}
 use Rattle.job.proofs.job_words.Statement.{statement}

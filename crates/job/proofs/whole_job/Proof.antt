@@ -1,4 +1,4 @@
--- `job::whole_job` meets its contract.
+-- `job::whole_job` meets its contract: the first file that is refused, or `job_in` on what was read; an accepted job's register obeys, so the pairs are the plain answer's (demand 3).
 -- Assumes nothing.
 use borrow.Author.Needs.{needs}
 use Rattle.job.proofs.whole_job.Statement.{statement}

@@ -1,4 +1,4 @@
--- `job::work_need` meets its contract.
+-- `job::work_need` meets its contract: narrowing needs 8192 words and the answer 28 relations, and the larger of the two is told.
 -- Assumes nothing.
 use borrow.Author.Needs.{needs}
 use Rattle.job.proofs.work_need.Statement.{statement}

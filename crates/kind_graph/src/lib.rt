@@ -20,7 +20,7 @@ pub const GRAPH: usize = 2 * KINDS;
 // The most triples of a walk whose size is still asked for, but the first: one of more has more than 48 symbols.
 const ROUNDS: usize = 24;
 
-// A bit for the kinds of each triple of the nodes from s to e.
+// Sets bit (from, to) for each triple of the nodes s to e.
 fn edges(words: &[u64], question: &[u8], s: usize, e: usize, work: &mut [u64])
     requires { ⌜ (s ≤ e) × (e ≤ length (now words)) × (length (now work) ≡ 128) ⌝ }
     ensures { λ _. ⌜ Edges (part-of (now (question .entry)) (now (words .entry)) s (e - s)) (now (work .exit)) ⌝ }
@@ -46,7 +46,7 @@ fn cyclic(mask: &mut [u64], work: &[u64])
     }
 }
 
-// The last 64 words become the first 64.
+// Copies the first half to the second.
 fn double(work: &mut [u64])
     requires { ⌜ length (now work) ≡ 128 ⌝ }
     ensures { λ _. ⌜ Row 64 64 (row-bit (now (work .entry)) 0) (now (work .entry)) (now (work .exit)) ⌝ }
@@ -99,7 +99,7 @@ pub fn meets_any(work: &[u64], a: Kind) -> bool
     rows::any(work, a.0 as usize, 1)
 }
 
-// Raises what stands at k to v, where it is less.
+// Raises the number at k to v, where it is less.
 fn raise(best: &mut [u64], k: Kind, v: u64)
     requires { ⌜ k .0 < length (now best) ⌝ }
     ensures { λ _. ⌜ Raised (k .0) v (now (best .entry)) (now (best .exit)) ⌝ }
@@ -110,7 +110,7 @@ fn raise(best: &mut [u64], k: Kind, v: u64)
     }
 }
 
-// The size of a walk of size m (0: there is none) joined with one more.
+// The size of a walk of size m (0: no walk) joined with a triple.
 fn extend(m: u64, size: usize) -> u64
     requires { ⌜ (m ≤ 48) × (size < 64) ⌝ }
     ensures { λ r. ⌜ r ≡ extended m size ⌝ }
@@ -134,7 +134,7 @@ fn first_round(words: &[u64], question: &[u8], s: usize, e: usize, next: &mut [u
     }
 }
 
-// The same of walks with one triple more, by what `best` says of those without it.
+// The same of walks with one triple more, by the sizes in `best` of those without.
 fn round(words: &[u64], question: &[u8], s: usize, e: usize, best: &[u64], next: &mut [u64])
     requires { ⌜ Part (now question) (now words) s e × (length (now best) ≡ 64) × (length (now next) ≡ 64) × Small (now best) ⌝ }
     ensures { λ _. ⌜ Raising (weight (now (best .entry))) (part-of (now (question .entry)) (now (words .entry)) s (e - s)) (now (next .entry)) (now (next .exit)) ⌝ }

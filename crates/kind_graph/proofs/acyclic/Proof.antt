@@ -1,4 +1,4 @@
--- `kind_graph::acyclic` meets its contract.
+-- `kind_graph::acyclic` meets its contract: bit k of word 64 + k is set where a walk leads from kind k back to it, and both kinds are tested.
 -- Assumes nothing.
 use Rattle.kind_graph.proofs.Linking.{tells-cyclic, tells-acyclic}
 use mathlib.Core.Path.{sym, _∙_}

@@ -1,4 +1,4 @@
--- `kind_graph::cyclic` meets its contract.
+-- `kind_graph::cyclic` meets its contract: of the kinds before z the mask has those whose own bit is set in their row.
 -- Assumes nothing.
 use mathlib.Core.Path.{_≡_}
 use mathlib.Core.Bool.{Bool}

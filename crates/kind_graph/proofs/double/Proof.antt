@@ -1,4 +1,4 @@
--- `kind_graph::double` meets its contract.
+-- `kind_graph::double` meets its contract: what the last 64 words take in is a copy of the first 64, which stay as they are.
 -- Assumes nothing.
 use Rattle.rows.proofs.Rows.{row-is}
 use borrow.Author.Needs.{needs}

@@ -1,4 +1,4 @@
--- `kind_graph::edges` meets its contract.
+-- `kind_graph::edges` meets its contract: the pairs set so far, with the triples of the nodes from i on, are the edges of the whole part.
 -- Assumes nothing.
 use Rattle.kind_graph.proofs.Linking.{Linking, link-start, edges-next, edges-end}
 use Rattle.triples.specs.Parts.{part-of}

@@ -1,4 +1,4 @@
--- `kind_graph::extend` meets its contract.
+-- `kind_graph::extend` meets its contract: 0 stands for no walk and stays 0; any other walk gains the triple's symbols and that of the join.
 -- Assumes nothing.
 use Rattle.kind_graph.proofs.Rounds.{extended-more}
 use borrow.Author.Needs.{needs}

@@ -1,4 +1,4 @@
--- `kind_graph::first_round` meets its contract.
+-- `kind_graph::first_round` meets its contract: the numbers so far, raised by the nodes from i on, are the start raised by the whole part; a node's size is that of its path.
 -- Assumes nothing.
 use Rattle.kind_graph.proofs.Rounds.{Going, round-start, round-next, round-end, size-is}
 use Rattle.kind_graph.specs.Sizes.{size-of}

@@ -1,4 +1,4 @@
--- `kind_graph::graph` meets its contract.
+-- `kind_graph::graph` meets its contract: the closed edges are the walks; joined through the cyclic kinds they are those that meet one, at an end too, as a walk leads from it to itself.
 -- Assumes nothing.
 use Rattle.kind_graph.proofs.Linking.{linked}
 use borrow.Author.Needs.{needs}

@@ -1,4 +1,4 @@
--- `kind_graph::meets` meets its contract.
+-- `kind_graph::meets` meets its contract: bit b of word a is set just where a walk that meets a cyclic kind leads from a to b.
 -- Assumes nothing.
 use mathlib.Core.Path.{_∙_}
 use borrow.Author.Needs.{needs}

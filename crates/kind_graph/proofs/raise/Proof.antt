@@ -1,4 +1,4 @@
--- `kind_graph::raise` meets its contract.
+-- `kind_graph::raise` meets its contract: the larger of the two numbers stands at k, and the others are as they were.
 -- Assumes nothing.
 use Rattle.kind_graph.proofs.Rounds.{raised-set, raised-not}
 use borrow.Author.Needs.{needs}

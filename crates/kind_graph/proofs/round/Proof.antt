@@ -1,4 +1,4 @@
--- `kind_graph::round` meets its contract.
+-- `kind_graph::round` meets its contract: the numbers so far, raised by the nodes from i on, are the start raised by all; a node weighs as the largest walk to it, joined with it.
 -- Assumes nothing.
 use Rattle.kind_graph.proofs.Rounds.{Going, round-start, round-next, round-end, weight-is}
 use Rattle.kind_graph.specs.Sizes.{weight}

@@ -33,7 +33,7 @@ fn number(code: u8, set: u64) -> u8
     symbols::THROUGH
 }
 
-// Makes the codes of n symbols numbers; the bytes of their fields.
+// Turns n symbols' codes into numbers; the bytes of their fields.
 fn number_symbols(codes: &mut [u8], sets: &[u64], n: usize) -> usize
     requires { ⌜ (n ≤ length (now codes)) × (n ≤ length (now sets)) × (n ≤ 48) ⌝ }
     ensures { λ r. ⌜ Numbering (now (codes .entry)) (now (sets .entry)) (now (codes .exit)) n r ⌝ }

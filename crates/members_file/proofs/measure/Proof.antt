@@ -1,4 +1,4 @@
--- `members_file::measure` meets its contract.
+-- `members_file::measure` meets its contract: what is counted, with the members of the nodes from k on, is always the whole file.
 -- Assumes nothing.
 use Rattle.members_file.proofs.Counting.{Counting, count-start, count-asks, count-turn, count-over}
 use mathlib.Core.Path.{refl}

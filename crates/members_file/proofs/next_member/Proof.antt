@@ -1,4 +1,4 @@
--- `members_file::next_member` meets its contract.
+-- `members_file::next_member` meets its contract: the codes of the run's member become numbers, which are the symbols of its path, and its bytes are those of 42 and of the symbols.
 -- Assumes nothing.
 use Rattle.members_file.proofs.Counting.{entry-is}
 use borrow.Author.Needs.{needs}

@@ -1,4 +1,4 @@
--- `members_file::number` meets its contract.
+-- `members_file::number` meets its contract: a code other than 128 stays, and a join is 255 just where its set is not empty.
 -- Assumes nothing.
 use Rattle.members_file.proofs.Symbols.{other-code, plain-join, set-join}
 use Rattle.members_file.proofs.number.Statement.{statement}

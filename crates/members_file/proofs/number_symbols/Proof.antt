@@ -1,4 +1,4 @@
--- `members_file::number_symbols` meets its contract.
+-- `members_file::number_symbols` meets its contract: the codes before j have become numbers, and the bytes of the symbols from j on are still to be counted.
 -- Assumes nothing.
 use Rattle.members_file.proofs.Symbols.{Going, going-start, going-turn, going-over}
 use borrow.Author.Needs.{needs}

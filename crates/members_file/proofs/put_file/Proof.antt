@@ -1,4 +1,4 @@
--- `members_file::put_file` meets its contract.
+-- `members_file::put_file` meets its contract: what is written, followed by the members of the nodes from k on, is always the whole file, for which there is room.
 -- Assumes nothing.
 use Rattle.encode.proofs.Along.{wrote-length}
 use Rattle.members_file.proofs.Filling.{Filling, count-room, fill-start, fill-asks, fill-over, fill-room, fill-turn}

@@ -116,7 +116,7 @@ fn or_sets(into: &mut [u64], from: &[u64], n: usize)
     }
 }
 
-// ORs the join sets of node i into the first n ones, if its codes are the first n of `codes`.
+// ORs node i's join sets into the first n of `sets`, if its codes are the first n of `codes`.
 fn take_in(
     words: &[u64],
     used: usize,

@@ -1,4 +1,4 @@
--- `merge::arrange` meets its contract.
+-- `merge::arrange` meets its contract: it is an insertion sort from the last node to the first, in which those from s + i on always stand sorted at i to n.
 -- Assumes nothing.
 use Rattle.merge.specs.Arranging.{Arranged}
 use Rattle.merge.proofs.Sorting.{arrange-start, arrange-asks, arrange-turn, arrange-over}

@@ -1,4 +1,4 @@
--- `merge::before` meets its contract.
+-- `merge::before` meets its contract: both nodes expand to the codes of their paths, and `precedes` compares these.
 -- Assumes nothing.
 use Rattle.merge.proofs.Comparing.{ready, expanded-codes, expanded-end}
 use Rattle.merge.specs.Arranging.{earlier?}

@@ -1,4 +1,4 @@
--- `merge::kinds` meets its contract.
+-- `merge::kinds` meets its contract: 1 shifted by a kind below 64 is the set of that kind alone.
 -- Assumes nothing.
 use Rattle.triples.proofs.Expanding.{shl-singleton}
 use Rattle.triples.specs.declared.Node.{Node}

@@ -1,4 +1,4 @@
--- `merge::or_sets` meets its contract.
+-- `merge::or_sets` meets its contract: the sets before j are unions, and those from j on are as they were.
 -- Assumes nothing.
 use Rattle.merge.proofs.Merging.{or-start, or-turn, or-over}
 use Rattle.merge.specs.Runs.{Ored}

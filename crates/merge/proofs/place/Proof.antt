@@ -1,4 +1,4 @@
--- `merge::place` meets its contract.
+-- `merge::place` meets its contract: each node that comes before t moves one place to the front, and t takes the place in front of the first that does not.
 -- Assumes nothing.
 use Rattle.merge.proofs.Sorting.{Going, place-start, place-over, place-asks, place-found, place-turn}
 use borrow.Author.Tests.{not-true, not-false}

@@ -1,4 +1,4 @@
--- `merge::precedes` meets its contract.
+-- `merge::precedes` meets its contract: the codes before k are equal, so those from k on are compared as the whole ones are.
 -- Assumes nothing.
 use Rattle.merge.proofs.Comparing.{ended, past, less, more, equal}
 use Rattle.merge.specs.Arrays.{segment}

@@ -1,4 +1,4 @@
--- `merge::run` meets its contract.
+-- `merge::run` meets its contract: the arrays hold the merged member of the nodes from k to j, and the first node of other codes begins the next member.
 -- Assumes nothing.
 use Rattle.merge.proofs.Merging.{Gathering, first-in, first-ready, run-start, next-in, run-asks, run-ends, run-turn, run-over}
 use borrow.Author.Tests.{not-true, not-false}

@@ -1,4 +1,4 @@
--- `merge::take_in` meets its contract.
+-- `merge::take_in` meets its contract: codes of which neither come before the other are equal, and then the join sets are united place by place.
 -- Assumes nothing.
 use Rattle.merge.proofs.Merging.{taken-before, taken-after, taken-in}
 use Rattle.merge.proofs.Comparing.{ready, expanded-end}

@@ -175,7 +175,7 @@ fn code(number: u8) -> u8
     number
 }
 
-// Of symbols one after the other: those from a to b come before those from b to e.
+// Do the symbols from a to b come before those from b to e, in members' order?
 pub fn earlier(numbers: &[u8], a: usize, b: usize, e: usize) -> bool
     requires { ⌜ (a ≤ b) × ((b ≤ e) × (e ≤ length (now numbers))) ⌝ }
     ensures { λ r. ⌜ r ≡ before? (segment-codes (now (numbers .entry)) a b) (segment-codes (now (numbers .entry)) b e) ⌝ }
@@ -255,7 +255,7 @@ fn refused(r: Refusal) -> Narrowed
     Narrowed { outcome, members }
 }
 
-// The field at a place, judged.
+// Judges the field at a place.
 fn look(s: &[u8], st: Standing, at: usize) -> Turn
     requires { ⌜ Able st × (at ≤ length (now s)) ⌝ }
     ensures { λ r. ⌜ turn-said r ≡ turned st at (now (s .entry)) ⌝ }

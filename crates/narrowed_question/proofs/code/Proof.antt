@@ -1,4 +1,4 @@
--- `narrowed_question::code` meets its contract.
+-- `narrowed_question::code` meets its contract: 255, a join through a set, counts as 128 in the order, and any other number as itself.
 -- Assumes nothing.
 use borrow.Author.Tests.{eq-eqb, ne-eqb}
 use Rattle.symbols.specs.Symbols.{order-code}

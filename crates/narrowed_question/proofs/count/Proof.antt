@@ -1,4 +1,4 @@
--- `narrowed_question::count` meets its contract.
+-- `narrowed_question::count` meets its contract: a number up to 128 fits a byte and is that of the members left; a larger one is refusal 3.
 -- Assumes nothing.
 use Rattle.fields.specs.Table.{rows, tag-length}
 use borrow.Author.Tests.{lt-leb, le-leb}

@@ -1,4 +1,4 @@
--- `narrowed_question::due` meets its contract.
+-- `narrowed_question::due` meets its contract: 41 at the head, 42 before a member or the end where none is left, and within a member what its stack says.
 -- Assumes nothing.
 use borrow.Author.Needs.{needs}
 use Rattle.narrowed_question.proofs.due.Statement.{statement}

@@ -1,4 +1,4 @@
--- `narrowed_question::earlier` meets its contract.
+-- `narrowed_question::earlier` meets its contract: the codes before i and before j are equal in pairs, so those from there on compare as the whole members do.
 -- Assumes nothing.
 use mathlib.Core.Path.{_≡_, refl}
 use lib.ListN.{length}

@@ -1,4 +1,4 @@
--- `narrowed_question::grow` meets its contract.
+-- `narrowed_question::grow` meets its contract: the symbol is read and its operands are counted, and the first refusal of the two is the field's; it is the last where no symbol is left.
 -- Assumes nothing.
 use borrow.Author.Tests.{eq-eqb, ne-eqb}
 use Rattle.narrowed_question.specs.Said.{symbol-move}

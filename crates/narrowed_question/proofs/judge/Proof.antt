@@ -1,4 +1,4 @@
--- `narrowed_question::judge` meets its contract.
+-- `narrowed_question::judge` meets its contract: where the reading stands says whether the body is that of 41, of 42 or of a symbol, and so how long it is.
 -- Assumes nothing.
 use borrow.Author.Needs.{needs}
 use Rattle.narrowed_question.proofs.judge.Statement.{statement}

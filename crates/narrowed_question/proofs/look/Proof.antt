@@ -1,4 +1,4 @@
--- `narrowed_question::look` meets its contract.
+-- `narrowed_question::look` meets its contract: the field found is the definition's, and a body that was found has the length that its judge needs.
 -- Assumes nothing.
 use mathlib.Core.Path.{_≡_, _∙_, ap, sym}
 use denote.Ref.{now}

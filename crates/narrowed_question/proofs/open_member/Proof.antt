@@ -1,4 +1,4 @@
--- `narrowed_question::open_member` meets its contract.
+-- `narrowed_question::open_member` meets its contract: a size outside of 1 to 48 is refusal 3, and the sets are the two numbers of eight bytes after it.
 -- Assumes nothing.
 use Rattle.fields.specs.Table.{rows, tag-length}
 use borrow.Author.Tests.{lt-leb, le-leb}

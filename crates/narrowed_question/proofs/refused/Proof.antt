@@ -1,4 +1,4 @@
--- `narrowed_question::refused` meets its contract.
+-- `narrowed_question::refused` meets its contract: with a count of 0 and zeros alone the arrays hold no member.
 -- Assumes nothing.
 use mathlib.Core.Path.{refl}
 use Rattle.fields.specs.Padded.{padded}

@@ -17,7 +17,7 @@ pub enum Place {
     Refused(Refusal),
 }
 
-// A symbol has that number.
+// Is it a symbol's number?
 fn known(number: u8) -> bool
     ensures { λ r. ⌜ r ≡ symbol? number ⌝ }
 {
@@ -27,7 +27,7 @@ fn known(number: u8) -> bool
     number == 255
 }
 
-// One symbol more, by its number, at a place: refusals 3 and 6.
+// Judges a symbol, by its number, at a place: refusals 3 and 6.
 fn offer(q: Stack, at: usize, number: u8) -> Pushed
     requires { ⌜ (0 < q .left) × ((q .depth < 255) × (at < 1000000)) ⌝ }
     ensures { λ r. ⌜ push-said r ≡ offered q at number ⌝ }
@@ -43,7 +43,7 @@ fn offer(q: Stack, at: usize, number: u8) -> Pushed
     Pushed::Refused(Refusal::OutOfRange(at))
 }
 
-// The n symbols from the k-th on, the first at a place.
+// Judges symbols k to k + n, the first at a place.
 fn judge_path(numbers: &[u8], k: usize, n: u8, at: usize) -> Place
     requires { ⌜ (k + n ≤ length (now numbers)) × (at < 100000) ⌝ }
     ensures { λ r. ⌜ place-said r ≡ path-verdict (record { left = n; depth = 0 }) at (take n (drop k (now (numbers .entry)))) ⌝ }
@@ -67,7 +67,7 @@ fn judge_path(numbers: &[u8], k: usize, n: u8, at: usize) -> Place
     Place::At(place)
 }
 
-// A member of n symbols, from the k-th on; its 42 is at a place.
+// Judges a member: symbols k to k + n, its 42 at a place.
 fn judge_member(numbers: &[u8], k: usize, n: u8, at: usize) -> Place
     requires { ⌜ (k + 48 ≤ length (now numbers)) × (at < 90000) ⌝ }
     ensures { λ r. ⌜ place-said r ≡ member-verdict at n (take n (drop k (now (numbers .entry)))) ⌝ }
@@ -81,7 +81,7 @@ fn judge_member(numbers: &[u8], k: usize, n: u8, at: usize) -> Place
     judge_path(numbers, k, n, at + encode::MEMBER_BYTES)
 }
 
-// The members, as the file that they would make.
+// Judges members as the file they would make.
 fn judge(q: Members) -> Place
     ensures { λ r. ⌜ place-said r ≡ verdict (given q) ⌝ }
 {

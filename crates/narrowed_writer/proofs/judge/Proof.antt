@@ -1,4 +1,4 @@
--- `narrowed_writer::judge` meets its contract.
+-- `narrowed_writer::judge` meets its contract: the verdict on the members from the i-th on, given the one before and the place, is that on all members.
 -- Assumes nothing.
 use lib.ListN.{length}
 use mathlib.Core.Path.{_≡_, refl, _∙_, ap, sym}

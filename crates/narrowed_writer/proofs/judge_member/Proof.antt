@@ -1,4 +1,4 @@
--- `narrowed_writer::judge_member` meets its contract.
+-- `narrowed_writer::judge_member` meets its contract: a size outside of 1 to 48 is refusal 3, and any other leaves it to the symbols, which begin after the 42.
 -- Assumes nothing.
 use Rattle.fields.specs.Table.{rows, tag-length, field-size}
 use borrow.Author.Tests.{lt-leb, le-leb}

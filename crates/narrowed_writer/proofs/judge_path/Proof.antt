@@ -1,4 +1,4 @@
--- `narrowed_writer::judge_path` meets its contract.
+-- `narrowed_writer::judge_path` meets its contract: the verdict on the symbols left, from the stack and the place reached, is that on the whole path.
 -- Assumes nothing.
 use mathlib.Core.Path.{_∙_, ap, sym}
 use Rattle.symbols.specs.Said.{push-said}

@@ -1,4 +1,4 @@
--- `narrowed_writer::known` meets its contract.
+-- `narrowed_writer::known` meets its contract: steps and operators are the numbers below 134, and 255 is the join through a set.
 -- Assumes nothing.
 use borrow.Author.Tests.{lt-ltb, le-ltb}
 use Rattle.narrowed_writer.specs.Verdict.{symbol?}

@@ -1,4 +1,4 @@
--- `narrowed_writer::offer` meets its contract.
+-- `narrowed_writer::offer` meets its contract: a number of no symbol is refusal 3, and a symbol is pushed with the place after its own field.
 -- Assumes nothing.
 use Rattle.encode.specs.Size.{symbol-size}
 use Rattle.narrowed_writer.specs.Verdict.{offered}

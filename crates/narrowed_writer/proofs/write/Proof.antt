@@ -1,4 +1,4 @@
--- `narrowed_writer::write` meets its contract.
+-- `narrowed_writer::write` meets its contract: the verdict is the reader's on the file, and one without refusal tells the file's length: the area holds it, or it is 14.
 -- Assumes nothing.
 use Rattle.fields.specs.Answer.{got}
 use mathlib.Core.Path.{refl, _∙_, ap, sym}

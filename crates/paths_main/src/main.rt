@@ -37,7 +37,7 @@ fn page() -> [u8; 131128]
     [0; 131128]
 }
 
-// What is printed of an accepted job. Its register is read once more for the number of records, and so is never refused here.
+// Writes what is printed for an accepted job. Its register is read again for the number of records, and is not refused here.
 fn put_answer(out: &mut [u8], members: usize, answer: &[u64], register: &[u8]) -> usize
     requires { ⌜ Fits (now register) (now answer) × (131128 ≤ length (now out)) ⌝ }
     ensures { λ r. ⌜ Wrote (now (out .entry)) (now (out .exit)) 0 r (answer-of members (now (answer .entry)) (register-in (now (register .entry)))) ⌝ }
@@ -55,7 +55,7 @@ fn put_answer(out: &mut [u8], members: usize, answer: &[u64], register: &[u8]) -
     }
 }
 
-// Puts what is printed of the three files at the start of out, and answers how many bytes that are.
+// Writes what is printed for the three files to the start of out, and returns its number of bytes.
 fn run(sheet: &[u8], question: &[u8], register: &[u8], out: &mut [u8]) -> usize
     requires { ⌜ 131128 ≤ length (now out) ⌝ }
     ensures { λ r. ⌜ Prints (printed (now (sheet .entry)) (now (question .entry)) (now (register .entry))) r (now (out .exit)) ⌝ }
@@ -69,7 +69,7 @@ fn run(sheet: &[u8], question: &[u8], register: &[u8], out: &mut [u8]) -> usize
     }
 }
 
-// Reads what there is, up to the room's length, and answers how many bytes that are; none where a read fails.
+// Reads a file to its end, up to the room's length, and returns the number of bytes; 0 where a read fails.
 fn contents(fd: i32, room: &mut [u8]) -> usize
     ensures { λ r. ⌜ Counts r (now (room .exit)) ⌝ }
 {

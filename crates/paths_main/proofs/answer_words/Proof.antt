@@ -1,4 +1,4 @@
--- `paths_main::answer_words` meets its contract.
+-- `paths_main::answer_words` meets its contract: it is `zeros 256` written out.
 -- Assumes nothing.
 use borrow.Author.Needs.{needs}
 use Rattle.paths_main.proofs.answer_words.Statement.{statement}

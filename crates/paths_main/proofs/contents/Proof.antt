@@ -1,4 +1,4 @@
--- `paths_main::contents` meets its contract.
+-- `paths_main::contents` meets its contract: a read fills no more than the room from `at` on, so that `at` never passes its end.
 -- Assumes nothing.
 use borrow.Author.Needs.{needs}
 use Prim.Native.Nat.{_-_, _≤_}

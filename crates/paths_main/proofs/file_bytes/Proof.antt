@@ -1,4 +1,4 @@
--- `paths_main::file_bytes` meets its contract.
+-- `paths_main::file_bytes` meets its contract: it is `zeros 65536` written out.
 -- Assumes nothing.
 use borrow.Author.Needs.{needs}
 use Rattle.paths_main.proofs.file_bytes.Statement.{statement}

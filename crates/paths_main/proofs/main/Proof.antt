@@ -1,4 +1,4 @@
--- `paths_main::main` meets its contract.
+-- `paths_main::main` meets its contract: each part that is handed on lies within its array: no load counts more than its room, nor `run` more than the page.
 -- Assumes nothing.
 use borrow.Author.Needs.{needs}
 use Rattle.paths_main.proofs.main.Statement.{statement}

@@ -1,4 +1,4 @@
--- `paths_main::put_answer` meets its contract.
+-- `paths_main::put_answer` meets its contract: the register was accepted, so that it is not refused here, and the pairs of its at most 128 records fit the page.
 -- Assumes nothing.
 use borrow.Author.Needs.{needs}
 use Rattle.paths_main.proofs.put_answer.Statement.{statement}

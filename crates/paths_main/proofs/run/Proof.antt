@@ -1,4 +1,4 @@
--- `paths_main::run` meets its contract.
+-- `paths_main::run` meets its contract: the job's outcome on areas of zeros is the one that is printed, and 8192 work words allow at most 128 records.
 -- Assumes nothing.
 use borrow.Author.Needs.{needs}
 use Rattle.paths_main.proofs.run.Statement.{statement}

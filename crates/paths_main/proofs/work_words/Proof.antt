@@ -1,4 +1,4 @@
--- `paths_main::work_words` meets its contract.
+-- `paths_main::work_words` meets its contract: it is `zeros 8192` written out.
 -- Assumes nothing.
 use borrow.Author.Needs.{needs}
 use Rattle.paths_main.proofs.work_words.Statement.{statement}

@@ -1,4 +1,4 @@
--- `question::due` meets its contract.
+-- `question::due` meets its contract: 21 at the head, and from then on what the stack of the path says.
 -- Assumes nothing.
 use borrow.Author.Needs.{needs}
 use Rattle.question.proofs.due.Statement.{statement}

@@ -1,4 +1,4 @@
--- `question::grow` meets its contract.
+-- `question::grow` meets its contract: the symbol is read and its operands are counted, and the first refusal of the two is the field's.
 -- Assumes nothing.
 use borrow.Author.Needs.{needs}
 use Rattle.question.proofs.grow.Statement.{statement}

@@ -1,4 +1,4 @@
--- `question::head` meets its contract.
+-- `question::head` meets its contract: a number outside of 1 to 32 is refusal 3, and any other is that of the symbols due, with an empty stack.
 -- Assumes nothing.
 use Rattle.fields.specs.Table.{rows, tag-length}
 use borrow.Author.Tests.{lt-leb, le-leb}

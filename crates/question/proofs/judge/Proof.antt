@@ -1,4 +1,4 @@
--- `question::judge` meets its contract.
+-- `question::judge` meets its contract: where the reading stands says whether the body is the head's or a symbol's, and so how long it is.
 -- Assumes nothing.
 use borrow.Author.Needs.{needs}
 use Rattle.question.proofs.judge.Statement.{statement}

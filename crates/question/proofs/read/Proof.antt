@@ -1,4 +1,4 @@
--- `question::read` meets its contract.
+-- `question::read` meets its contract: at each field the array has the codes read so far with zeros after them, and the field that is refused is the definition's.
 -- Assumes nothing.
 use mathlib.Core.Path.{_≡_, _∙_, ap, sym}
 use lib.ListN.{length, take, drop}

@@ -221,7 +221,7 @@ pub struct Reached {
     pub progress: Progress,
 }
 
-// A kind is due at a place, and a whole field of one lies there.
+// Is a kind due at a place, and a whole field of one there?
 fn kind_lies(s: &[u8], at: usize, q: Progress) -> bool
     requires { ⌜ at ≤ length (now s) ⌝ }
     ensures { λ r. ⌜ (r ≡ true → KindAt (now (s .entry)) q at) ⌝ }
@@ -249,7 +249,7 @@ fn number_at(s: &[u8], at: usize) -> u64
     fields::eight_at(s, at)
 }
 
-// Another link is due, and the number is one of its field: not below `floor`, below `top`, its link one of 64, and to a record.
+// Is a link due, and v the number of a valid one: not below `floor`, below `top`, its link below 64, its to a record?
 fn link_passes(v: u64, left: u16, floor: u64, top: u64, records: u64) -> bool
     ensures { λ r. ⌜ (r ≡ true → Passes v left floor top records) ⌝ }
 {
@@ -268,7 +268,7 @@ fn link_passes(v: u64, left: u16, floor: u64, top: u64, records: u64) -> bool
     v % 65536 < records
 }
 
-// Past the kinds that are as they should be, in a loop of their own that is quick; whatever else lies there is left to the general loop.
+// Passes over valid kinds in a quick loop of their own; whatever else lies there is left to the general loop.
 fn past_kinds(s: &[u8], from: usize, start: Progress) -> Reached
     requires { ⌜ from ≤ length (now s) ⌝ }
     ensures { λ r. ⌜ Passed (now (s .entry)) start from (r .progress) (r .at) ⌝ }
@@ -290,7 +290,7 @@ fn past_kinds(s: &[u8], from: usize, start: Progress) -> Reached
 }
 
 // The same of links, each as the number in its eight bytes: tag and length above the key, so that two bounds settle tag, length, from and
-// order. A turn ends with the next number: the compiler takes one that is used at once apart into bytes again. A floor above
+// order. A turn ends with the next number: the compiler splits one that is used at once into bytes again. A floor above
 // every key, which no file leads to, is left to the general loop.
 fn past_links(s: &[u8], from: usize, start: Progress) -> Reached
     requires { ⌜ from ≤ length (now s) ⌝ }

@@ -1,4 +1,4 @@
--- `register::kind_lies` meets its contract.
+-- `register::kind_lies` meets its contract: it is true only past all tests: a kind is due, there is room, and tag and length are a kind's.
 -- Assumes nothing.
 use mathlib.Core.Path.{_∙_, sym}
 use mathlib.Core.Bool.{false≢true}

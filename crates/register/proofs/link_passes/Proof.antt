@@ -1,4 +1,4 @@
--- `register::link_passes` meets its contract.
+-- `register::link_passes` meets its contract: it is true only past all tests: a link is due, both bounds hold, and link and to are in range.
 -- Assumes nothing.
 use mathlib.Core.Bool.{false≢true}
 use borrow.Author.Tests.{ltb-true}

@@ -1,4 +1,4 @@
--- `register::past` meets its contract.
+-- `register::past` meets its contract: the links passed over come right after the kinds passed over.
 -- Assumes nothing.
 use Rattle.register.proofs.Passing.{passed-on, passed-both}
 use borrow.Author.Needs.{needs}

@@ -1,4 +1,4 @@
--- `register::past_kinds` meets its contract.
+-- `register::past_kinds` meets its contract: each turn takes one more field that is a kind's, whole and judged to be in range.
 -- Assumes nothing.
 use Rattle.fields.specs.Table.{rows, tag-length}
 use Rattle.register.specs.Said.{turn-said}

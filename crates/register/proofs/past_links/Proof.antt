@@ -1,4 +1,4 @@
--- `register::past_links` meets its contract.
+-- `register::past_links` meets its contract: between the bounds a number has a link's tag and length, a from in range and a key that ascends, so each turn takes one more link.
 -- Assumes nothing.
 use borrow.Author.Needs.{needs}
 use Prim.Native.Nat.{_-_}

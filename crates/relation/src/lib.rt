@@ -12,7 +12,7 @@ ghost use Rattle.theory.specs.Evaluation.{join?, op?};
 ghost use Rattle.rows.specs.Row.{row-bit, Row, mask-of, Word};
 ghost use Rattle.relation.specs.Pairs.{pair-at, Made, Clean, CleanRow, taken, taken-row};
 
-// The relation at b has the pair (s, t) too.
+// Adds the pair (s, t) to the relation at b.
 pub fn set_pair(work: &mut [u64], b: usize, n: usize, w: usize, s: usize, t: usize)
     requires { ⌜ (b + n * w ≤ length (now work)) × (n ≤ 64 * w) × (s < n) × (t < n) ⌝ }
     ensures { λ _. ⌜ Made b n w (λ i j. pair-at (now (work .entry)) b w i j || (eqb i s && eqb j t)) (now (work .entry)) (now (work .exit)) ⌝ }
@@ -61,8 +61,8 @@ pub fn gather(row: &mut [u64], work: &[u64], q: usize, n: usize, w: usize, g: us
     }
 }
 
-// The row takes in row g + i of the relation at q, for each bit i of v. The loop for rows of 16 words, the largest registers', is one that is
-// taken in where it is called.
+// The row takes in row g + i of the relation at q, for each bit i of v. The loop for rows of 16 words, those of the largest registers, is
+// inlined where it is called.
 pub fn take_word(row: &mut [u64], work: &[u64], q: usize, n: usize, w: usize, g: usize, v: u64)
     requires { ⌜ (w ≤ length (now row)) × (q + n * w ≤ length (now work)) × ((i : ℕ) → bitOf v i ≡ true → g + i < n) ⌝ }
     ensures { λ _. ⌜ Row 0 w (taken (now (row .entry)) (now (work .entry)) q w g v 64) (now (row .entry)) (now (row .exit)) ⌝ }
@@ -74,7 +74,7 @@ pub fn take_word(row: &mut [u64], work: &[u64], q: usize, n: usize, w: usize, g:
     gather(row, work, q, n, w, g, v);
 }
 
-// As `take_word`; most words have no bit, and are told before anything else.
+// As `take_word`; most words have no bit, which is tested first.
 fn take_some(row: &mut [u64], work: &[u64], q: usize, n: usize, w: usize, g: usize, v: u64)
     requires { ⌜ (w ≤ length (now row)) × (q + n * w ≤ length (now work)) × ((i : ℕ) → bitOf v i ≡ true → g + i < n) ⌝ }
     ensures { λ _. ⌜ Row 0 w (taken (now (row .entry)) (now (work .entry)) q w g v 64) (now (row .entry)) (now (row .exit)) ⌝ }
@@ -125,7 +125,7 @@ fn follow_row(work: &mut [u64], d: usize, q: usize, n: usize, w: usize, mask: &[
     rows::copy(work, d, &joined, 0, w);
 }
 
-// As `follow_row`; an empty row stays, and is told before anything else.
+// As `follow_row`; an empty row stays, which is tested first.
 fn join_row(work: &mut [u64], d: usize, q: usize, n: usize, w: usize, mask: &[u64])
     requires { ⌜ (d + w ≤ q) × (q + n * w ≤ length (now work)) × (w ≤ 16) × (n ≤ 64 * w) × (w ≤ length (now mask)) × CleanRow (now work) d n w ⌝ }
     ensures { λ _. ⌜ Row d w (λ t. some? (λ z. row-bit (now (work .entry)) d z && (pair-at (now (work .entry)) q w z t && row-bit (now (mask .entry)) 0 z)) (range n)) (now (work .entry)) (now (work .exit)) ⌝ }

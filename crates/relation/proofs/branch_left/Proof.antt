@@ -1,4 +1,4 @@
--- `relation::branch_left` meets its contract.
+-- `relation::branch_left` meets its contract: the rows before s are made, and row s of both relations is still as it was.
 -- Assumes nothing.
 use Rattle.relation.proofs.Clean.{clean-ahead}
 use Rattle.relation.proofs.Branches.{branch-more}

@@ -1,4 +1,4 @@
--- `relation::branch_right` meets its contract.
+-- `relation::branch_right` meets its contract: the mask has the records from which the other relation leads, and the pairs to a record of the mask are kept.
 -- Assumes nothing.
 use Rattle.relation.proofs.Branches.{branched}
 use borrow.Author.Needs.{needs}

@@ -1,4 +1,4 @@
--- `relation::branch_row` meets its contract.
+-- `relation::branch_row` meets its contract: where the row has a bit the other row takes its place, and where it has none it stays empty.
 -- Assumes nothing.
 use Rattle.relation.proofs.Branches.{branch-yes, branch-no}
 use mathlib.Core.Path.{sym, _∙_}

@@ -1,4 +1,4 @@
--- `relation::copy_row` meets its contract.
+-- `relation::copy_row` meets its contract: the words go by way of an array of their own, and come to the row at d as they are in the row at s.
 -- Assumes nothing.
 use Rattle.relation.proofs.Combining.{row-copied}
 use borrow.Author.Needs.{needs}

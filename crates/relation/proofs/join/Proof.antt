@@ -1,4 +1,4 @@
--- `relation::join` meets its contract.
+-- `relation::join` meets its contract: the rows before s are joined, and row s and the relation at q are still as they were.
 -- Assumes nothing.
 use Prim.Native.Nat.{_-_, _≤_}
 use native.Mathlib.Omega.{arith}

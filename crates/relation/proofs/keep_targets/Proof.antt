@@ -1,4 +1,4 @@
--- `relation::keep_targets` meets its contract.
+-- `relation::keep_targets` meets its contract: the rows before s have lost the bits that the mask lacks, and those from s on are as they were.
 -- Assumes nothing.
 use Rattle.relation.proofs.Combining.{combined-more}
 use Rattle.relation.proofs.Making.{row-le, made-none, made-all}

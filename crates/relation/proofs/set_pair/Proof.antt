@@ -1,4 +1,4 @@
--- `relation::set_pair` meets its contract.
+-- `relation::set_pair` meets its contract: bit t of row s is set, and every other bit of the relation is as it was.
 -- Assumes nothing.
 use native.Mathlib.Omega.{arith}
 use borrow.Author.Needs.{needs}

@@ -1,4 +1,4 @@
--- `relation::take_bits` meets its contract.
+-- `relation::take_bits` meets its contract: the rows of the bits below p are taken in, and y has the bits of v from p on, of which the lowest comes next.
 -- Assumes nothing.
 use mathlib.Core.Path.{_≡_, sym, _∙_}
 use Prim.Native.Nat.{_-_, _/_, _^_, _≤_}

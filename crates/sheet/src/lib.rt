@@ -161,7 +161,7 @@ fn judge(st: Standing, at: usize, b: &[u8]) -> Turn
     }
 }
 
-// Where the reading has come to its end.
+// The outcome where the file ends.
 fn accepted(st: Standing) -> Outcome
     ensures { λ r. ⌜ outcome-said r ≡ sizes-at st ⌝ }
 {

@@ -1,4 +1,4 @@
--- `sheet::accepted` meets its contract.
+-- `sheet::accepted` meets its contract: both numbers are 0 at the head, and within the triples those that the head gave, which the standing has.
 -- Assumes nothing.
 use borrow.Author.Needs.{needs}
 use Rattle.sheet.proofs.accepted.Statement.{statement}

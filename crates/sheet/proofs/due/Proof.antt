@@ -1,4 +1,4 @@
--- `sheet::due` meets its contract.
+-- `sheet::due` meets its contract: 11 at the head; then 12 or the end, and after 512 triples the end alone.
 -- Assumes nothing.
 use borrow.Author.Needs.{needs}
 use Rattle.sheet.proofs.due.Statement.{statement}

@@ -1,4 +1,4 @@
--- `sheet::grow` meets its contract.
+-- `sheet::grow` meets its contract: from, link, to and order are tested in the definition's order, and the next key must be above this one.
 -- Assumes nothing.
 use Rattle.fields.specs.Table.{rows, tag-length}
 use borrow.Author.Tests.{lt-ltb, lt-leb, le-ltb, le-leb}

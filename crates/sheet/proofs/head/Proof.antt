@@ -1,4 +1,4 @@
--- `sheet::head` meets its contract.
+-- `sheet::head` meets its contract: a number outside of 1 to 64, of kinds or of links, is refusal 3; else the triples begin, with none read.
 -- Assumes nothing.
 use Rattle.fields.specs.Table.{rows, tag-length}
 use borrow.Author.Tests.{lt-leb, le-leb}

@@ -1,4 +1,4 @@
--- `sheet::judge` meets its contract.
+-- `sheet::judge` meets its contract: where the reading stands says whether the body is the head's or a triple's, and so how long it is.
 -- Assumes nothing.
 use borrow.Author.Needs.{needs}
 use Rattle.sheet.proofs.judge.Statement.{statement}

@@ -1,4 +1,4 @@
--- `sheet::read` meets its contract.
+-- `sheet::read` meets its contract: at each field the table has the bits of the triples read so far and no others, and the field that is refused is the definition's.
 -- Assumes nothing.
 use mathlib.Core.Path.{_≡_, _∙_, ap, sym}
 use Prim.Native.Nat.{_+_, _-_, _≤_, _<_}

@@ -120,7 +120,7 @@ pub enum Pushed {
     Stands(Stack),
 }
 
-// One symbol more, that takes k paths; its field is at a place, with the place after it: refusal 6.
+// Pushes one symbol, which takes k paths; its field lies from `at` to `next`: refusal 6.
 pub fn push_symbol(q: Stack, at: usize, next: usize, k: u8) -> Pushed
     requires { ⌜ (0 < q .left) × (q .depth < 255) ⌝ }
     ensures { λ r. ⌜ push-said r ≡ push q at next k ⌝ }

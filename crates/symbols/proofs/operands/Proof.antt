@@ -1,4 +1,4 @@
--- `symbols::operands` meets its contract.
+-- `symbols::operands` meets its contract: a number below 128 is a step and takes none, 133 is the closure and takes one, any other takes two.
 -- Assumes nothing.
 use Rattle.symbols.specs.Symbols.{arity}
 use borrow.Author.Tests.{lt-ltb, le-ltb, eq-eqb, ne-eqb}

@@ -1,4 +1,4 @@
--- `symbols::operator_in` meets its contract.
+-- `symbols::operator_in` meets its contract: a code outside of 128 to 133 is refusal 3, and the only byte of the body is the code.
 -- Assumes nothing.
 use Rattle.fields.specs.Table.{rows, tag-length}
 use borrow.Author.Needs.{needs}

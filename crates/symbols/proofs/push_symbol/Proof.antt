@@ -1,4 +1,4 @@
--- `symbols::push_symbol` meets its contract.
+-- `symbols::push_symbol` meets its contract: 6 at its field where too few paths stand, 6 after it where the last leaves more than one, else the new counts: the cases of `push`.
 -- Assumes nothing.
 use borrow.Author.Needs.{needs}
 use mathlib.Core.Logic.{⊎-elim}

@@ -1,4 +1,4 @@
--- `symbols::step_in` meets its contract.
+-- `symbols::step_in` meets its contract: a direction below 2 and a link below 64 make a number that fits a byte, and all else is refusal 3.
 -- Assumes nothing.
 use Rattle.fields.specs.Table.{rows, tag-length}
 use Rattle.symbols.specs.Symbols.{step-of}

@@ -1,4 +1,4 @@
--- `symbols::symbol_in` meets its contract.
+-- `symbols::symbol_in` meets its contract: the tag says which of three bodies it is, and so how long it is.
 -- Assumes nothing.
 use Rattle.fields.specs.Table.{rows, tag-length}
 use native.Mathlib.Omega.{arith}

@@ -1,4 +1,4 @@
--- `test_answers::run_answer` meets its contract.
+-- `test_answers::run_answer` meets its contract: `lent` is no more than the array's length, so each area is the front of its array.
 -- Assumes nothing.
 use borrow.Author.Needs.{needs}
 use Rattle.test_report.proofs.Front.{front}

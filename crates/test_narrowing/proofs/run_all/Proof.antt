@@ -1,4 +1,4 @@
--- `test_narrowing::run_all` meets its contract.
+-- `test_narrowing::run_all` meets its contract: a whole field ends within the input, so the place stays there and each turn comes closer to its end.
 -- Assumes nothing.
 use Rattle.fields.proofs.Raws.{field-room}
 use lib.ListN.{length}

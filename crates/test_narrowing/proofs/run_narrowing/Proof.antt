@@ -1,4 +1,4 @@
--- `test_narrowing::run_narrowing` meets its contract.
+-- `test_narrowing::run_narrowing` meets its contract: each area is the front of its array, whose length `lent` does not exceed.
 -- Assumes nothing.
 use borrow.Author.Needs.{needs}
 use Rattle.test_report.proofs.Front.{front}

@@ -1,4 +1,4 @@
--- `test_report::mark` meets its contract.
+-- `test_report::mark` meets its contract: the loop leaves the area's length as it is, so that each word written lies within.
 -- Assumes nothing.
 use mathlib.Core.Path.{_≡_}
 use lib.ListN.{length}

@@ -198,7 +198,7 @@ pub fn same(words: &[u64], used: usize, question: &[u8], a: usize, b: usize) -> 
     same_path(words, used, question, a, b)
 }
 
-// Does the triple of node u stand among those of nodes s to u - 1? The newest come first: under a branch right a triple
+// Is the triple of node u among those of nodes s to u - 1? The newest come first: under a branch right a triple
 // repeats the one just added.
 fn stands(words: &[u64], question: &[u8], s: usize, u: usize) -> bool
     requires { ⌜ Has (now question) (now words) (u + 1) u × (s ≤ u) ⌝ }

@@ -1,4 +1,4 @@
--- `triples::expand` meets its contract.
+-- `triples::expand` meets its contract: a path's symbols are those of its left operand, of its right one and its own, and operands stand below their node, so that it ends.
 -- Assumes nothing.
 use Rattle.theory.specs.KindSet.{singleton}
 use Rattle.triples.specs.declared.Node.{Node}

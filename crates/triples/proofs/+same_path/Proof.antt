@@ -1,4 +1,4 @@
--- `triples::same_path` meets its contract.
+-- `triples::same_path` meets its contract: paths are equal where their last symbols, join sets and operands are, and operands stand below their node, so that it ends.
 -- Assumes nothing.
 use mathlib.Core.Logic.{⊎-elim}
 use borrow.Author.Tests.{not-true, not-false}

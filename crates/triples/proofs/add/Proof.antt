@@ -1,4 +1,4 @@
--- `triples::add` meets its contract.
+-- `triples::add` meets its contract: the node is stored after the part and counted only where no triple of the part is equal, and no node of the part has changed.
 -- Assumes nothing.
 use mathlib.Core.Path.{sym, _∙_}
 use native.Mathlib.Omega.{arith}

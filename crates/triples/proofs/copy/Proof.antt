@@ -1,4 +1,4 @@
--- `triples::copy` meets its contract.
+-- `triples::copy` meets its contract: the symbols before j are written, each with the set 0.
 -- Assumes nothing.
 use mathlib.Core.Path.{_≡_}
 use lib.ListN.{take, drop, replicate}

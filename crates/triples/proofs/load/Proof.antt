@@ -1,4 +1,4 @@
--- `triples::load` meets its contract.
+-- `triples::load` meets its contract: each field is a quotient of the word or a remainder of one, and so below its bound.
 -- Assumes nothing.
 use native.Mathlib.Omega.{arith}
 use borrow.Author.Needs.{needs}

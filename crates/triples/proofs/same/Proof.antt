@@ -1,4 +1,4 @@
--- `triples::same` meets its contract.
+-- `triples::same` meets its contract: triples with the same kinds at both ends are equal just where their paths are.
 -- Assumes nothing.
 use Rattle.triples.proofs.Comparing.{from-differ, to-differ, paths-decide}
 use borrow.Author.Needs.{needs}

@@ -1,4 +1,4 @@
--- `triples::same_codes` meets its contract.
+-- `triples::same_codes` meets its contract: parts of different lengths differ, as do those of one length where a symbol does; the symbols before j are equal.
 -- Assumes nothing.
 use Rattle.triples.proofs.Comparing.{decides-yes, decides-no, take-both, take-each, length-taken}
 use lib.ListN.{length, take, drop}

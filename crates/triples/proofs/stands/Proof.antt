@@ -1,4 +1,4 @@
--- `triples::stands` meets its contract.
+-- `triples::stands` meets its contract: no triple from j on is equal, so that those before j decide.
 -- Assumes nothing.
 use mathlib.Core.Path.{_≡_, sym, _∙_}
 use Rattle.theory.specs.Lists.{some?}

@@ -18,7 +18,7 @@ use Rattle.narrowed_question.specs.declared.Members.{Members}
 use Rattle.narrowed_question.specs.Form.{Flat, flat}
 use Rattle.narrowed_question.specs.Formed.{InOrder}
 use Rattle.narrowed_question.specs.Members.{flat-path}
-use Rattle.narrowed_question.specs.Given.{members-given, given}
+use Rattle.narrowed_question.specs.ArrayMembers.{members-given, given}
 use Rattle.narrowed_question.proofs.Paths.{flat-member}
 use Rattle.rows.specs.Kept.{Kept}
 use Rattle.rows.proofs.Words.{kept-refl, kept-trans, kept-in}

@@ -20,19 +20,19 @@ use Rattle.question.specs.declared.Outcome as question·Outcome
 use Rattle.question.specs.declared.Outcome.the-variants as question·outcome
 use Rattle.question.specs.Form.{question-symbols}
 use Rattle.question.proofs.Paths.{accepted-question}
-use Rattle.question.proofs.Told.{Told}
+use Rattle.question.proofs.ReaderOutcome.{Told}
 use Rattle.register.specs.declared.Outcome as register·Outcome
 use Rattle.register.specs.declared.Outcome.the-variants as register·outcome
-use Rattle.register.specs.Ahead.{Accepted}
+use Rattle.register.specs.LinksAhead.{Accepted}
 use Rattle.narrowed_question.specs.declared.Outcome as narrowed·Outcome
 use Rattle.narrowed_question.specs.declared.Outcome.the-variants as narrowed·outcome
 use Rattle.narrowed_question.specs.declared.Members.{Members}
 use Rattle.narrowed_question.specs.Form.{Flat, narrowed-form}
 use Rattle.narrowed_question.specs.Formed.{WellFormed}
-use Rattle.narrowed_question.specs.Given.{given}
+use Rattle.narrowed_question.specs.ArrayMembers.{given}
 use Rattle.narrowed_question.specs.Said.{Packed, ReadsInto, members-in, outcome-said as narrowed-said}
-use Rattle.narrowed_question.proofs.Handed.{heads, packed-given}
-use Rattle.narrowed_question.proofs.Back.{accepted-formed}
+use Rattle.narrowed_question.proofs.MembersInArrays.{heads, packed-given}
+use Rattle.narrowed_question.proofs.ReadThenWritten.{accepted-formed}
 use Rattle.evaluation.specs.Ground.{symbols-in, MakePath}
 use Rattle.evaluation.proofs.Numbers.{set-ignored}
 use Rattle.answer.specs.Said.{Readable, lent}

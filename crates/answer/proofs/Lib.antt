@@ -7,7 +7,7 @@ pub mod Adding
 pub mod Files
 -- the outcome
 pub mod Answered
-pub mod Whole
+pub mod WholeCalls
 -- what the answers mean
 pub mod Meaning
 pub mod TwoAnswers

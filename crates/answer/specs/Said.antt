@@ -15,7 +15,7 @@ use Rattle.fields.specs.Call.{Outcome, accepts, refuses}
 use Rattle.fields.specs.Said.{outcome-said}
 use Rattle.narrowed_question.specs.declared.Members.{Members}
 use Rattle.narrowed_question.specs.Formed.{WellFormed}
-use Rattle.narrowed_question.specs.Given.{given}
+use Rattle.narrowed_question.specs.ArrayMembers.{given}
 use Rattle.rows.specs.Kept.{Kept}
 use Rattle.relation.specs.Pairs.{pair-at, Made}
 use Rattle.answer.specs.Calls.{Result}

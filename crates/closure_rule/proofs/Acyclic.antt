@@ -16,11 +16,11 @@ use Rattle.triples.specs.Parts.{Candidate, Added}
 use Rattle.triples.proofs.Triples.{triple-kept, triple-from, triple-to}
 use Rattle.triples.proofs.Growing.{part-next, part-over}
 use Rattle.rules.specs.Outcome.{Done}
-use Rattle.rules.specs.Asks.{Room, part}
+use Rattle.rules.specs.Requirements.{Room, part}
 use Rattle.rules.proofs.Grows.{Growing, rule-starts, grows-room, grows-over, grows-turn}
 use Rattle.rules.proofs.Copies.{copy-candidate, copy-added}
 use Rattle.kind_graph.specs.Kinds.{TellsAcyclic}
-use Rattle.closure_rule.specs.Asks.{CopyAcyclic}
+use Rattle.closure_rule.specs.Requirements.{CopyAcyclic}
 
 -- the nodes p to j are looked at: those from j on are left
 pub record AcyclicGrowing (qs ws₀ ws : List ℕ) (s p d count j : ℕ) : Type 0 where

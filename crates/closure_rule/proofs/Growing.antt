@@ -26,11 +26,11 @@ use Rattle.triples.specs.Paths.{triple-of, Sound}
 use Rattle.triples.specs.Parts.{part-of}
 use Rattle.triples.proofs.Growing.{length-part, part-kept}
 use Rattle.rules.specs.Outcome.{Done}
-use Rattle.rules.specs.Asks.{part, row-of, AddRow}
+use Rattle.rules.specs.Requirements.{part, row-of, AddRow}
 use Rattle.rules.proofs.Short.{short-path?}
 use Rattle.rules.proofs.TwoLists.{two-join}
 use Rattle.rules.proofs.Rows.{row-grown}
-use Rattle.closure_rule.specs.Asks.{GrowWalks}
+use Rattle.closure_rule.specs.Requirements.{GrowWalks}
 
 -- ---- a walk and one triple more are a walk: with all walks of up to 25 triples short, there is no longer one
 module _ (fs : List Triple) (short : short? (walks 24 fs fs) ≡ true) where

@@ -24,9 +24,9 @@ use Rattle.rules.specs.Outcome.{Done}
 use Rattle.rules.proofs.Grows.{grows-start, none-added, one-added}
 use Rattle.rules.proofs.Ranging.{Ranging, ranging-room}
 use Rattle.kind_graph.specs.Kinds.{Linked, TellsMeets, TellsMeetsAny}
-use Rattle.kind_graph.proofs.Wider.{each-none}
+use Rattle.kind_graph.proofs.WiderGraph.{each-none}
 use Rattle.closure_rule.specs.Kept.{kept-at, kept-from, kept-all}
-use Rattle.closure_rule.specs.Asks.{AddKept}
+use Rattle.closure_rule.specs.Requirements.{AddKept}
 
 pub copied-size : {qs : List ℕ} {o n : ℕ} → Copied qs o n → size (original qs o n) ≡ n
 copied-size {qs} {o} {n} c =

@@ -5,4 +5,4 @@ pub mod Growing
 -- closures that are kept
 pub mod Keeping
 -- the rule
-pub mod Ruling
+pub mod RulePieces

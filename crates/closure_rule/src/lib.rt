@@ -9,9 +9,9 @@ ghost use Rattle.theory.specs.Growth.{free};
 ghost use Rattle.triples.specs.Paths.{original};
 ghost use Rattle.triples.specs.Parts.{part-of};
 ghost use Rattle.rules.specs.Outcome.{Ruled, Done};
-ghost use Rattle.rules.specs.Asks.{part};
+ghost use Rattle.rules.specs.Requirements.{part};
 ghost use Rattle.closure_rule.specs.Kept.{kept-at, kept-from, kept-all};
-ghost use Rattle.closure_rule.specs.Asks.{Closing, CopyAcyclic, GrowWalks, AddKept};
+ghost use Rattle.closure_rule.specs.Requirements.{Closing, CopyAcyclic, GrowWalks, AddKept};
 
 // ---- walks that meet no cyclic kind
 

@@ -19,14 +19,14 @@ use Rattle.sheet.specs.Table.{tabled?, table-of}
 use Rattle.sheet.specs.Said.{Reads}
 use Rattle.sheet.proofs.Ranges.{accepted-sheet}
 use Rattle.sheet.proofs.Tables.{table-permits}
-use Rattle.sheet.proofs.Told.{refused-sheet, told-sheet}
+use Rattle.sheet.proofs.ReaderOutcome.{refused-sheet, told-sheet}
 use Rattle.register.specs.declared.Outcome as register·Outcome
 use Rattle.register.specs.declared.Outcome.the-variants as register·outcome
 use Rattle.register.specs.Form.{register-form, register-in}
 use Rattle.register.specs.Said.{outcome-said as register-said, sized as register-sizes}
-use Rattle.register.specs.Ahead.{Accepted}
+use Rattle.register.specs.LinksAhead.{Accepted}
 use Rattle.register.proofs.AcceptedRegister.{accepted-register, Limits}
-use Rattle.register.proofs.Told.{refused-file, accepted-file}
+use Rattle.register.proofs.ReaderOutcome.{refused-file, accepted-file}
 use Rattle.conformance.specs.declared.Failing.{Failing}
 use Rattle.conformance.specs.declared.Failing.the-variants.{At, Nowhere}
 use Rattle.conformance.specs.Check.{obeying, check-of}

@@ -10,7 +10,7 @@ use Rattle.fields.specs.Table.{rows, tag-length, field-size}
 use Rattle.narrowed_question.specs.declared.Members.{Members}
 use Rattle.fields.specs.Writing.{two-bytes, field-bytes}
 use Rattle.narrowed_question.specs.Writing.{member-bytes, members-bytes, encode}
-use Rattle.narrowed_question.specs.Given.{members-given, given}
+use Rattle.narrowed_question.specs.ArrayMembers.{members-given, given}
 use Rattle.encode.specs.Wrote.{Wrote, Few}
 use Rattle.encode.proofs.Along.{wrote-length, wrote-more, Along, along-start, along-more, along-end, along-room}
 use Rattle.encode.proofs.Parts.{member-at, members-more, encode-parts}

@@ -15,7 +15,7 @@ use Rattle.fields.specs.Writing.{two-bytes, eight-bytes, field-bytes}
 use Rattle.symbols.specs.Writing.{symbol-bytes, symbols-bytes}
 use Rattle.narrowed_question.specs.Writing.{member-bytes, members-bytes, encode}
 use Rattle.symbols.specs.Symbols.{symbol-given, symbols-given}
-use Rattle.narrowed_question.specs.Given.{members-given, given}
+use Rattle.narrowed_question.specs.ArrayMembers.{members-given, given}
 use Rattle.encode.specs.Size.{symbol-size}
 use Rattle.encode.specs.Wrote.{Wrote}
 use Rattle.encode.proofs.Along.{wrote-more}

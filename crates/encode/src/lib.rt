@@ -12,7 +12,7 @@ ghost use Rattle.fields.specs.Writing.{two-bytes, eight-bytes, field-bytes};
 ghost use Rattle.symbols.specs.Writing.{symbol-bytes, symbols-bytes};
 ghost use Rattle.narrowed_question.specs.Writing.{member-bytes, encode};
 ghost use Rattle.symbols.specs.Symbols.{symbol-given, symbols-given};
-ghost use Rattle.narrowed_question.specs.Given.{given};
+ghost use Rattle.narrowed_question.specs.ArrayMembers.{given};
 ghost use Rattle.encode.specs.Size.{symbol-size};
 ghost use Rattle.encode.specs.Wrote.{Wrote, Few};
 

@@ -7,7 +7,7 @@ use native.Mathlib.Nat.{mul-le-mul}
 use native.Mathlib.Omega.{arith}
 use Rattle.theory.specs.Register.{records}
 use Rattle.theory.specs.Words.{row-words}
-use Rattle.register.specs.Ahead.{Accepted}
+use Rattle.register.specs.LinksAhead.{Accepted}
 use Rattle.register.specs.Form.{register-in}
 use Rattle.register.proofs.AcceptedRegister.{Limits, accepted-register}
 use Rattle.evaluation.specs.Ground.{Ground}

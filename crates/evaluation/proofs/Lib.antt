@@ -14,4 +14,4 @@ pub mod Joins
 pub mod Numbers
 pub mod Applying
 -- all symbols
-pub mod Going
+pub mod SymbolLoop

@@ -12,7 +12,7 @@ use Rattle.theory.specs.Register.{Edge, edge, same-edge?, records}
 use Rattle.theory.specs.Words.{row-words}
 use Rattle.symbols.specs.Symbols.{symbol-numbered, symbols-given}
 use Rattle.register.specs.Form.{register-in}
-use Rattle.register.specs.Ahead.{Accepted}
+use Rattle.register.specs.LinksAhead.{Accepted}
 
 -- the file is a register's, of n records, in rows of w words
 pub record Ground (s : List ℕ) (n w : ℕ) : Type 0 where

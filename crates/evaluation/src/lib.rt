@@ -14,7 +14,7 @@ ghost use Rattle.theory.specs.Postfix.{path-of};
 ghost use Rattle.theory.specs.Register.{edge, kind, records};
 ghost use Rattle.theory.specs.Evaluation.{step?};
 ghost use Rattle.symbols.specs.Symbols.{symbol-numbered};
-ghost use Rattle.register.specs.Ahead.{Accepted};
+ghost use Rattle.register.specs.LinksAhead.{Accepted};
 ghost use Rattle.register.specs.Form.{register-in};
 ghost use Rattle.rows.specs.Row.{Row, mask-of, Word};
 ghost use Rattle.relation.specs.Pairs.{pair-at, Made, Clean};

@@ -9,7 +9,7 @@ pub mod Lies
 -- a file in a lent area
 pub mod Filing
 -- reading: the loop, and induction over an accepted file
-pub mod Going
+pub mod ReaderLoop
 pub mod Accepted
 -- arrays
 pub mod Padded

@@ -7,7 +7,7 @@ use lib.ListN.{length, set, replicate, length-append, length-replicate}
 use lib.Seq.{set-at}
 use native.Mathlib.Omega.{arith}
 use Rattle.fields.specs.Padded.{padded}
-use Rattle.fields.proofs.Going.{suc-of}
+use Rattle.fields.proofs.ReaderLoop.{suc-of}
 
 pub pad-set : (n : ℕ) (xs : List ℕ) (v : ℕ) → length xs < n → set (padded n xs) (length xs) v ≡ padded n (xs ++ (v ∷ []))
 unfolding padded

@@ -16,12 +16,12 @@ use Rattle.symbols.specs.Symbols.{symbol-numbered, arity}
 use Rattle.symbols.proofs.Numbers.{join-number}
 use Rattle.triples.proofs.Codes.{op-numbered}
 use Rattle.rules.specs.declared.Part.{Part}
-use Rattle.rules.specs.Two.{of-two}
-use Rattle.rules.specs.Marks.{of-marks}
+use Rattle.rules.specs.PairRules.{of-two}
+use Rattle.rules.specs.StepTriples.{of-marks}
 use Rattle.rules.specs.Outcome.{Ruled}
 use Rattle.rules.proofs.TwoLists.{two-join, two-op}
 use Rattle.rules.proofs.SheetSteps.{marks-step}
-use Rattle.kind_graph.proofs.Wider.{closure-wider}
+use Rattle.kind_graph.proofs.WiderGraph.{closure-wider}
 use Rattle.inference.specs.declared.Span.{Span}
 use Rattle.inference.specs.Turns.{of-code, origin-of}
 use Rattle.inference.specs.Questions.{Sheeted}

@@ -25,7 +25,7 @@ use Rattle.triples.specs.Paths.{original}
 use Rattle.rules.specs.declared.Part.{Part}
 use Rattle.rules.specs.declared.Part.the-variants.{Made, Many, Long}
 use Rattle.rules.specs.Outcome.{outcome, fault-of, Ruled}
-use Rattle.rules.proofs.Ruling.{outcome-fault}
+use Rattle.rules.proofs.RuleOutcome.{outcome-fault}
 use Rattle.inference.specs.declared.Span.{Span}
 use Rattle.inference.specs.declared.Inferred.the-variants.{Triples, Refused}
 use Rattle.inference.specs.Turns.{triples-in, of-code, made-of, origin-of}

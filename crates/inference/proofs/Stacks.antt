@@ -21,9 +21,9 @@ use Rattle.triples.specs.Parts.{part-of}
 use Rattle.triples.proofs.Growing.{part-kept}
 use Rattle.rules.specs.declared.Part.{Part}
 use Rattle.rules.specs.declared.Part.the-variants.{Made}
-use Rattle.rules.specs.Asks.{Lies}
+use Rattle.rules.specs.Requirements.{Lies}
 use Rattle.rules.specs.Outcome.{Ruled}
-use Rattle.rules.proofs.Ruling.{made-short}
+use Rattle.rules.proofs.RuleOutcome.{made-short}
 use Rattle.inference.specs.declared.Span.{Span}
 use Rattle.inference.specs.Turns.{triples-in}
 use Rattle.inference.specs.Questions.{Sheeted}

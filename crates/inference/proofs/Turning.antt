@@ -21,8 +21,8 @@ use Rattle.rows.specs.Kept.{Kept}
 use Rattle.rows.proofs.Words.{le-or-lt}
 use Rattle.triples.specs.Paths.{Sound}
 use Rattle.triples.proofs.Codes.{step-numbered, closure-numbered}
-use Rattle.rules.specs.Two.{of-two}
-use Rattle.rules.specs.Asks.{Room}
+use Rattle.rules.specs.PairRules.{of-two}
+use Rattle.rules.specs.Requirements.{Room}
 use Rattle.inference.specs.declared.Span.{Span}
 use Rattle.inference.specs.Turns.{made-of, origin-of, Turned}
 use Rattle.inference.specs.Questions.{symbols-of, Asking, Sheeted}

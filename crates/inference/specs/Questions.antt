@@ -16,8 +16,8 @@ use Rattle.fields.specs.Said.{number-of, place-of}
 use Rattle.question.specs.Form.{question-symbols}
 use Rattle.rows.specs.Kept.{Kept}
 use Rattle.triples.specs.Paths.{Sound}
-use Rattle.rules.specs.Asks.{part}
-use Rattle.rules.specs.Marks.{Tabled}
+use Rattle.rules.specs.Requirements.{part}
+use Rattle.rules.specs.StepTriples.{Tabled}
 use Rattle.inference.specs.declared.Inferred.{Inferred}
 use Rattle.inference.specs.declared.Inferred.the-variants.{Triples, Refused}
 

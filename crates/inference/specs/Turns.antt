@@ -9,10 +9,10 @@ use lib.Dec.{eqb, ltb}
 use Rattle.theory.specs.PathExpr.{PathExpr}
 use Rattle.theory.specs.Inference.{Triple, distinct, of-closure}
 use Rattle.triples.specs.Paths.{original}
-use Rattle.rules.specs.Two.{of-two}
-use Rattle.rules.specs.Asks.{Room, part, Unite}
-use Rattle.rules.specs.Marks.{of-marks}
-use Rattle.closure_rule.specs.Asks.{Closing}
+use Rattle.rules.specs.PairRules.{of-two}
+use Rattle.rules.specs.Requirements.{Room, part, Unite}
+use Rattle.rules.specs.StepTriples.{of-marks}
+use Rattle.closure_rule.specs.Requirements.{Closing}
 use Rattle.inference.specs.declared.Span.{Span}
 
 -- the triples of a part of the question

@@ -15,7 +15,7 @@ use Rattle.narrowed_question.specs.declared.Outcome as narrowed·Outcome
 use Rattle.narrowed_question.specs.declared.Outcome.the-variants as narrowed·outcome
 use Rattle.narrowed_question.specs.Form.{Flat, narrowed-form}
 use Rattle.narrowed_question.specs.Formed.{WellFormed}
-use Rattle.narrowed_question.specs.Given.{given}
+use Rattle.narrowed_question.specs.ArrayMembers.{given}
 use Rattle.narrowed_question.specs.Said.{ReadsInto}
 use Rattle.fields.proofs.Bools.{not-got}
 use Rattle.answer.specs.Calls.{members-of}

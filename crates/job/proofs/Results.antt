@@ -46,7 +46,7 @@ use Rattle.rows.proofs.Words.{kept-refl, kept-trans, kept-in}
 use Rattle.narrowing.specs.Call.{narrow-need}
 use Rattle.narrowing.specs.Call as narrow·Call
 use Rattle.narrowing.specs.Said.{FirstUnnamed, Infers-file}
-use Rattle.narrowing.proofs.Whole.{rest, symbols-unnamed, symbols-named}
+use Rattle.narrowing.proofs.WholeCalls.{rest, symbols-unnamed, symbols-named}
 use Rattle.fields.proofs.Filing.{file-written, within, not-accepted}
 use Rattle.narrowing.proofs.Accepted.{Filed, filed}
 use Rattle.answer.specs.Calls.{members-of}

@@ -8,7 +8,7 @@ ghost use Prim.Native.Nat.{ℕ, _*_, _<_, _≤_};
 ghost use lib.ListN.{length, take};
 ghost use Rattle.theory.specs.Register.{records};
 ghost use Rattle.register.specs.Form.{register-in};
-ghost use Rattle.register.specs.Ahead.{Accepted};
+ghost use Rattle.register.specs.LinksAhead.{Accepted};
 ghost use Rattle.evaluation.specs.Ground.{Ground};
 ghost use Rattle.narrowing.specs.Call.{narrow-need};
 ghost use Rattle.answer.specs.Calls.{plain-call};

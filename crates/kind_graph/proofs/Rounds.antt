@@ -24,7 +24,7 @@ use Rattle.triples.specs.Parts.{part-of}
 use Rattle.triples.proofs.Triples.{triple-from, triple-to}
 use Rattle.triples.proofs.Growing.{part-next, part-over}
 use Rattle.kind_graph.specs.Sizes.{Part, largest, to-kind, extended, size-of, weight, Raised, Raising, AtMost, Small}
-use Rattle.kind_graph.proofs.Longest.{best, best-none, rounds-short, round-long}
+use Rattle.kind_graph.proofs.LongestWalks.{best, best-none, rounds-short, round-long}
 
 -- ---- one number
 pub raised-not : {xs : List ℕ} {k v : ℕ} → v ≤ getD xs k 0 → Raised k v xs xs

@@ -15,12 +15,10 @@ use Rattle.fields.specs.Writing.{two-bytes, field-bytes}
 use Rattle.symbols.specs.Writing.{symbols-bytes}
 use Rattle.narrowed_question.specs.Writing.{head-bytes, member-bytes, members-bytes, encode}
 use Rattle.narrowed_question.specs.Members.{flat-of, narrowed-file}
-use Rattle.triples.specs.Parts.{part-of}
 use Rattle.merge.specs.declared.Group.{Group}
 use Rattle.merge.specs.Arranging.{Arranging, Arranged}
 use Rattle.merge.specs.Runs.{nodes-at, Running, Ran}
 use Rattle.merge.proofs.Segments.{segment-end}
-use Rattle.merge.proofs.Sorting.{members-arranged}
 use Rattle.members_file.specs.declared.Entry.{Entry}
 use Rattle.members_file.specs.Files.{renumbered, Numbering, Next, Measuring, Measured}
 use Rattle.members_file.proofs.Symbols.{path-numbered}
@@ -111,7 +109,3 @@ module _ {qs ws xs : List ℕ} {used n : ℕ} (h : Measuring qs ws xs used n) wh
 -- ---- the nodes as they were arranged
 pub arranged-nodes : {qs ws xs ys : List ℕ} {used s n : ℕ} → Arranging qs ws xs used s n → Arranged qs ws xs ys used s n 0 → Measuring qs ws ys used n
 arranged-nodes h a = record { fits = omega (arith, h .fits, a .same-length); small = h .small; items = λ j l. a .items j (omega arith) l }
-
--- so their file is that of the members of the part
-pub arranged-file : {qs ws xs ys : List ℕ} {used s n : ℕ} → Arranging qs ws xs used s n → Arranged qs ws xs ys used s n 0 → narrowed-file (grouped (nodes-at qs ws ys 0 n)) ≡ narrowed-file (members (part-of qs ws s n))
-arranged-file h a = ap narrowed-file (sym (members-arranged h a))

@@ -23,7 +23,7 @@ use Rattle.narrowed_question.specs.Formed.{Formed, InOrder, WellFormed}
 use Rattle.narrowed_question.specs.Members.{flat-of, narrowed-file}
 use Rattle.symbols.proofs.Numbers.{AllHeld, number-of, held-postfix, length-postfix}
 use Rattle.symbols.proofs.Counting.{read-runs}
-use Rattle.narrowed_question.proofs.Forth.{read-encode}
+use Rattle.narrowed_question.proofs.WrittenThenRead.{read-encode}
 
 -- theory's codes are those by which members are compared in a file
 numbered-codes : (ss : List Symbol) → AllHeld ss → order-codes (map number-symbol ss) ≡ map code ss

@@ -2,14 +2,14 @@
 pub mod Comparing
 pub mod Moves
 pub mod Tracks
-pub mod Filled
+pub mod ArraysFilled
 pub mod Loop
 -- written and read, read and written
-pub mod Ahead
-pub mod Back
-pub mod Forth
+pub mod MembersAhead
+pub mod ReadThenWritten
+pub mod WrittenThenRead
 -- the members of theory
 pub mod Formed
 pub mod Paths
-pub mod Handed
+pub mod MembersInArrays
 pub mod Cases

@@ -19,7 +19,7 @@ use Rattle.fields.proofs.Bools.{and-left, and-right}
 use Rattle.fields.proofs.Fields.{found, body-length, one-due, ended}
 use Rattle.symbols.proofs.InPath.{in-path}
 use Rattle.symbols.proofs.Symbols.{push-got}
-use Rattle.fields.proofs.Going.{Going, going-start, going-ends, going-wrong, going-refused, going-more}
+use Rattle.fields.proofs.ReaderLoop.{Going, going-start, going-ends, going-wrong, going-refused, going-more}
 use Rattle.narrowed_question.specs.Form.{Flat, flat, open-as, State, head, between, within, due, judge as judge-of, narrowed-form, order-codes}
 use Rattle.narrowed_question.specs.declared.Standing.{Standing}
 use Rattle.narrowed_question.specs.declared.Standing.the-variants.{Head, Between, Within}

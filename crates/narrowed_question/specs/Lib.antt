@@ -1,4 +1,4 @@
-pub mod Given
+pub mod ArrayMembers
 pub mod Form
 pub mod Writing
 pub mod Formed

@@ -11,7 +11,7 @@ use Rattle.fields.specs.Reading.{read}
 use Rattle.narrowed_question.specs.declared.Members.{Members}
 use Rattle.narrowed_question.specs.Form.{narrowed-form}
 use Rattle.narrowed_question.specs.Writing.{encode}
-use Rattle.narrowed_question.specs.Given.{given}
+use Rattle.narrowed_question.specs.ArrayMembers.{given}
 use Rattle.narrowed_writer.specs.declared.Written.{Written}
 use Rattle.narrowed_writer.specs.Verdict.{verdict}
 use Rattle.narrowed_writer.specs.Outcome.{file-of, judgement, written-said, Writes}

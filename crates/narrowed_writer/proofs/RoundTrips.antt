@@ -16,10 +16,10 @@ use Rattle.fields.specs.Writing.{Bytes}
 use Rattle.narrowed_question.specs.declared.Members.{Members}
 use Rattle.narrowed_question.specs.Form.{Flat, narrowed-form}
 use Rattle.narrowed_question.specs.Writing.{encode}
-use Rattle.narrowed_question.specs.Given.{given}
+use Rattle.narrowed_question.specs.ArrayMembers.{given}
 use Rattle.narrowed_question.specs.Said.{Packed}
-use Rattle.narrowed_question.proofs.Handed.{packed-given}
-use Rattle.narrowed_question.proofs.Back.{encode-read, accepted-formed}
+use Rattle.narrowed_question.proofs.MembersInArrays.{packed-given}
+use Rattle.narrowed_question.proofs.ReadThenWritten.{encode-read, accepted-formed}
 use Rattle.narrowed_writer.specs.Verdict.{verdict}
 use Rattle.narrowed_writer.specs.Outcome.{written, area-after, file-of, judgement}
 use Rattle.narrowed_writer.proofs.Verdict.{Whole, verdict-is, given-normal}

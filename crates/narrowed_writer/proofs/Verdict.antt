@@ -16,18 +16,18 @@ use Rattle.fields.specs.Answer.{Answer, got, refused, onward}
 use Rattle.fields.specs.Reading.{read}
 use Rattle.symbols.specs.Symbols.{Numbered, numbered, operator-of, symbol-in, arity, push, due-symbols, symbols-given}
 use Rattle.fields.proofs.Bools.{and-left}
-use Rattle.fields.proofs.Going.{Going, going-start, going-ends, going-more, going-refused}
+use Rattle.fields.proofs.ReaderLoop.{Going, going-start, going-ends, going-more, going-refused}
 use Rattle.narrowed_question.specs.declared.Members.{Members}
 use Rattle.narrowed_question.specs.Form.{Flat, flat, numbers, State, Open, open-as, between, within, head, due, grown, judge, narrowed-form, order-codes}
 use Rattle.fields.specs.Writing.{two-bytes, eight-bytes}
 use Rattle.symbols.specs.Writing.{symbol-tag, symbol-body, symbol-bytes, symbols-bytes}
 use Rattle.narrowed_question.specs.Writing.{head-bytes, member-bytes, members-bytes, encode}
-use Rattle.narrowed_question.specs.Given.{members-given, given}
-use Rattle.narrowed_question.proofs.Ahead.{one-more}
+use Rattle.narrowed_question.specs.ArrayMembers.{members-given, given}
+use Rattle.narrowed_question.proofs.MembersAhead.{one-more}
 use Rattle.fields.proofs.Bytes.{word-back, eight-back}
 use Rattle.fields.proofs.Lies.{Lies, field-lies, ends-lie}
 use Rattle.symbols.proofs.Bytes.{symbol-fits, symbol-short, step-back, operator-back}
-use Rattle.narrowed_question.proofs.Forth.{head-fits, open-fits, opened, head-body, from-back, to-back}
+use Rattle.narrowed_question.proofs.WrittenThenRead.{head-fits, open-fits, opened, head-body, from-back, to-back}
 use Rattle.encode.specs.Size.{symbol-size}
 use Rattle.narrowed_writer.specs.Verdict.{symbol?, offered, path-verdict, member-verdict, members-verdict, verdict}
 use Rattle.narrowed_writer.proofs.Judging.{offered-got}

@@ -19,7 +19,7 @@ use Rattle.fields.specs.Said.{number-of, place-of, written-said, Files}
 use Rattle.fields.proofs.Filing as fields·Filing
 use Rattle.fields.proofs.Filing.{not-accepted}
 use Rattle.narrowed_question.specs.Members.{narrowed-file}
-use Rattle.rules.specs.Asks.{part}
+use Rattle.rules.specs.Requirements.{part}
 use Rattle.merge.specs.Arranging.{Arranging, Arranged}
 use Rattle.merge.specs.Runs.{nodes-at}
 use Rattle.merge.proofs.Sorting.{members-arranged}

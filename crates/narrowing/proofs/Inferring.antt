@@ -23,7 +23,7 @@ use Rattle.fields.specs.Call as fields·Call
 use Rattle.question.specs.Form.{question-symbols}
 use Rattle.rows.specs.Kept.{Kept}
 use Rattle.rows.proofs.Words.{kept-in}
-use Rattle.rules.specs.Asks.{part}
+use Rattle.rules.specs.Requirements.{part}
 use Rattle.merge.specs.Arranging.{Suits}
 use Rattle.merge.proofs.Sorting.{question-suits}
 use Rattle.inference.specs.declared.Inferred.{Inferred}

@@ -5,8 +5,8 @@ pub mod Filing
 -- 12 and 13
 pub mod Inferring
 -- the files, 15, all but the file
-pub mod Given
-pub mod Whole
+pub mod FromReaders
+pub mod WholeCalls
 -- for other crates: what an accepted call says
 pub mod Accepted
 -- what the size says of narrowing

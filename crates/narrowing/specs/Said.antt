@@ -25,7 +25,7 @@ use Rattle.symbols.specs.Symbols.{symbol-numbered}
 use Rattle.question.specs.Form.{question-symbols}
 use Rattle.rows.specs.Kept.{Kept, Wrote}
 use Rattle.triples.specs.Paths.{Sound}
-use Rattle.rules.specs.Asks.{part}
+use Rattle.rules.specs.Requirements.{part}
 use Rattle.inference.specs.Questions.{Asking, Sheeted}
 use Rattle.merge.specs.Arranging.{Suits}
 use Rattle.merge.specs.Runs.{nodes-at}

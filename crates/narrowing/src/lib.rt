@@ -9,7 +9,7 @@ ghost use lib.ListN.{length, take};
 ghost use Rattle.theory.specs.Merging.{members};
 ghost use Rattle.fields.specs.declared.Written.the-variants as written;
 ghost use Rattle.fields.specs.Call.{accepts};
-ghost use Rattle.rules.specs.Asks.{part};
+ghost use Rattle.rules.specs.Requirements.{part};
 ghost use Rattle.narrowing.specs.Call.{narrow-need, narrow-call, size-call};
 ghost use Rattle.narrowing.specs.Said.{Narrows, Sizes, Unnamed, FirstUnnamed, Listed, Ready, Counts, Known, Puts, Counts-named, Infers-file, Counts-codes, Unprepared, Prepares};
 

@@ -16,7 +16,7 @@ use Rattle.narrowed_question.specs.declared.Members.{Members}
 use Rattle.narrowed_question.specs.Form.{Flat, narrowed-form}
 use Rattle.narrowed_question.specs.Said.{Reads, outcome-said}
 use lib.ListN.{length}
-use Rattle.paths.specs.Told.{judged}
+use Rattle.paths.specs.OutcomeNumbers.{judged}
 
 pub judged-refused : {A : Type 0} (s : Source) (a : Answer A) (n p : ℕ) → a ≡ refused n p → refuses s n p ≡ judged s a
 judged-refused s a n p e = sym (ap (judged s) e)

@@ -3,6 +3,6 @@ pub mod Agreement
 -- a shortened question answered
 pub mod Shortening
 -- what C is told
-pub mod Told
+pub mod OutcomeNumbers
 -- how a file is judged
 pub mod Judging

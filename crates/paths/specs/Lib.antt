@@ -1,3 +1,3 @@
 pub mod Agreement
 pub mod Shortening
-pub mod Told
+pub mod OutcomeNumbers

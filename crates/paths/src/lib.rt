@@ -1,4 +1,4 @@
-// The public calls. Those for programs in C (include/paths.h) hand their areas on and tell the outcome in three numbers: specs/Told.antt.
+// The public calls. Those for programs in C (include/paths.h) hand their areas on and tell the outcome in three numbers: specs/OutcomeNumbers.antt.
 // What holds of the calls together is in specs/Agreement.antt (demand 3) and specs/Shortening.antt.
 use fields::Outcome;
 use fields::Refusal;
@@ -19,7 +19,7 @@ ghost use Rattle.narrowing.specs.Call.{narrow-call, size-call};
 ghost use Rattle.answer.specs.Calls.{plain-call, narrowed-call};
 ghost use Rattle.job.specs.Call.{job-call};
 ghost use Rattle.shortening.specs.Call.{shorten-call};
-ghost use Rattle.paths.specs.Told.{judged, tells, Tells, Tells-file, Answers, Narrows, Sizes, FilesTold, Jobs, Plain};
+ghost use Rattle.paths.specs.OutcomeNumbers.{judged, tells, Tells, Tells-file, Answers, Narrows, Sizes, FilesTold, Jobs, Plain};
 
 // What a call that is accepted returns; every refusal has a number of its own.
 const ACCEPTED: u64 = 0;

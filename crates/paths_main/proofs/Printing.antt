@@ -24,9 +24,9 @@ use Rattle.fields.specs.Said.{number-of, place-of, written-said}
 use Rattle.register.specs.declared.Outcome as register·Outcome
 use Rattle.register.specs.declared.Outcome.the-variants as register·outcome
 use Rattle.register.specs.Said.{outcome-said, sized}
-use Rattle.register.proofs.Told.{refused-file, accepted-records}
+use Rattle.register.proofs.ReaderOutcome.{refused-file, accepted-records}
 use Rattle.register.specs.Form.{register-form, register-in, value-of}
-use Rattle.register.specs.Ahead.{Accepted}
+use Rattle.register.specs.LinksAhead.{Accepted}
 use Rattle.relation.specs.Pairs.{pair-at}
 use Rattle.encode.specs.Wrote.{Wrote}
 use Rattle.narrowing.specs.Call.{narrow-need}

@@ -9,7 +9,7 @@ use Rattle.theory.specs.Register.{Register, records}
 use Rattle.theory.specs.Words.{row-words}
 use Rattle.relation.specs.Pairs.{pair-at}
 use Rattle.register.specs.Form.{register-in}
-use Rattle.register.specs.Ahead.{Accepted}
+use Rattle.register.specs.LinksAhead.{Accepted}
 use Rattle.job.specs.Call.{Result, job-call}
 use Rattle.printing.specs.Text.{answer-text, text-of}
 

@@ -2,7 +2,7 @@ pub mod Loop
 pub mod Paths
 pub mod Cases
 -- written and read, read and written
-pub mod Back
-pub mod Forth
+pub mod ReadThenWritten
+pub mod WrittenThenRead
 -- what the outcome says of the file
-pub mod Told
+pub mod ReaderOutcome

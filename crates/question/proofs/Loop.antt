@@ -17,7 +17,7 @@ use Rattle.symbols.specs.Symbols.{symbol-in, push, arity}
 use Rattle.fields.proofs.Bools.{onward-got, refused-too, not-refused, cond-then, not-got, and-right}
 use Rattle.fields.proofs.Fields.{found, body-length, one-due, ended}
 use Rattle.symbols.proofs.InPath.{in-path}
-use Rattle.fields.proofs.Going.{Going, going-start, going-ends, going-wrong, going-refused, going-more}
+use Rattle.fields.proofs.ReaderLoop.{Going, going-start, going-ends, going-wrong, going-refused, going-more}
 use Rattle.fields.specs.Padded.{padded}
 use Rattle.symbols.proofs.Symbols.{push-got}
 use Rattle.fields.proofs.Padded.{pad-set}

@@ -19,7 +19,7 @@ use Rattle.fields.proofs.Fields.{found, ended}
 use Rattle.fields.proofs.Accepted.{accepted-ind}
 use Rattle.register.specs.Form.{State, start, within, due, value, register-form, value-of, register-in, kind?, link?}
 use Rattle.register.specs.Said.{sizes, sized}
-use Rattle.register.specs.Ahead.{Accepted}
+use Rattle.register.specs.LinksAhead.{Accepted}
 use Rattle.register.proofs.Sound.{SoundState, sound-more}
 
 pub record Limits (r : Register) : Type 0 where

@@ -5,7 +5,7 @@ pub mod Loop
 pub mod Passing
 -- what an accepted file holds, and where
 pub mod AcceptedRegister
-pub mod Told
+pub mod ReaderOutcome
 pub mod Walk
 pub mod Places
 pub mod Cases

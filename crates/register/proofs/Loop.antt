@@ -13,7 +13,7 @@ use Rattle.fields.specs.Answer.{got, refused, onward}
 use Rattle.fields.specs.Reading.{ends, wrong, body, field-at, read}
 use Rattle.fields.proofs.Bools.{and-left, and-right}
 use Rattle.fields.proofs.Fields.{found, ended}
-use Rattle.fields.proofs.Going.{Going, going-start, going-ends, going-wrong, going-refused, going-more}
+use Rattle.fields.proofs.ReaderLoop.{Going, going-start, going-ends, going-wrong, going-refused, going-more}
 use Rattle.register.specs.declared.Progress.{Progress}
 use Rattle.register.specs.declared.Position.{Position}
 use Rattle.register.specs.declared.Position.the-variants.{Start, Within}

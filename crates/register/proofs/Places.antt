@@ -19,7 +19,7 @@ use Rattle.register.specs.declared.Progress.{Progress}
 use Rattle.register.specs.declared.Links as declared·Links
 use Rattle.register.specs.declared.NextLink.the-variants as next-link
 use Rattle.register.specs.Form.{State, start, within, due, due-head, due-entry, judge, value, register-form, value-of, register-in, edge-of, after-head}
-use Rattle.register.specs.Ahead.{Accepted, cursor-at, OnLinks, to-come, handed}
+use Rattle.register.specs.LinksAhead.{Accepted, cursor-at, OnLinks, to-come, handed}
 use Rattle.register.proofs.Fields.{head-length, entry-length}
 use Rattle.register.proofs.Walk.{to-come-length}
 use Rattle.register.proofs.Sound.{by-head, by-entry, head-got, kind-got, link-got}

@@ -11,7 +11,7 @@ use Rattle.register.specs.declared.Links as declared·Links
 use Rattle.register.specs.declared.NextLink as declared·NextLink
 use Rattle.register.specs.declared.NextLink.the-variants as next-link
 use Rattle.register.specs.Form.{register-in}
-use Rattle.register.specs.Ahead.{Accepted, cursor-at, OnLinks, to-come, handed}
+use Rattle.register.specs.LinksAhead.{Accepted, cursor-at, OnLinks, to-come, handed}
 
 -- ---- at the start all links are to come
 module _ (s : List ℕ) (c : declared·Links.Links) (e : c ≡ cursor-at s (length (register-in s .links))) where

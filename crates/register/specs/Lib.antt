@@ -1,4 +1,4 @@
 pub mod Form
 pub mod Said
 pub mod Passed
-pub mod Ahead
+pub mod LinksAhead

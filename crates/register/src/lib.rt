@@ -16,7 +16,7 @@ ghost use Rattle.theory.specs.Register.{records, kind};
 ghost use Rattle.register.specs.Form.{head-of, kind-of, link-of, key, register-form, register-in};
 ghost use Rattle.register.specs.Said.{due-of, entry-of, judged, Ready, turn-said, outcome-said, sizes-of, sized};
 ghost use Rattle.register.specs.Passed.{KindAt, NumberAt, Passes, Passed};
-ghost use Rattle.register.specs.Ahead.{Accepted, cursor-at, OnLinks, to-come, handed};
+ghost use Rattle.register.specs.LinksAhead.{Accepted, cursor-at, OnLinks, to-come, handed};
 
 // The bytes of a whole field of a kind, and of a link.
 const KIND_BYTES: usize = HEAD + fields::KIND_LENGTH as usize;

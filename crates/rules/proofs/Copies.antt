@@ -22,7 +22,7 @@ use Rattle.triples.proofs.Codes.{step-numbered, closure-numbered}
 use Rattle.triples.proofs.Nodes.{known, step-path, kept-path, left-less, right-less}
 use Rattle.triples.proofs.Growing.{part-next, part-over}
 use Rattle.rules.specs.Outcome.{Done}
-use Rattle.rules.specs.Asks.{Room, part, AddCopies}
+use Rattle.rules.specs.Requirements.{Room, part, AddCopies}
 use Rattle.rules.proofs.Grows.{Growing, grows-start, grows-room, grows-over, grows-turn, grows-many, one-added}
 
 -- ---- one copy

@@ -15,7 +15,7 @@ use Rattle.triples.specs.Paths.{triple-of, Sound}
 use Rattle.triples.specs.Parts.{part-of, Added}
 use Rattle.triples.proofs.Growing.{length-part, added-kept}
 use Rattle.rules.specs.Outcome.{Done}
-use Rattle.rules.specs.Asks.{Room}
+use Rattle.rules.specs.Requirements.{Room}
 
 -- the part from s on has come from ws₀ to ws and `count` triples, and `rest` is still to be added to make `all`
 pub record Growing (qs ws₀ ws : List ℕ) (u s count : ℕ) (all rest : List Triple) : Type 0 where

@@ -10,7 +10,7 @@ pub mod Pairs
 pub mod Rows
 pub mod Repeating
 -- the rules
-pub mod Ruling
+pub mod RuleOutcome
 pub mod PairRule
 pub mod Copies
 pub mod Unions

@@ -17,13 +17,13 @@ use Rattle.triples.specs.Parts.{part-of}
 use Rattle.triples.proofs.Triples.{triple-kept}
 use Rattle.triples.proofs.Growing.{part-kept}
 use Rattle.rules.specs.declared.Part.the-variants.{Made, Many, Long}
-use Rattle.rules.specs.Two.{of-two, Paired}
+use Rattle.rules.specs.PairRules.{of-two, Paired}
 use Rattle.rules.specs.Outcome.{Ruled, Done}
-use Rattle.rules.specs.Asks.{Lies, row-of, rows-of, Pairing, AddRow, AddNewRow, TwoParts}
+use Rattle.rules.specs.Requirements.{Lies, row-of, rows-of, Pairing, AddRow, AddNewRow, TwoParts}
 use Rattle.rules.proofs.Short.{short-left, short-right, short-distinct}
 use Rattle.rules.proofs.Grows.{Growing, rule-starts, grows-room, grows-over, grows-turn, grows-many}
 use Rattle.rules.proofs.Rows.{rows-next, rows-end}
-use Rattle.rules.proofs.Ruling.{ruled-long, ruled-many, ruled-made}
+use Rattle.rules.proofs.RuleOutcome.{ruled-long, ruled-many, ruled-made}
 
 -- what is left; and all that the nodes p to i give stands in the part
 pub record RowsGrowing (qs ws₀ ws : List ℕ) (made s count p d q e i : ℕ) : Type 0 where

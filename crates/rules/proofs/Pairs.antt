@@ -19,9 +19,9 @@ use Rattle.triples.specs.Paths.{triple-of, Sound}
 use Rattle.triples.specs.Parts.{part-of, Candidate, Added}
 use Rattle.triples.proofs.Words.{node-new}
 use Rattle.triples.proofs.Triples.{triple-two, triple-from, triple-to, triple-kept}
-use Rattle.rules.specs.Two.{Paired, fitting, giving, ends-of, pair-node, pair-short?}
+use Rattle.rules.specs.PairRules.{Paired, fitting, giving, ends-of, pair-node, pair-short?}
 use Rattle.rules.specs.Outcome.{Done}
-use Rattle.rules.specs.Asks.{pair-of, AddPair}
+use Rattle.rules.specs.Requirements.{pair-of, AddPair}
 use Rattle.rules.proofs.TwoLists.{two-one, giving-size, node-gives, fitting-ends, giving-small}
 use Rattle.rules.proofs.Short.{short-guard}
 use Rattle.rules.proofs.Grows.{none-added, one-added}

@@ -9,7 +9,7 @@ use Rattle.theory.specs.Lists.{adjoin-all, concat-map, tabulate}
 use Rattle.theory.specs.Inference.{Triple, triple?}
 use Rattle.triples.specs.Parts.{part-of}
 use Rattle.rules.specs.Outcome.{Done}
-use Rattle.rules.specs.Asks.{Room}
+use Rattle.rules.specs.Requirements.{Room}
 use Rattle.rules.proofs.Grows.{Growing, grows-room, grows-over, grows-turn, grows-many}
 
 -- what is left of a range: the lists of numbers j to e

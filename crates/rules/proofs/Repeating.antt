@@ -16,7 +16,7 @@ use Rattle.triples.specs.Tests.{Decides}
 use Rattle.triples.specs.Paths.{triple-of, Has}
 use Rattle.triples.specs.Parts.{part-of}
 use Rattle.rules.specs.Outcome.{Done}
-use Rattle.rules.specs.Asks.{part, row-of, AddNewRow}
+use Rattle.rules.specs.Requirements.{part, row-of, AddNewRow}
 use Rattle.rules.specs.Repeated.{Alike, Repeats}
 use Rattle.rules.proofs.TwoLists.{left-rows}
 use Rattle.rules.proofs.Pairs.{from-is}

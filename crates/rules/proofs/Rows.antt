@@ -19,9 +19,9 @@ use Rattle.triples.specs.Paths.{triple-of}
 use Rattle.triples.specs.Parts.{part-of}
 use Rattle.triples.proofs.Triples.{triple-kept}
 use Rattle.triples.proofs.Growing.{part-next, part-over}
-use Rattle.rules.specs.Two.{of-two, Paired, pair-short?}
+use Rattle.rules.specs.PairRules.{of-two, Paired, pair-short?}
 use Rattle.rules.specs.Outcome.{Done}
-use Rattle.rules.specs.Asks.{Lies, part, pair-of, row-of, rows-of, Pairing, AddPair, AddRow}
+use Rattle.rules.specs.Requirements.{Lies, part, pair-of, row-of, rows-of, Pairing, AddPair, AddRow}
 use Rattle.rules.proofs.TwoLists.{two-join, two-next, two-row, two-none, row-none}
 use Rattle.rules.proofs.Short.{short-append, short-left, short-right}
 use Rattle.rules.proofs.Pairs.{pair-short-is}

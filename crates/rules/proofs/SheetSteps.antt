@@ -15,7 +15,7 @@ use Rattle.theory.proofs.Sheet.{kinds-fit}
 use Rattle.symbols.specs.Symbols.{symbol-numbered}
 use Rattle.sheet.specs.Table.{tabled?, table-of}
 use Rattle.sheet.proofs.Tables.{table-permits}
-use Rattle.rules.specs.Marks.{direction-of, link-of, step-of, marked?, of-marks, Tabled}
+use Rattle.rules.specs.StepTriples.{direction-of, link-of, step-of, marked?, of-marks, Tabled}
 use Rattle.rules.proofs.Steps.{code-step}
 
 concat-same : {A B : Type 0} (f g : A → List B) (xs : List A) → ((x : A) → In x xs → f x ≡ g x) → concat-map f xs ≡ concat-map g xs

@@ -28,11 +28,11 @@ use Rattle.triples.proofs.Words.{node-new}
 use Rattle.triples.proofs.Triples.{triple-from, triple-to, path-step}
 use Rattle.rules.specs.declared.Part.the-variants.{Made, Many}
 use Rattle.rules.specs.Outcome.{Ruled, Done}
-use Rattle.rules.specs.Marks.{direction-of, link-of, step-of, marked?, of-marks, mark-of, marks-of, AddMark, AddMarks}
+use Rattle.rules.specs.StepTriples.{direction-of, link-of, step-of, marked?, of-marks, mark-of, marks-of, AddMark, AddMarks}
 use Rattle.rules.proofs.Short.{short-path?, short-distinct}
 use Rattle.rules.proofs.Grows.{Growing, grows-start, rule-starts, none-added, one-added}
 use Rattle.rules.proofs.Ranging.{ahead, Ranging, ranging-room, ranging-over, ranging-many}
-use Rattle.rules.proofs.Ruling.{ruled-many, ruled-made}
+use Rattle.rules.proofs.RuleOutcome.{ruled-many, ruled-made}
 
 pub code-step : (c : ℕ) → c < 128 → symbol-numbered c 0 ≡ s-step (direction-of c) (link-of c)
 unfolding symbol-numbered

@@ -13,7 +13,7 @@ use Rattle.theory.specs.Inference.{Triple, of-join, of-op, pairs, joined, conjo
 use Rattle.symbols.specs.Symbols.{symbol-numbered}
 use Rattle.triples.specs.declared.Node.{Node}
 use Rattle.triples.specs.Paths.{of-node}
-use Rattle.rules.specs.Two.{of-symbol, of-two, Paired, fitting, giving, ends-of, pair-node}
+use Rattle.rules.specs.PairRules.{of-symbol, of-two, Paired, fitting, giving, ends-of, pair-node}
 
 -- a proof by the four operators
 paired-case : (P : ℕ → Type 0) → P 128 → P 130 → P 131 → P 132 → (made : ℕ) → Paired made → P made
@@ -62,9 +62,6 @@ two-op made o xs ys e = ap (λ (k : Symbol). of-symbol k xs ys) e
 pub two-union : (xs ys : List Triple) → of-two 129 xs ys ≡ xs ++ ys
 unfolding symbol-numbered
 two-union xs ys = two-op 129 union xs ys refl
-
-pub join-paired : Paired 128
-join-paired = record { least = omega arith; most = omega arith; no-union = λ e. omega arith }
 
 module _ (made : ℕ) (h : Paired made) where
   two-pairs : (xs ys : List Triple) → of-two made xs ys ≡ pairs (fitting made) (giving made) xs ys

@@ -12,11 +12,11 @@ use Rattle.triples.specs.Parts.{part-of}
 use Rattle.triples.proofs.Growing.{part-kept}
 use Rattle.rules.specs.declared.Part.the-variants.{Made, Many}
 use Rattle.rules.specs.Outcome.{Ruled, Done}
-use Rattle.rules.specs.Asks.{part, rows-of, Unite, AddCopies}
+use Rattle.rules.specs.Requirements.{part, rows-of, Unite, AddCopies}
 use Rattle.rules.proofs.TwoLists.{two-union}
 use Rattle.rules.proofs.Short.{short-append, short-distinct}
 use Rattle.rules.proofs.Grows.{Growing, rule-starts, grows-room, grows-over, grows-turn, grows-many}
-use Rattle.rules.proofs.Ruling.{ruled-many, ruled-made}
+use Rattle.rules.proofs.RuleOutcome.{ruled-many, ruled-made}
 
 module _ {qs ws : List ℕ} {s p d q e : ℕ} (h : Unite qs ws s p d q e) where
   abbrev xs : List Triple

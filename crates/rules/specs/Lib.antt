@@ -1,5 +1,5 @@
-pub mod Two
+pub mod PairRules
 pub mod Outcome
-pub mod Asks
+pub mod Requirements
 pub mod Repeated
-pub mod Marks
+pub mod StepTriples

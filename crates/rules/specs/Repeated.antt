@@ -6,7 +6,7 @@ use mathlib.Core.List.{List, [], _∷_}
 use Prim.Native.Nat.{ℕ, _<_, _≤_}
 use Rattle.theory.specs.Inference.{Triple}
 use Rattle.triples.specs.Paths.{triple-of}
-use Rattle.rules.specs.Two.{of-two}
+use Rattle.rules.specs.PairRules.{of-two}
 
 -- r tells that nodes i and j differ in their to kinds at most
 pub record Alike (qs ws : List ℕ) (i j : ℕ) (r : Bool) : Type 0 where

@@ -8,11 +8,11 @@ ghost use Rattle.theory.specs.Inference.{triple?, distinct};
 ghost use Rattle.theory.specs.Narrowing.{short?};
 ghost use Rattle.triples.specs.Paths.{Has};
 ghost use Rattle.triples.specs.Parts.{part-of};
-ghost use Rattle.rules.specs.Two.{Paired, fitting, giving, ends-of, pair-node, pair-short?};
+ghost use Rattle.rules.specs.PairRules.{Paired, fitting, giving, ends-of, pair-node, pair-short?};
 ghost use Rattle.rules.specs.Outcome.{Ruled, Done};
-ghost use Rattle.rules.specs.Asks.{Lies, part, pair-of, row-of, rows-of, Pairing, AddPair, AddRow, AddNewRow, TwoParts, Unite, AddCopies};
+ghost use Rattle.rules.specs.Requirements.{Lies, part, pair-of, row-of, rows-of, Pairing, AddPair, AddRow, AddNewRow, TwoParts, Unite, AddCopies};
 ghost use Rattle.rules.specs.Repeated.{Alike, Repeats};
-ghost use Rattle.rules.specs.Marks.{marked?, of-marks, mark-of, marks-of, AddMark, AddMarks};
+ghost use Rattle.rules.specs.StepTriples.{marked?, of-marks, mark-of, marks-of, AddMark, AddMarks};
 
 // What a rule makes.
 pub enum Part {

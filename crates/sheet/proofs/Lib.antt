@@ -5,4 +5,4 @@ pub mod Tables
 pub mod Loop
 pub mod Cases
 -- what the outcome says of the file
-pub mod Told
+pub mod ReaderOutcome

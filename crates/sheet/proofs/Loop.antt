@@ -19,7 +19,7 @@ use Rattle.fields.specs.Table.{tag-length, rows}
 use Rattle.fields.specs.Said.{refusal-said}
 use Rattle.fields.proofs.Bools.{onward-got, refused-too, not-refused}
 use Rattle.fields.proofs.Fields.{found, body-length, one-due, ended}
-use Rattle.fields.proofs.Going.{Going, going-start, going-ends, going-wrong, going-refused, going-more}
+use Rattle.fields.proofs.ReaderLoop.{Going, going-start, going-ends, going-wrong, going-refused, going-more}
 use Rattle.sheet.specs.declared.Outcome.{Outcome}
 use Rattle.sheet.specs.declared.Outcome.the-variants as outcome
 use Rattle.sheet.specs.declared.Triples.{Triples}

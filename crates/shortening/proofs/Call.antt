@@ -20,8 +20,8 @@ use Rattle.fields.specs.Said.{number-of, place-of, Files}
 use Rattle.question.specs.Form.{question-form}
 use Rattle.question.specs.Writing.{question-bytes}
 use Rattle.question.proofs.Paths.{accepted-question}
-use Rattle.question.proofs.Forth.{codes-path}
-use Rattle.question.proofs.Told.{Told}
+use Rattle.question.proofs.WrittenThenRead.{codes-path}
+use Rattle.question.proofs.ReaderOutcome.{Told}
 use Rattle.shortening.specs.declared.Shortened.{Shortened}
 use Rattle.shortening.specs.Call.{codes-of, shortened-codes, shortened-in, shorten-call}
 use Rattle.shortening.specs.Pass.{FirstCodes, OfQuestion, Leaves}

@@ -28,8 +28,8 @@ use Rattle.symbols.proofs.Numbers.{length-codes}
 use Rattle.question.specs.Form.{question-form, question-symbols}
 use Rattle.question.specs.Writing.{numbered-codes, question-bytes}
 use Rattle.question.proofs.Paths.{Asks, accepted-question}
-use Rattle.question.proofs.Forth.{read-bytes, codes-path}
-use Rattle.question.proofs.Back.{bytes-read}
+use Rattle.question.proofs.WrittenThenRead.{read-bytes, codes-path}
+use Rattle.question.proofs.ReadThenWritten.{bytes-read}
 use Rattle.question_writer.proofs.Measuring.{question-length}
 use Rattle.shortening.specs.Call.{codes-of, shortened-codes, shortened-in, shorten-call}
 use Rattle.shortening.specs.Shortens.{ShortenTook, short-file, Shortens}

@@ -8,7 +8,7 @@ use test_report::wide;
 ghost use mathlib.Core.Path.{_≡_};
 ghost use Rattle.theory.specs.Register.{records};
 ghost use Rattle.register.specs.Form.{register-in};
-ghost use Rattle.register.specs.Ahead.{Accepted};
+ghost use Rattle.register.specs.LinksAhead.{Accepted};
 
 pub fn mix_kinds(d: u64, s: &[u8], n: usize) -> u64
     requires { ⌜ n ≡ records (register-in (now s)) ⌝ }

@@ -13,7 +13,7 @@ use Rattle.theory.specs.Register.{Edge, Register, records}
 use Rattle.theory.specs.Sheet.{Sheet, kind-known?, link-permitted?, conforms?, or-else, breach, Breached, conforming, unknown-kind, forbidden-link}
 use Rattle.theory.proofs.Tests.{and-left, and-right, and-both, of-true}
 use Rattle.theory.proofs.Lists.{every-in, in-every}
-use Rattle.theory.proofs.First.{first-map, scan, Fails, fails?, holds-not, first-fails, none-fails}
+use Rattle.theory.proofs.FirstFailing.{first-map, scan, Fails, fails?, holds-not, first-fails, none-fails}
 
 module _ (S : Sheet) (r : Register) where
   known : (k : ℕ) → Fails (kind-known? S) k → S .kinds ≤ k

@@ -18,7 +18,7 @@ use Rattle.theory.specs.Merging.{Member, members}
 use Rattle.theory.specs.Narrowing.{narrowed, link-fault, part-fault, refuse, narrow, narrow-read, narrow-symbols}
 use Rattle.theory.specs.Demand3.{Pair, Answer, Witness, Demand3}
 use Rattle.theory.proofs.KindSet.{has-singleton}
-use Rattle.theory.proofs.Inside.{derives-inside}
+use Rattle.theory.proofs.KindsOfSheet.{derives-inside}
 use Rattle.theory.proofs.Inference.{Short, exact}
 use Rattle.theory.proofs.Soundness.{erase-holds, derives-sound}
 use Rattle.theory.proofs.Completeness.{derives-complete}

@@ -12,7 +12,7 @@ use lib.Dec.{T, T-not, not-T, ltb, leb, leb→le, le→leb}
 use lib.ListN.{length, getD, length-append}
 use borrow.Author.Tests.{lt-ltb, le-ltb}
 use Rattle.theory.specs.Lists.{guard, filter, some?, adjoin, adjoin-all, concat-map, tabulate, range, NoRepeat}
-use Rattle.theory.specs.PathExpr.{Direction, Op, union, conjunction, branch-right, branch-left, PathExpr, step, join, op, closure, size}
+use Rattle.theory.specs.PathExpr.{Op, union, conjunction, branch-right, branch-left, PathExpr, step, join, op, closure, size}
 use Rattle.theory.specs.Sheet.{Sheet}
 use Rattle.theory.specs.Inference.{Triple, triple, triple?, distinct, stepped?, between, of-step, of-join, pairs, end-to-end?, same-ends?, same-start?, joined, conjoined, branched-right, branched-left, of-op, reach, meets-cyclic?, acyclic?, walks, of-closure, triples}
 use Rattle.theory.specs.Narrowing.{short?}
@@ -116,10 +116,6 @@ between-norepeat n p f = concat-map-norepeat row (λ t. t .from) from-is each (r
 -- of a list without repeats nothing goes
 pub distinct-whole : (ts : List Triple) → NoRepeat ts → distinct ts ≡ ts
 distinct-whole ts n = adjoin-all-fresh triple? triple-eq triple-refl [] ts n (λ y m k. in-nil k)
-
--- the triples of a step are different as they are listed
-pub step-distinct : (S : Sheet) (d : Direction) (l : ℕ) → distinct (of-step S d l) ≡ of-step S d l
-step-distinct S d l = distinct-whole (of-step S d l) (between-norepeat (S .kinds) (step d l) (stepped? S d l))
 
 pub triples-norepeat : (S : Sheet) (o : PathExpr) → NoRepeat (triples S o)
 triples-norepeat S (step d l) = distinct-norepeat (of-step S d l)

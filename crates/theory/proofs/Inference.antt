@@ -15,7 +15,7 @@ use Rattle.theory.proofs.Lists.{every-in}
 use Rattle.theory.proofs.Rules.{Sub, join-map, op-map, closure-rule-map}
 use Rattle.theory.proofs.Triples.{Of, Same, same-trans, distinct-same, distinct-in, in-pairs, pairs-in, in-between, between-in}
 use Rattle.theory.proofs.Sheet.{permits-inside}
-use Rattle.theory.proofs.Inside.{derives-inside}
+use Rattle.theory.proofs.KindsOfSheet.{derives-inside}
 use Rattle.theory.proofs.Reach.{Inside}
 use Rattle.theory.proofs.ClosureRule.{in-closure, closure-in}
 

@@ -10,17 +10,14 @@ use lib.Bits.{or-add-and, and-le-r}
 use lib.Dec.{T}
 use lib.ListN.{length, length-append}
 use Rattle.theory.specs.KindSet.{set-union}
-use Rattle.theory.specs.PathExpr.{Via, any, through, PathExpr, step, join, op, closure, Symbol, s-join, s-op, s-closure, postfix, size, code, codes, erase, plain?, links?}
-use Rattle.theory.specs.Sheet.{Sheet}
-use Rattle.theory.specs.Inference.{Triple, triples}
-use Rattle.theory.specs.Merging.{Member, of-triple, same-shape?, merge-via, merge, merged, members}
+use Rattle.theory.specs.PathExpr.{Via, any, through, PathExpr, step, join, op, closure, Symbol, s-join, s-op, s-closure, postfix, size, code, erase, plain?}
+use Rattle.theory.specs.Inference.{Triple}
+use Rattle.theory.specs.Merging.{Member, of-triple, merge-via, merge, merged, members}
 use Rattle.theory.specs.Sorting.{alike?, set-of, sets-of, set-unions, EvenVia, plain, with-sets, Even, steps, joins, ops, closures, Inferred, Marked}
 use Rattle.theory.proofs.Tests.{apart, tests, and-both}
 use Rattle.theory.proofs.Soundness.{erase-plain}
-use Rattle.theory.proofs.Merging.{same-shape, insert-all}
-use Rattle.theory.proofs.Order.{codes-inj}
+use Rattle.theory.proofs.Merging.{insert-all}
 use Rattle.theory.proofs.Sorting.{alike-shape}
-use Rattle.theory.proofs.TriplePaths.{triples-inferred}
 
 -- ---- the sets of a merged path are the unions
 binary-sets : (p q : PathExpr) (s : Symbol) → map set-of (postfix p ++ (postfix q ++ (s ∷ []))) ≡ sets-of p ++ (sets-of q ++ (set-of s ∷ []))
@@ -125,9 +122,6 @@ inferred-even (closure p) (closure p′) x y e =
     let f : erase p ≡ erase p′ = cc in
     subst (λ z. Even (closure p) (closure z)) (sym (erase-plain p x) ∙ f ∙ erase-plain p′ y) (closures (even-refl p))
 
-pub triples-even : (S : Sheet) (q : PathExpr) → T (plain? q) → (x y : Triple) → In x (triples S q) → In y (triples S q) → T (same-shape? (x .path) (y .path)) → Even (x .path) (y .path)
-triples-even S q h x y i j t = inferred-even (x .path) (y .path) (triples-inferred S q h x i) (triples-inferred S q h y j) (same-shape (x .path) (y .path) t)
-
 -- ---- merging keeps it
 union-pos : (a b : ℕ) → 0 < a → 0 < set-union a b
 unfolding set-union
@@ -214,45 +208,3 @@ inferred-marked (join any p q) x s i = absurd x
 inferred-marked (join (through m) p q) x s i = binary-in p q (s-join (through m)) i (inferred-marked p (x .1 .0) s) (inferred-marked q (x .1 .1) s) (x .0)
 inferred-marked (op o p q) x s i = binary-in p q (s-op o) i (inferred-marked p (x .0) s) (inferred-marked q (x .1) s) tt
 inferred-marked (closure p) x s i = unary-in p s-closure i (plain-marked p x s) tt
-
--- ---- a path of a triple is determined by its codes and its sets
-append-split : (xs ys us vs : List ℕ) → length xs ≡ length ys → xs ++ us ≡ ys ++ vs → (xs ≡ ys) × (us ≡ vs)
-append-split [] [] us vs e h = (refl, h)
-append-split [] (y ∷ ys) us vs e h = absurd (omega arith)
-append-split (x ∷ xs) [] us vs e h = absurd (omega arith)
-append-split (x ∷ xs) (y ∷ ys) us vs e h =
-    let f : x ≡ y = cc in
-    let r = append-split xs ys us vs (omega arith) (cc) in
-    (ap₂ {C = List ℕ} (λ z zs. z ∷ zs) f (r .0), r .1)
-
-record Split (p q p′ q′ : PathExpr) (s t : Symbol) : Type 0 where
-  left : sets-of p ≡ sets-of p′
-  right : sets-of q ≡ sets-of q′
-  last : set-of s ≡ set-of t
-
-binary-split : {p q p′ q′ : PathExpr} (s t : Symbol) → Even p p′ → Even q q′ → map set-of (postfix p ++ (postfix q ++ (s ∷ []))) ≡ map set-of (postfix p′ ++ (postfix q′ ++ (t ∷ [])))
-    → Split p q p′ q′ s t
-binary-split {p} {q} {p′} {q′} s t f g e =
-    let r = append-split (sets-of p) (sets-of p′) (sets-of q ++ (set-of s ∷ [])) (sets-of q′ ++ (set-of t ∷ [])) (even-length f) (sym (binary-sets p q s) ∙ e ∙ binary-sets p′ q′ t) in
-    let l = append-split (sets-of q) (sets-of q′) (set-of s ∷ []) (set-of t ∷ []) (even-length g) (r .1) in
-    let k : set-of s ∷ [] ≡ set-of t ∷ [] = l .1 in
-    record { left = r .0; right = l .0; last = cc }
-
-via-same : {v w : Via} → EvenVia v w → set-of (s-join v) ≡ set-of (s-join w) → v ≡ w
-via-same plain e = refl
-via-same with-sets e = ap through e
-
-even-same : {p q : PathExpr} → Even p q → sets-of p ≡ sets-of q → p ≡ q
-even-same steps e = refl
-even-same (joins {v} {w} k f g) e =
-    let r = binary-split (s-join v) (s-join w) f g e in
-    let a = via-same k (r .last) in
-    let b = even-same f (r .left) in
-    let c = even-same g (r .right) in
-    λ i. join (a i) (b i) (c i)
-even-same (ops {o} f g) e = let r = binary-split (s-op o) (s-op o) f g e in ap₂ (op o) (even-same f (r .left)) (even-same g (r .right))
-even-same (closures {p} {p′} f) e =
-    ap closure (even-same f (append-split (sets-of p) (sets-of p′) (0 ∷ []) (0 ∷ []) (even-length f) (sym (unary-sets p s-closure) ∙ e ∙ unary-sets p′ s-closure) .0))
-
-pub inferred-same : (p q : PathExpr) → T (links? 64 p) → T (links? 64 q) → Inferred p → Inferred q → codes p ≡ codes q → sets-of p ≡ sets-of q → p ≡ q
-inferred-same p q h k x y e f = even-same (inferred-even p q x y (codes-inj p q h k e)) f

@@ -15,7 +15,7 @@ use Rattle.theory.specs.Inference.{triples}
 use Rattle.theory.specs.Merging.{members}
 use Rattle.theory.specs.Narrowing.{Outcome, refused, narrowed, link-fault, short?, part-fault, refuse, narrow, Unnamed, Named, TooLong, Faulty, Judged, unnamed, too-long, too-many, sound}
 use Rattle.theory.proofs.Tests.{of-true}
-use Rattle.theory.proofs.First.{first-map, first-holds, scan, Fault, fault?, no-fault, first-refused, none-refused}
+use Rattle.theory.proofs.FirstFailing.{first-map, first-holds, scan, Fault, fault?, no-fault, first-refused, none-refused}
 use Rattle.theory.proofs.Narrowing.{fault-short}
 use Rattle.theory.proofs.Refusals.{PartIs, fine, many, long, part-is}
 use Rattle.theory.proofs.Grounded.{Grounded, grounded}

@@ -12,7 +12,7 @@ pub mod Reach
 pub mod Walks
 pub mod ClosureRule
 pub mod Growth
-pub mod Inside
+pub mod KindsOfSheet
 pub mod Ends
 pub mod Inference
 -- the meaning of a question and of its triples
@@ -30,7 +30,7 @@ pub mod Order
 pub mod Sorting
 pub mod TriplePaths
 pub mod JoinSets
-pub mod First
+pub mod FirstFailing
 pub mod Conformance
 pub mod Refusals
 pub mod Narrowing

@@ -13,7 +13,7 @@ use Rattle.theory.specs.Inference.{triples}
 use Rattle.theory.specs.Merging.{Member, members}
 use Rattle.theory.specs.Narrowing.{Outcome, refused, narrowed, link-fault, short?, few?, part-fault, refuse, narrow}
 use Rattle.theory.specs.Lists.{First}
-use Rattle.theory.proofs.First.{scan, Fault, fault?, no-fault, first-refused, none-refused}
+use Rattle.theory.proofs.FirstFailing.{scan, Fault, fault?, no-fault, first-refused, none-refused}
 use Rattle.theory.proofs.Inference.{Short}
 
 -- what is not refused has no fault

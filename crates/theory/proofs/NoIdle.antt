@@ -16,7 +16,7 @@ use Rattle.theory.specs.Narrowing.{narrowed, narrow}
 use Rattle.theory.specs.NoIdle.{Cut, at-join, join-left, join-right, op-left, op-right, below, NoIdle}
 use Rattle.theory.proofs.Tests.{tests}
 use Rattle.theory.proofs.KindSet.{has-singleton, singleton-has, has-union}
-use Rattle.theory.proofs.Inside.{derives-inside}
+use Rattle.theory.proofs.KindsOfSheet.{derives-inside}
 use Rattle.theory.proofs.Inference.{Short, exact}
 use Rattle.theory.proofs.Universal.{universal, derives-own, universal-witness}
 use Rattle.theory.proofs.Inclusion.{Under, Passing, join-under, op-under, closure-under}

@@ -21,7 +21,7 @@ use Rattle.theory.proofs.Rules.{Sub, closure-rule-map}
 use Rattle.theory.proofs.Triples.{Of, in-distinct, distinct-norepeat}
 use Rattle.theory.proofs.ClosureRule.{in-closure}
 use Rattle.theory.proofs.Inference.{to-sub, from-sub, Short, inside, exact, step-exact, join-exact, op-exact}
-use Rattle.theory.proofs.First.{first-holds, first-in, scan, Fails, fails?, holds-not}
+use Rattle.theory.proofs.FirstFailing.{first-holds, first-in, scan, Fails, fails?, holds-not}
 
 abbrev short-one : Triple → Bool
 short-one t = leb (size (t .path)) 48

@@ -19,7 +19,7 @@ use Rattle.theory.proofs.Lists.{in-guard, guard-in, in-concat-map, conc
 use Rattle.theory.proofs.KindSet.{has-singleton}
 use Rattle.theory.proofs.Sheet.{permits-inside}
 use Rattle.theory.proofs.Rules.{walk-map}
-use Rattle.theory.proofs.Inside.{derives-inside}
+use Rattle.theory.proofs.KindsOfSheet.{derives-inside}
 use Rattle.theory.proofs.Soundness.{erase-holds, walk-sound, derives-sound}
 
 -- the permitted triples from a, those of link l among them, and all

@@ -2,8 +2,8 @@
 -- Assumes nothing.
 use mathlib.Core.Path.{sym}
 use native.Mathlib.Omega.{arith}
-use Rattle.register.proofs.Told.{refused-file, accepted-file, accepted-records}
-use Rattle.answer.proofs.Whole.{narrowed-refused, narrowed-register, narrowed-accepted}
+use Rattle.register.proofs.ReaderOutcome.{refused-file, accepted-file, accepted-records}
+use Rattle.answer.proofs.WholeCalls.{narrowed-refused, narrowed-register, narrowed-accepted}
 use Rattle.answer.proofs.Files.{file-refused, file-accepted}
 use borrow.Author.Needs.{needs}
 use Rattle.answer.proofs.narrowed_answer.Statement.{statement}

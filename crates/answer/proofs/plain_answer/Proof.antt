@@ -1,9 +1,9 @@
 -- `answer::plain_answer` meets its contract: the refusal of the first file that has one, or the codes that were read make the path of the question, whose pairs `plain_in` gives.
 -- Assumes nothing.
-use Rattle.answer.proofs.Whole.{plain-refused, plain-register, plain-accepted}
+use Rattle.answer.proofs.WholeCalls.{plain-refused, plain-register, plain-accepted}
 use Rattle.answer.proofs.Files.{question-accepted}
-use Rattle.question.proofs.Told.{refused-question, told-question}
-use Rattle.register.proofs.Told.{refused-file, accepted-file, accepted-records}
+use Rattle.question.proofs.ReaderOutcome.{refused-question, told-question}
+use Rattle.register.proofs.ReaderOutcome.{refused-file, accepted-file, accepted-records}
 use mathlib.Core.Path.{sym}
 use borrow.Author.Needs.{needs}
 use Rattle.answer.proofs.plain_answer.Statement.{statement}

@@ -11,7 +11,7 @@ use Rattle.closure_rule.proofs.grow_walks.Reads as grow-walks-reads
 use Rattle.kind_graph.proofs.graph.Reads as graph-reads
 use Rattle.kind_graph.proofs.walks_short.Reads as walks-short-reads
 use borrow.Author.Tests.{not-true, not-false}
-use Rattle.closure_rule.proofs.Ruling.{rule-copies, rule-walks, rule-long, rule-grows, rule-many, rule-keeps, kept-many, rule-made}
+use Rattle.closure_rule.proofs.RulePieces.{rule-copies, rule-walks, rule-long, rule-grows, rule-many, rule-keeps, kept-many, rule-made}
 
 slice-aggregate-graph : tie.Need-slice-aggregate-graph
 slice-aggregate-graph c = search needs

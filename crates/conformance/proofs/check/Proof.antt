@@ -2,7 +2,7 @@
 -- Assumes nothing.
 use borrow.Author.Needs.{needs}
 use Rattle.conformance.proofs.Checked.{sheet-refused, register-refused, breach-at, no-breach}
-use Rattle.register.proofs.Told.{accepted-file, accepted-records}
+use Rattle.register.proofs.ReaderOutcome.{accepted-file, accepted-records}
 use Rattle.conformance.proofs.check.Statement.{statement}
 use Rattle.conformance.proofs.check.Tie as tie
 

@@ -1,6 +1,6 @@
 -- `evaluation::evaluate` meets its contract: the rest of the symbols makes the path out of the relations on the stack, of which 48 symbols never need more than 24.
 -- Assumes nothing.
-use Rattle.evaluation.proofs.Going.{Going, going-start, going-more, going-end, fits}
+use Rattle.evaluation.proofs.SymbolLoop.{Going, going-start, going-more, going-end, fits}
 use Rattle.register.specs.Form.{register-in}
 use borrow.Author.Needs.{needs}
 use Prim.Native.Nat.{_-_, _≤_}

@@ -9,7 +9,7 @@ use Rattle.answer.proofs.row_words.Reads as row-words-reads
 use Rattle.job.proofs.job_words.Reads as job-words-reads
 use Rattle.job.proofs.work_need.Reads as work-need-reads
 use Rattle.rows.proofs.clear.Reads as clear-reads
-use Rattle.job.proofs.Whole.{roomy, settles-15, settles-rest}
+use Rattle.job.proofs.WholeCall.{roomy, settles-15, settles-rest}
 use Rattle.evaluation.proofs.Grounds.{small, stands}
 use Rattle.register.proofs.AcceptedRegister.{accepted-register}
 use native.Mathlib.Omega.{arith}

@@ -6,7 +6,7 @@ use Rattle.job.proofs.job_words.Tie as tie
 use Rattle.job.proofs.job_words.Reads as reads
 use Rattle.job.proofs.job_words.Lts as lts
 use Rattle.job.proofs.job_codes.Reads as job-codes-reads
-use Rattle.job.proofs.Whole.{fills-14, fills-rest}
+use Rattle.job.proofs.WholeCall.{fills-14, fills-rest}
 use Rattle.evaluation.proofs.Grounds.{small}
 use native.Mathlib.Omega.{arith}
 

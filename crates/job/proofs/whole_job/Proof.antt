@@ -9,11 +9,11 @@ use Rattle.job.proofs.job_in.Reads as job-in-reads
 use Rattle.question.proofs.read.Reads as read-reads
 use Rattle.register.proofs.read.Reads as read-reads′
 use Rattle.sheet.proofs.read.Reads as read-reads′′
-use Rattle.sheet.proofs.Told.{refused-sheet, told-sheet}
-use Rattle.question.proofs.Told.{refused-question, told-question}
-use Rattle.register.proofs.Told.{refused-file, accepted-file, accepted-records}
-use Rattle.narrowing.proofs.Given.{taken}
-use Rattle.job.proofs.Whole.{sheet-refused, question-refused, register-refused, files-read, tells, asked}
+use Rattle.sheet.proofs.ReaderOutcome.{refused-sheet, told-sheet}
+use Rattle.question.proofs.ReaderOutcome.{refused-question, told-question}
+use Rattle.register.proofs.ReaderOutcome.{refused-file, accepted-file, accepted-records}
+use Rattle.narrowing.proofs.FromReaders.{taken}
+use Rattle.job.proofs.WholeCall.{sheet-refused, question-refused, register-refused, files-read, tells, asked}
 use Rattle.job.proofs.Accepted.{with-plain}
 use mathlib.Core.Path.{sym}
 

@@ -8,7 +8,7 @@ use Rattle.narrowing.proofs.count_codes.Lts as lts
 use Rattle.narrowing.proofs.count_named.Reads as count-named-reads
 use Rattle.narrowing.proofs.first_unnamed.Reads as first-unnamed-reads
 use Rattle.narrowing.proofs.uncounted.Reads as uncounted-reads
-use Rattle.narrowing.proofs.Whole.{codes-unnamed, codes-named}
+use Rattle.narrowing.proofs.WholeCalls.{codes-unnamed, codes-named}
 
 first-unnamed-requires : tie.Need-first-unnamed-requires
 first-unnamed-requires c κs = c .before .before .pre .0 .within

@@ -7,7 +7,7 @@ use Rattle.narrowing.proofs.narrowed_size.Reads as reads
 use Rattle.narrowing.proofs.narrowed_size.Lts as lts
 use Rattle.narrowing.proofs.prepare.Reads as prepare-reads
 use Rattle.rows.proofs.clear.Reads as clear-reads
-use Rattle.narrowing.proofs.Whole.{size-told}
+use Rattle.narrowing.proofs.WholeCalls.{size-told}
 
 prepare-requires : tie.Need-prepare-requires
 prepare-requires c κs = search needs

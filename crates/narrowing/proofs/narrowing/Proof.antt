@@ -8,7 +8,7 @@ use Rattle.narrowing.proofs.narrowing.Lts as lts
 use Rattle.narrowing.proofs.prepare.Reads as prepare-reads
 use Rattle.narrowing.proofs.put_members.Reads as put-members-reads
 use Rattle.rows.proofs.clear.Reads as clear-reads
-use Rattle.narrowing.proofs.Whole.{file-told}
+use Rattle.narrowing.proofs.WholeCalls.{file-told}
 
 prepare-requires : tie.Need-prepare-requires
 prepare-requires c κs = search needs

@@ -9,10 +9,10 @@ use Rattle.narrowing.proofs.count_codes.Reads as count-codes-reads
 use Rattle.narrowing.proofs.unprepared.Reads as unprepared-reads
 use Rattle.question.proofs.read.Reads as read-reads
 use Rattle.sheet.proofs.read.Reads as read-reads′
-use Rattle.sheet.proofs.Told.{refused-sheet, told-sheet}
-use Rattle.question.proofs.Told.{refused-question, told-question}
-use Rattle.narrowing.proofs.Given.{handed, taken, ready}
-use Rattle.narrowing.proofs.Whole.{need-is, enough, sheet-refused, question-refused, work-short, files-read}
+use Rattle.sheet.proofs.ReaderOutcome.{refused-sheet, told-sheet}
+use Rattle.question.proofs.ReaderOutcome.{refused-question, told-question}
+use Rattle.narrowing.proofs.FromReaders.{handed, taken, ready}
+use Rattle.narrowing.proofs.WholeCalls.{need-is, enough, sheet-refused, question-refused, work-short, files-read}
 
 read-requires : tie.Need-read-requires
 read-requires c κs = search needs

@@ -6,7 +6,7 @@ use Rattle.paths.proofs.judge_question.Tie as tie
 use Rattle.paths.proofs.judge_question.Reads as reads
 use Rattle.paths.proofs.judge_question.Lts as lts
 use Rattle.question.proofs.read.Reads as read-reads
-use Rattle.question.proofs.Told.{refused-question, told-question}
+use Rattle.question.proofs.ReaderOutcome.{refused-question, told-question}
 use Rattle.paths.proofs.Judging.{judged-refused, judged-accepted}
 
 read-requires : tie.Need-read-requires

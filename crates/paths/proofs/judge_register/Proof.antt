@@ -6,7 +6,7 @@ use Rattle.paths.proofs.judge_register.Tie as tie
 use Rattle.paths.proofs.judge_register.Reads as reads
 use Rattle.paths.proofs.judge_register.Lts as lts
 use Rattle.register.proofs.read.Reads as read-reads
-use Rattle.register.proofs.Told.{refused-file, accepted-file}
+use Rattle.register.proofs.ReaderOutcome.{refused-file, accepted-file}
 use Rattle.paths.proofs.Judging.{judged-refused, judged-accepted}
 
 read-requires : tie.Need-read-requires

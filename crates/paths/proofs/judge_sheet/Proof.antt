@@ -6,7 +6,7 @@ use Rattle.paths.proofs.judge_sheet.Tie as tie
 use Rattle.paths.proofs.judge_sheet.Reads as reads
 use Rattle.paths.proofs.judge_sheet.Lts as lts
 use Rattle.sheet.proofs.read.Reads as read-reads
-use Rattle.sheet.proofs.Told.{refused-sheet, told-sheet}
+use Rattle.sheet.proofs.ReaderOutcome.{refused-sheet, told-sheet}
 use Rattle.paths.proofs.Judging.{judged-refused, judged-accepted}
 
 read-requires : tie.Need-read-requires

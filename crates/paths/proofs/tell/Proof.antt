@@ -3,7 +3,7 @@
 use borrow.Author.Needs.{needs}
 use Rattle.paths.proofs.tell.Statement.{statement}
 use Rattle.paths.proofs.tell.Tie as tie
-use Rattle.paths.proofs.Told.{tells-accepted, tells-refused}
+use Rattle.paths.proofs.OutcomeNumbers.{tells-accepted, tells-refused}
 
 enum-told : tie.Need-enum-told
 enum-told c = search needs

@@ -3,7 +3,7 @@
 use borrow.Author.Needs.{needs}
 use Rattle.paths.proofs.tell_file.Statement.{statement}
 use Rattle.paths.proofs.tell_file.Tie as tie
-use Rattle.paths.proofs.Told.{tells-written, tells-unwritten}
+use Rattle.paths.proofs.OutcomeNumbers.{tells-written, tells-unwritten}
 
 enum-known-o : tie.Need-enum-known-o
 enum-known-o c = search needs

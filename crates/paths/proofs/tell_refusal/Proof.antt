@@ -4,7 +4,7 @@ use borrow.Author.Needs.{needs}
 use Rattle.paths.proofs.tell_refusal.Statement.{statement}
 use Rattle.paths.proofs.tell_refusal.Tie as tie
 use mathlib.Core.Path.{_∙_}
-use Rattle.paths.proofs.Told.{tells-same}
+use Rattle.paths.proofs.OutcomeNumbers.{tells-same}
 
 place-of-requires : tie.Need-place-of-requires
 place-of-requires c κs = search needs

@@ -3,7 +3,7 @@
 use Rattle.theory.specs.Lists.{adjoin-all}
 use Rattle.theory.specs.Inference.{triple?}
 use Rattle.triples.specs.Parts.{part-of}
-use Rattle.rules.specs.Marks.{mark-of, marks-of}
+use Rattle.rules.specs.StepTriples.{mark-of, marks-of}
 use Rattle.rules.proofs.Ranging.{Ranging, ranging-turn, ranging-many, ranging-over}
 use Rattle.rules.proofs.Steps.{marks-start, marks-asks}
 use borrow.Author.Needs.{needs}

@@ -1,7 +1,7 @@
 -- `rules::fits` meets its contract: the operator both needs equal ends, branch left equal from kinds, join and branch right an end that meets a start: the three tests.
 -- Assumes nothing.
 use borrow.Author.Tests.{eq-eqb, ne-eqb}
-use Rattle.rules.specs.Two.{fitting}
+use Rattle.rules.specs.PairRules.{fitting}
 use Rattle.rules.proofs.fits.Statement.{statement}
 use Rattle.rules.proofs.fits.Tie as tie
 use Rattle.rules.proofs.fits.Reads as reads

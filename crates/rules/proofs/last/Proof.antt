@@ -2,7 +2,7 @@
 -- Assumes nothing.
 use borrow.Author.Tests.{ne-eqb}
 use Rattle.rules.proofs.TwoLists.{giving-last}
-use Rattle.rules.specs.Two.{giving}
+use Rattle.rules.specs.PairRules.{giving}
 use Rattle.rules.proofs.last.Statement.{statement}
 use Rattle.rules.proofs.last.Tie as tie
 use Rattle.rules.proofs.last.Reads as reads

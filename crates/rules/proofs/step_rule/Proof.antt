@@ -1,7 +1,7 @@
 -- `rules::step_rule` meets its contract: a turn adds the triples from one kind, those from the kinds after it are left, and a path of one step is never over 48 symbols.
 -- Assumes nothing.
 use Rattle.theory.specs.Inference.{distinct}
-use Rattle.rules.specs.Marks.{of-marks, marks-of}
+use Rattle.rules.specs.StepTriples.{of-marks, marks-of}
 use Rattle.rules.proofs.Ranging.{Ranging, ranging-turn}
 use Rattle.rules.proofs.Steps.{step-start, step-asks, step-many, step-over}
 use borrow.Author.Needs.{needs}

@@ -1,6 +1,6 @@
 -- `shortening::shorten` meets its contract: the question's refusal, or the file of its shortened codes, is what `shorten-call` says once the file is read.
 -- Assumes nothing.
-use Rattle.question.proofs.Told.{refused-question, told-question}
+use Rattle.question.proofs.ReaderOutcome.{refused-question, told-question}
 use Rattle.shortening.proofs.Call.{asked, shortened, question-refused}
 use borrow.Author.Needs.{needs}
 use Rattle.shortening.proofs.shorten.Statement.{statement}

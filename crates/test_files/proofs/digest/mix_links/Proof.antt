@@ -1,5 +1,5 @@
 use borrow.Author.Needs.{needs}
-use Rattle.register.specs.Ahead.{OnLinks}
+use Rattle.register.specs.LinksAhead.{OnLinks}
 use Rattle.register.proofs.Walk.{on-start, fewer, still-on}
 use Rattle.test_files.proofs.digest.mix_links.Statement.{statement}
 use Rattle.test_files.proofs.digest.mix_links.Tie as tie

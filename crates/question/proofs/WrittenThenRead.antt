@@ -21,7 +21,7 @@ use Rattle.fields.specs.declared.File.the-variants as file
 use Rattle.fields.specs.Answer.{Answer, got}
 use Rattle.fields.specs.Table.{among, rows}
 use Rattle.fields.specs.Reading.{fitting, read}
-use Rattle.fields.proofs.Going.{Going, going-start, going-ends, going-more}
+use Rattle.fields.proofs.ReaderLoop.{Going, going-start, going-ends, going-more}
 use Rattle.fields.proofs.Lies.{field-lies, ends-lie}
 use Rattle.symbols.specs.declared.Stack.{Stack}
 use Rattle.symbols.specs.Symbols.{Numbered, numbered, arity, due-symbols, number-symbol, Runs}

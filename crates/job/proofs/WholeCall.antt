@@ -19,17 +19,17 @@ use Rattle.fields.specs.Reading.{read}
 use Rattle.fields.specs.Said.{number-of, place-of}
 use Rattle.sheet.specs.Form.{sheet-form}
 use Rattle.sheet.proofs.Ranges.{accepted-sheet}
-use Rattle.sheet.proofs.Told as sheet
+use Rattle.sheet.proofs.ReaderOutcome as sheet
 use Rattle.question.specs.Form.{question-form}
-use Rattle.question.proofs.Told as question
+use Rattle.question.proofs.ReaderOutcome as question
 use Rattle.register.specs.Form.{register-form, register-in}
-use Rattle.register.specs.Ahead.{Accepted}
+use Rattle.register.specs.LinksAhead.{Accepted}
 use Rattle.evaluation.specs.Ground.{Ground}
 use Rattle.rows.specs.Kept.{Wrote}
 use Rattle.rows.proofs.Words.{kept-refl}
 use Rattle.rows.proofs.Areas.{zero-words}
 use Rattle.narrowing.specs.Call.{narrow-need}
-use Rattle.narrowing.proofs.Given.{handed, ready}
+use Rattle.narrowing.proofs.FromReaders.{handed, ready}
 use Rattle.answer.specs.Calls.{answer-need}
 use Rattle.job.specs.Call.{larger, job-need, filled, settled, job-call}
 use Rattle.job.specs.Said.{Jobs, Tells, Asked, Roomy, Completes, Fills, Settles}

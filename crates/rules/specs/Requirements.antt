@@ -9,7 +9,7 @@ use Rattle.theory.specs.Inference.{Triple}
 use Rattle.theory.specs.Narrowing.{short?}
 use Rattle.triples.specs.Paths.{triple-of, Sound}
 use Rattle.triples.specs.Parts.{part-of}
-use Rattle.rules.specs.Two.{of-two, Paired}
+use Rattle.rules.specs.PairRules.{of-two, Paired}
 
 -- nodes p to d lie below u
 pub record Lies (u p d : ℕ) : Type 0 where

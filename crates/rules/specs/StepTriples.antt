@@ -11,7 +11,7 @@ use Rattle.theory.specs.PathExpr.{Direction, forward, reverse, PathExpr, step}
 use Rattle.theory.specs.Inference.{Triple, triple, between}
 use Rattle.theory.specs.Sheet.{Sheet, permits?}
 use Rattle.sheet.specs.Table.{tabled?}
-use Rattle.rules.specs.Asks.{Room}
+use Rattle.rules.specs.Requirements.{Room}
 
 -- direction and link of a step's code
 abbrev pub direction-of : ℕ → Direction

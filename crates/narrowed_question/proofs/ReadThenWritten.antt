@@ -29,7 +29,7 @@ use Rattle.narrowed_question.specs.Formed.{Formed, InOrder, WellFormed}
 use Rattle.fields.proofs.Bytes.{bytes-take, bytes-drop, eight-set}
 use Rattle.fields.proofs.Lies.{field-split}
 use Rattle.symbols.proofs.Bytes.{symbol-split}
-use Rattle.narrowed_question.proofs.Ahead.{member-of, one-more, Inside, Back, Ahead, head-case, open-known, member-case}
+use Rattle.narrowed_question.proofs.MembersAhead.{member-of, one-more, Inside, Back, Ahead, head-case, open-known, member-case}
 
 module _ (s : List ℕ) (h : Bytes s) where
   body-bytes : (n a : ℕ) → Bytes (take n (drop a s))

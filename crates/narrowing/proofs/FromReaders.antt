@@ -11,11 +11,11 @@ use Rattle.theory.specs.Sheet.{Sheet, sheet?}
 use Rattle.theory.proofs.Sheet.{kinds-fit}
 use Rattle.fields.proofs.Padded.{pad-length}
 use Rattle.sheet.proofs.Ranges.{accepted-sheet}
-use Rattle.sheet.proofs.Told as sheet
+use Rattle.sheet.proofs.ReaderOutcome as sheet
 use Rattle.question.specs.Form.{question-symbols}
 use Rattle.question.proofs.Paths.{accepted-question}
-use Rattle.question.proofs.Told as question
-use Rattle.rules.specs.Marks.{Tabled}
+use Rattle.question.proofs.ReaderOutcome as question
+use Rattle.rules.specs.StepTriples.{Tabled}
 use Rattle.rules.proofs.SheetSteps.{tabled-sheet}
 use Rattle.inference.proofs.Accepted.{taken-codes, asks}
 use Rattle.narrowing.specs.Said.{Handed, Ready}

@@ -13,7 +13,7 @@ use Rattle.register.specs.declared.Outcome as declared·Outcome
 use Rattle.register.specs.declared.Outcome.the-variants as outcome
 use Rattle.register.specs.Form.{register-form, register-in}
 use Rattle.register.specs.Said.{outcome-said, sized}
-use Rattle.register.specs.Ahead.{Accepted}
+use Rattle.register.specs.LinksAhead.{Accepted}
 use Rattle.register.proofs.AcceptedRegister.{accepted-sizes}
 
 module _ (s : List ℕ) (o : declared·Outcome.Outcome) (h : outcome-said o ≡ sized (read register-form s)) where

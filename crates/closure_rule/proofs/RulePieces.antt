@@ -19,12 +19,12 @@ use Rattle.triples.specs.Paths.{original}
 use Rattle.triples.specs.Parts.{part-of}
 use Rattle.rules.specs.declared.Part.the-variants.{Made, Many, Long}
 use Rattle.rules.specs.Outcome.{Ruled, Done}
-use Rattle.rules.specs.Asks.{part}
-use Rattle.rules.proofs.Ruling.{ruled-long, ruled-many, ruled-made}
+use Rattle.rules.specs.Requirements.{part}
+use Rattle.rules.proofs.RuleOutcome.{ruled-long, ruled-many, ruled-made}
 use Rattle.kind_graph.specs.Kinds.{Linked}
 use Rattle.kind_graph.specs.Sizes.{Part}
 use Rattle.closure_rule.specs.Kept.{kept-all}
-use Rattle.closure_rule.specs.Asks.{Closing, CopyAcyclic, GrowWalks, AddKept}
+use Rattle.closure_rule.specs.Requirements.{Closing, CopyAcyclic, GrowWalks, AddKept}
 use Rattle.closure_rule.proofs.Keeping.{copied-size, kept-all-is}
 
 module _ {qs ws₀ : List ℕ} {s p d o n : ℕ} (h : Closing qs ws₀ s p d o n) where

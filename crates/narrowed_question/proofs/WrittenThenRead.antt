@@ -15,7 +15,7 @@ use Rattle.fields.specs.Table.{among, rows}
 use Rattle.fields.specs.Reading.{eight, fitting, read}
 use Rattle.symbols.specs.Symbols.{Numbered, arity, push, due-symbols}
 use Rattle.symbols.proofs.Symbols.{push-got, push-anywhere}
-use Rattle.fields.proofs.Going.{Going, going-start, going-ends, going-more}
+use Rattle.fields.proofs.ReaderLoop.{Going, going-start, going-ends, going-more}
 use Rattle.narrowed_question.specs.Form.{Flat, Open, open-as, State, head, between, within, order-codes, due, grown, judge, narrowed-form}
 use Rattle.fields.specs.Writing.{two-bytes, eight-bytes}
 use Rattle.symbols.specs.Writing.{symbol-tag, symbol-body, symbol-bytes, symbols-bytes}
@@ -25,7 +25,7 @@ use Rattle.narrowed_question.specs.Formed.{Formed, InOrder, WellFormed}
 use Rattle.fields.proofs.Bytes.{word-back, eight-back}
 use Rattle.fields.proofs.Lies.{field-lies, ends-lie}
 use Rattle.symbols.proofs.Bytes.{symbol-fits, symbol-short, symbol-reads}
-use Rattle.narrowed_question.proofs.Ahead.{member-of, one-more}
+use Rattle.narrowed_question.proofs.MembersAhead.{member-of, one-more}
 
 pub head-fits : fitting (due head) 0x41 2 ≡ true
 unfolding fitting among rows

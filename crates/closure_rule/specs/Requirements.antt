@@ -10,7 +10,7 @@ use Rattle.theory.specs.Inference.{Triple, walks}
 use Rattle.theory.specs.Narrowing.{short?}
 use Rattle.triples.specs.Paths.{Copied}
 use Rattle.triples.specs.Parts.{part-of}
-use Rattle.rules.specs.Asks.{Lies, Room, part}
+use Rattle.rules.specs.Requirements.{Lies, Room, part}
 use Rattle.kind_graph.specs.Kinds.{Linked}
 
 -- a part of at most 128 triples, each once, whose original part is n symbols of the question from o on

@@ -15,7 +15,7 @@ use Rattle.fields.specs.Reading.{read}
 use Rattle.fields.specs.Said.{number-of, place-of}
 use Rattle.question.specs.Form.{question-form, question-symbols}
 use Rattle.register.specs.Form.{register-form, register-in}
-use Rattle.register.specs.Ahead.{Accepted}
+use Rattle.register.specs.LinksAhead.{Accepted}
 use Rattle.narrowed_question.specs.Form.{Flat, narrowed-form}
 use Rattle.answer.specs.Calls.{answered, asked, members-of, plain-call, narrowed-call}
 use Rattle.answer.specs.Said.{Answers}

@@ -14,7 +14,7 @@ use Rattle.symbols.specs.Symbols.{Numbered, numbered, symbol-given, symbols-giv
 use Rattle.narrowed_question.specs.declared.Members.{Members}
 use Rattle.narrowed_question.specs.Form.{Flat, flat, numbers, set-numbers}
 use Rattle.narrowed_question.specs.Formed.{InOrder, WellFormed}
-use Rattle.narrowed_question.specs.Given.{members-given, given}
+use Rattle.narrowed_question.specs.ArrayMembers.{members-given, given}
 use Rattle.narrowed_question.specs.Said.{Packed, sizes-of, from-of, to-of, numbers-of, sets-of}
 
 -- the next element of an array

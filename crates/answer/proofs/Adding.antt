@@ -25,7 +25,8 @@ use Rattle.rows.proofs.Words.{kept-refl, kept-trans, kept-in}
 use Rattle.relation.specs.Pairs.{pair-at}
 use Rattle.evaluation.specs.Ground.{symbols-in, MakePath}
 use Rattle.answer.specs.Calls.{with-path, members-of}
-use Rattle.answer.specs.Said.{Adds, Readable}
+use Rattle.answer.specs.Contract.{Readable}
+use Rattle.answer.specs.Internal.{Adds}
 
 -- member i, whose symbols begin with the k-th
 abbrev member-at : Members → ℕ → ℕ → Flat

@@ -22,7 +22,7 @@ use Rattle.fields.specs.declared.Outcome.the-variants as outcome
 use Rattle.fields.specs.declared.Refusal.the-variants.{AreaShort, WorkShort}
 use Rattle.fields.specs.declared.Source.the-variants as source
 use Rattle.fields.specs.Call.{accepts, refuses, zeroed}
-use Rattle.fields.specs.Said.{outcome-said}
+use Rattle.fields.specs.Contract.{outcome-said}
 use Rattle.register.specs.Form.{register-in}
 use Rattle.rows.specs.Kept.{Kept, Wrote}
 use Rattle.rows.specs.Row.{row-bit, Row}
@@ -32,7 +32,8 @@ use Rattle.evaluation.specs.Stack.{Stored, Evaluated}
 use Rattle.evaluation.proofs.Grounds.{limits}
 use Rattle.evaluation.proofs.Tables.{evaluate-past}
 use Rattle.answer.specs.Calls.{result, answer-need, work-need, answered, asked}
-use Rattle.answer.specs.Said.{Answers, Fills, Adds}
+use Rattle.answer.specs.Contract.{Answers, Fills}
+use Rattle.answer.specs.Internal.{Adds}
 use Rattle.rows.proofs.Areas.{zero-words}
 use Rattle.answer.proofs.Areas.{stored-words, stored-copied, stored-added}
 

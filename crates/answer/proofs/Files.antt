@@ -11,7 +11,7 @@ use Rattle.fields.specs.declared.Refusal.{Refusal}
 use Rattle.fields.specs.Answer.{got, refused}
 use Rattle.fields.specs.Padded.{padded}
 use Rattle.fields.specs.Reading.{read}
-use Rattle.fields.specs.Said.{number-of, place-of}
+use Rattle.fields.specs.Contract.{number-of, place-of}
 use Rattle.symbols.specs.Symbols.{symbol-numbered}
 use Rattle.fields.proofs.Bools.{onward-got, told-refused}
 use Rattle.fields.proofs.Padded.{pad-length}
@@ -30,12 +30,12 @@ use Rattle.narrowed_question.specs.declared.Members.{Members}
 use Rattle.narrowed_question.specs.Form.{Flat, narrowed-form}
 use Rattle.narrowed_question.specs.Formed.{WellFormed}
 use Rattle.narrowed_question.specs.ArrayMembers.{given}
-use Rattle.narrowed_question.specs.Said.{Packed, ReadsInto, members-in, outcome-said as narrowed-said}
+use Rattle.narrowed_question.specs.Contract.{Packed, ReadsInto, members-in, outcome-said as narrowed-said}
 use Rattle.narrowed_question.proofs.MembersInArrays.{heads, packed-given}
 use Rattle.narrowed_question.proofs.ReadThenWritten.{accepted-formed}
 use Rattle.evaluation.specs.Ground.{symbols-in, MakePath}
 use Rattle.evaluation.proofs.Numbers.{set-ignored}
-use Rattle.answer.specs.Said.{Readable, lent}
+use Rattle.answer.specs.Contract.{Readable, lent}
 
 -- ---- a question
 -- codes in an array, with sets that are 0

@@ -12,13 +12,13 @@ use Rattle.fields.specs.declared.Outcome.the-variants as outcome
 use Rattle.fields.specs.declared.Source.the-variants as source
 use Rattle.fields.specs.Answer.{got, refused}
 use Rattle.fields.specs.Reading.{read}
-use Rattle.fields.specs.Said.{number-of, place-of}
+use Rattle.fields.specs.Contract.{number-of, place-of}
 use Rattle.question.specs.Form.{question-form, question-symbols}
 use Rattle.register.specs.Form.{register-form, register-in}
 use Rattle.register.specs.LinksAhead.{Accepted}
 use Rattle.narrowed_question.specs.Form.{Flat, narrowed-form}
 use Rattle.answer.specs.Calls.{answered, asked, members-of, plain-call, narrowed-call}
-use Rattle.answer.specs.Said.{Answers}
+use Rattle.answer.specs.Contract.{Answers}
 
 module _ (q s work answer : List ℕ) where
   pub plain-refused : (x : Refusal) → read question-form q ≡ refused (number-of x) (place-of x) → Answers (plain-call q s work answer) (outcome.Refused source.Question x) work answer

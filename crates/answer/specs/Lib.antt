@@ -1,2 +1,3 @@
 pub mod Calls
-pub mod Said
+pub mod Contract
+pub mod Internal

@@ -22,7 +22,8 @@ ghost use Rattle.kind_rows.specs.Kinds.{KindRows};
 ghost use Rattle.chains.specs.Chain.{Held};
 ghost use Rattle.chains.specs.Route.{Routed, Leads};
 ghost use Rattle.answer.specs.Calls.{answered, asked, members-of, plain-call, narrowed-call};
-ghost use Rattle.answer.specs.Said.{Answers, Fills, Adds, Readable, Long, lent};
+ghost use Rattle.answer.specs.Contract.{Answers, Fills, Readable, Long, lent};
+ghost use Rattle.answer.specs.Internal.{Adds};
 
 // The relations of the work words: those of a stack, and the steps that are held past them.
 pub const RELATIONS: usize = chains::STACKED + chains::HELD;

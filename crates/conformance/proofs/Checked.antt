@@ -10,27 +10,27 @@ use Rattle.theory.specs.Sheet.{Sheet, sheet?, permits?, link-permitted?, breach
 use Rattle.fields.specs.declared.Refusal.{Refusal}
 use Rattle.fields.specs.declared.Source.the-variants as source
 use Rattle.fields.specs.Call.{accepts, refuses}
-use Rattle.fields.specs.Said.{number-of, place-of}
+use Rattle.fields.specs.Contract.{number-of, place-of}
 use Rattle.fields.specs.Reading.{read}
 use Rattle.sheet.specs.declared.Outcome as sheet·Outcome
 use Rattle.sheet.specs.declared.Outcome.the-variants as sheet·outcome
 use Rattle.sheet.specs.Form.{sheet-form}
 use Rattle.sheet.specs.Table.{tabled?, table-of}
-use Rattle.sheet.specs.Said.{Reads}
+use Rattle.sheet.specs.Contract.{Reads}
 use Rattle.sheet.proofs.Ranges.{accepted-sheet}
 use Rattle.sheet.proofs.Tables.{table-permits}
 use Rattle.sheet.proofs.ReaderOutcome.{refused-sheet, told-sheet}
 use Rattle.register.specs.declared.Outcome as register·Outcome
 use Rattle.register.specs.declared.Outcome.the-variants as register·outcome
 use Rattle.register.specs.Form.{register-form, register-in}
-use Rattle.register.specs.Said.{outcome-said as register-said, sized as register-sizes}
+use Rattle.register.specs.Contract.{outcome-said as register-said, sized as register-sizes}
 use Rattle.register.specs.LinksAhead.{Accepted}
 use Rattle.register.proofs.AcceptedRegister.{accepted-register, Limits}
 use Rattle.register.proofs.ReaderOutcome.{refused-file, accepted-file}
 use Rattle.conformance.specs.declared.Failing.{Failing}
 use Rattle.conformance.specs.declared.Failing.the-variants.{At, Nowhere}
 use Rattle.conformance.specs.Check.{obeying, check-of}
-use Rattle.conformance.specs.Said.{failing-said, link-tabled?, first-unknown, first-forbidden, first-breach}
+use Rattle.conformance.specs.Contract.{failing-said, link-tabled?, first-unknown, first-forbidden, first-breach}
 use Rattle.conformance.proofs.Search.{same-failing}
 
 -- the search over the kinds, then over the links

@@ -10,7 +10,7 @@ use lib.ListN.{drop, drop-of-length-le}
 use lib.Seq.{drop-cons}
 use Rattle.theory.specs.Lists.{first-failing}
 use Rattle.theory.specs.Register.{Register, records, kind}
-use Rattle.conformance.specs.Said.{below?, first-unknown}
+use Rattle.conformance.specs.Contract.{below?, first-unknown}
 use Rattle.conformance.proofs.Search.{fails-here, fails-later}
 
 module _ (K : ℕ) (r : Register) where

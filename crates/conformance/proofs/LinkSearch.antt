@@ -22,7 +22,7 @@ use Rattle.register.specs.LinksAhead.{Accepted, cursor-at, OnLinks, to-come, ha
 use Rattle.register.proofs.AcceptedRegister.{accepted-register, Limits}
 use Rattle.register.proofs.Walk.{all-to-come, on-start, none-left, stepped, still-on}
 use Rattle.sheet.specs.Table.{tabled?}
-use Rattle.conformance.specs.Said.{link-tabled?, first-forbidden}
+use Rattle.conformance.specs.Contract.{link-tabled?, first-forbidden}
 use Rattle.conformance.proofs.Search.{fails-here, fails-later}
 
 -- what is known of each link of an accepted file

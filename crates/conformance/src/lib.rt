@@ -8,12 +8,12 @@ use register::NextLink;
 ghost use mathlib.Core.Path.{_≡_};
 ghost use Prim.Native.Nat.{_<_};
 ghost use Rattle.theory.specs.Register.{records};
-ghost use Rattle.fields.specs.Said.{outcome-said};
+ghost use Rattle.fields.specs.Contract.{outcome-said};
 ghost use Rattle.register.specs.Form.{register-in};
 ghost use Rattle.register.specs.LinksAhead.{Accepted};
 ghost use Rattle.conformance.specs.Check.{check-of};
 ghost use Rattle.sheet.specs.Table.{tabled?};
-ghost use Rattle.conformance.specs.Said.{failing-said, first-unknown, first-forbidden, first-breach};
+ghost use Rattle.conformance.specs.Contract.{failing-said, first-unknown, first-forbidden, first-breach};
 
 // Where a test fails first, if anywhere.
 pub enum Failing {

@@ -5,7 +5,7 @@ use fields::Seen;
 ghost use mathlib.Core.Path.{_≡_};
 ghost use Rattle.fields.specs.Reading.{field-at};
 ghost use Rattle.fields.specs.Raw.{body-in};
-ghost use Rattle.fields.specs.Said.{field-said};
+ghost use Rattle.fields.specs.Contract.{field-said};
 
 // The file, and the place of its next field.
 pub struct Reader<'a> {

@@ -13,7 +13,7 @@ use Rattle.fields.specs.declared.Due.{Due}
 use Rattle.fields.specs.declared.Seen.{Seen}
 use Rattle.fields.specs.Table.{among, rows, tag-length}
 use Rattle.fields.specs.Reading.{ends, wrong, body, field-at, fitting, word}
-use Rattle.fields.specs.Said.{field-said}
+use Rattle.fields.specs.Contract.{field-said}
 use Rattle.fields.proofs.Rows.{own-length}
 use Rattle.fields.proofs.Bools.{cond-else, cond-then, and-left, and-right}
 

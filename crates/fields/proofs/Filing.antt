@@ -14,7 +14,7 @@ use Rattle.fields.specs.declared.Source.{Source}
 use Rattle.fields.specs.declared.Source.the-variants as source
 use Rattle.fields.specs.declared.Written.the-variants as written
 use Rattle.fields.specs.Call.{Outcome, refuses, accepts, Size, size, output, file-in}
-use Rattle.fields.specs.Said.{Files}
+use Rattle.fields.specs.Contract.{Files}
 
 -- ---- 14 was told, or the file was put; n bytes are needed
 module _ (count : ℕ) (bytes area : List ℕ) {n : ℕ} (e : n ≡ length bytes) where

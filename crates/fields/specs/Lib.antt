@@ -4,6 +4,6 @@ pub mod Reading
 pub mod Writing
 pub mod Raw
 pub mod Call
-pub mod Said
+pub mod Contract
 pub mod Padded
 pub mod Case

@@ -5,7 +5,7 @@ ghost use lib.ListN.{length};
 ghost use Rattle.fields.specs.Table.{allowed, matching, among, rows, row-of};
 ghost use Rattle.fields.specs.Reading.{fitting, field-at, word, eight};
 ghost use Rattle.fields.specs.Raw.{raw-at, body-in, judged};
-ghost use Rattle.fields.specs.Said.{number-of, place-of, source-number, field-said};
+ghost use Rattle.fields.specs.Contract.{number-of, place-of, source-number, field-said};
 
 // Why a file or a call is refused: the paper's numbers 1 to 6 and 11 to 16, each with its place.
 pub enum Refusal {

@@ -17,7 +17,7 @@ use Rattle.theory.proofs.Postfix.{single, push-symbols}
 use Rattle.fields.specs.declared.Refusal.{Refusal}
 use Rattle.fields.specs.declared.Refusal.the-variants.{TooMany, TooLong}
 use Rattle.symbols.specs.Symbols.{symbol-numbered, arity}
-use Rattle.fields.specs.Said.{number-of, place-of}
+use Rattle.fields.specs.Contract.{number-of, place-of}
 use Rattle.question.specs.Form.{question-symbols}
 use Rattle.rows.specs.Kept.{Kept}
 use Rattle.rows.proofs.Words.{kept-refl, kept-trans}

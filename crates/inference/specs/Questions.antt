@@ -12,7 +12,7 @@ use Rattle.theory.specs.Postfix.{path-of, ended}
 use Rattle.theory.specs.Sheet.{Sheet}
 use Rattle.theory.specs.Inference.{triples}
 use Rattle.theory.specs.Narrowing.{Outcome, refused, refuse, part-fault, short?}
-use Rattle.fields.specs.Said.{number-of, place-of}
+use Rattle.fields.specs.Contract.{number-of, place-of}
 use Rattle.question.specs.Form.{question-symbols}
 use Rattle.rows.specs.Kept.{Kept}
 use Rattle.triples.specs.Paths.{Sound}

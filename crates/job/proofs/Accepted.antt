@@ -39,7 +39,7 @@ use Rattle.narrowing.proofs.Accepted as narrow·Accepted
 use Rattle.answer.specs.Calls.{answer-need, work-need, plain-call}
 use Rattle.answer.proofs.Meaning.{same, answered-enough}
 use Rattle.job.specs.Call.{result, job-need, with-answer, completed, with-breach, filled, settled, job-call}
-use Rattle.job.specs.Said.{Jobs, Plain}
+use Rattle.job.specs.Contract.{Jobs, Plain}
 use Rattle.job.proofs.Needs.{larger-both}
 
 pub record Accepted (s q g work answer answer′ file file′ : List ℕ) (z : Size) : Type 0 where

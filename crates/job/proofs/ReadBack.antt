@@ -16,13 +16,13 @@ use Rattle.narrowed_question.specs.declared.Outcome.the-variants as narrowed·o
 use Rattle.narrowed_question.specs.Form.{Flat, narrowed-form}
 use Rattle.narrowed_question.specs.Formed.{WellFormed}
 use Rattle.narrowed_question.specs.ArrayMembers.{given}
-use Rattle.narrowed_question.specs.Said.{ReadsInto}
+use Rattle.narrowed_question.specs.Contract.{ReadsInto}
 use Rattle.fields.proofs.Bools.{not-got}
 use Rattle.answer.specs.Calls.{members-of}
-use Rattle.answer.specs.Said.{Readable, lent}
-use Rattle.answer.specs.Said as answer·Said
+use Rattle.answer.specs.Contract.{Readable, lent}
+use Rattle.answer.specs.Contract as answer·contract
 use Rattle.answer.proofs.Files.{file-refused, file-given}
-use Rattle.job.specs.Said.{HasMembers, Answers-file}
+use Rattle.job.specs.Internal.{HasMembers, Answers-file}
 
 module _ {bytes : ℕ} {area file : List ℕ} (h : HasMembers bytes area) (e : file ≡ take bytes area) {o : narrowed·Outcome.Outcome} {sizes from to numbers sets : List ℕ}
     (g : ReadsInto (read narrowed-form file) o sizes from to numbers sets) where
@@ -40,7 +40,7 @@ module _ {bytes : ℕ} {area file : List ℕ} (h : HasMembers bytes area) (e : f
     pub readable : Readable q
     readable = subst WellFormed (sym (same (h .members) (h .reads) (h .formed))) (h .formed)
 
-    pub answered : {r : Register} {n w : ℕ} {work work′ answer answer′ : List ℕ} → answer·Said.Fills n w (narrowed-answer r (members-of (given q))) outcome.Accepted work work′ answer answer′
+    pub answered : {r : Register} {n w : ℕ} {work work′ answer answer′ : List ℕ} → answer·contract.Fills n w (narrowed-answer r (members-of (given q))) outcome.Accepted work work′ answer answer′
         → Answers-file (take bytes area) r n w work work′ answer answer′
     answered {r} {n} {w} {work} {work′} {answer} {answer′} b =
-        record { fills = λ ms k f. subst (λ (l : List Flat). answer·Said.Fills n w (narrowed-answer r (members-of l)) outcome.Accepted work work′ answer answer′) (same ms k f) b }
+        record { fills = λ ms k f. subst (λ (l : List Flat). answer·contract.Fills n w (narrowed-answer r (members-of l)) outcome.Accepted work work′ answer answer′) (same ms k f) b }

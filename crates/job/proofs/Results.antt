@@ -30,12 +30,12 @@ use Rattle.fields.specs.declared.Written.the-variants as written
 use Rattle.fields.specs.Answer.{got}
 use Rattle.fields.specs.Call.{size}
 use Rattle.fields.specs.Reading.{read}
-use Rattle.fields.specs.Said.{Files}
+use Rattle.fields.specs.Contract.{Files}
 use Rattle.question.specs.Form.{question-symbols}
 use Rattle.register.specs.Form.{register-in}
 use Rattle.conformance.specs.declared.Failing.{Failing}
 use Rattle.conformance.specs.declared.Failing.the-variants.{At, Nowhere}
-use Rattle.conformance.specs.Said.{failing-said, first-breach}
+use Rattle.conformance.specs.Contract.{failing-said, first-breach}
 use Rattle.conformance.proofs.Checked.{breach-is}
 use Rattle.narrowed_question.specs.Form.{narrowed-form}
 use Rattle.narrowed_question.specs.Members.{flat-of}
@@ -45,15 +45,16 @@ use Rattle.evaluation.proofs.Grounds.{limits}
 use Rattle.rows.proofs.Words.{kept-refl, kept-trans, kept-in}
 use Rattle.narrowing.specs.Call.{narrow-need}
 use Rattle.narrowing.specs.Call as narrow·Call
-use Rattle.narrowing.specs.Said.{FirstUnnamed, Infers-file}
+use Rattle.narrowing.specs.Contract.{FirstUnnamed, Infers-file}
 use Rattle.narrowing.proofs.WholeCalls.{rest, symbols-unnamed, symbols-named}
 use Rattle.fields.proofs.Filing.{file-written, within, not-accepted}
 use Rattle.narrowing.proofs.Accepted.{Filed, filed}
 use Rattle.answer.specs.Calls.{members-of}
-use Rattle.answer.specs.Said as answer·Said
+use Rattle.answer.specs.Contract as answer·contract
 use Rattle.answer.proofs.TwoAnswers.{members-back}
 use Rattle.job.specs.Call.{larger, with-breach, completed}
-use Rattle.job.specs.Said.{Gives, HasMembers, Answers-file, Tells, Asked, due, Completes}
+use Rattle.job.specs.Contract.{due}
+use Rattle.job.specs.Internal.{Gives, HasMembers, Answers-file, Tells, Asked, Completes}
 use Rattle.job.proofs.Needs.{larger-both}
 
 -- ---- 16

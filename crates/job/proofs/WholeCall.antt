@@ -16,7 +16,7 @@ use Rattle.fields.specs.declared.Written.{Written}
 use Rattle.fields.specs.declared.Written.the-variants as written
 use Rattle.fields.specs.Answer.{got, refused}
 use Rattle.fields.specs.Reading.{read}
-use Rattle.fields.specs.Said.{number-of, place-of}
+use Rattle.fields.specs.Contract.{number-of, place-of}
 use Rattle.sheet.specs.Form.{sheet-form}
 use Rattle.sheet.proofs.Ranges.{accepted-sheet}
 use Rattle.sheet.proofs.ReaderOutcome as sheet
@@ -32,7 +32,8 @@ use Rattle.narrowing.specs.Call.{narrow-need}
 use Rattle.narrowing.proofs.FromReaders.{handed, ready}
 use Rattle.answer.specs.Calls.{answer-need}
 use Rattle.job.specs.Call.{larger, job-need, filled, settled, job-call}
-use Rattle.job.specs.Said.{Jobs, Tells, Asked, Roomy, Completes, Fills, Settles}
+use Rattle.job.specs.Contract.{Jobs}
+use Rattle.job.specs.Internal.{Tells, Asked, Roomy, Completes, Fills, Settles}
 use Rattle.job.proofs.Needs.{larger-both}
 
 -- the need is enough for both halves

@@ -1,2 +1,3 @@
 pub mod Call
-pub mod Said
+pub mod Contract
+pub mod Internal

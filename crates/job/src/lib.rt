@@ -13,7 +13,8 @@ ghost use Rattle.evaluation.specs.Ground.{Ground};
 ghost use Rattle.narrowing.specs.Call.{narrow-need};
 ghost use Rattle.answer.specs.Calls.{plain-call};
 ghost use Rattle.job.specs.Call.{larger, job-call};
-ghost use Rattle.job.specs.Said.{Jobs, Plain, HasMembers, Answers-file, Asked, Roomy, Completes, Fills, Settles};
+ghost use Rattle.job.specs.Contract.{Jobs, Plain};
+ghost use Rattle.job.specs.Internal.{HasMembers, Answers-file, Asked, Roomy, Completes, Fills, Settles};
 
 // The work words of the job on n records in rows of w words.
 fn work_need(n: usize, w: usize) -> usize

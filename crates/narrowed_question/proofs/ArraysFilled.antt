@@ -11,7 +11,7 @@ use Rattle.symbols.specs.Symbols.{Numbered, numbered, order-code}
 use Rattle.fields.specs.Padded.{padded}
 use Rattle.fields.proofs.Padded.{pad-set, pad-length}
 use Rattle.narrowed_question.specs.Form.{Flat, flat, order-codes, numbers as nums, set-numbers as masks}
-use Rattle.narrowed_question.specs.Said.{sizes-of, from-of, to-of, numbers-of, sets-of, Packed, segment-codes}
+use Rattle.narrowed_question.specs.Contract.{sizes-of, from-of, to-of, numbers-of, sets-of, Packed, segment-codes}
 
 -- an array filled from the front, behind a part that stands already
 pad-next : (n : ℕ) (xs ys : List ℕ) (k v : ℕ) (a : List ℕ) → a ≡ padded n (xs ++ ys) → k ≡ length xs + length ys → length xs + length ys < n

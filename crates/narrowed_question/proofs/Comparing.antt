@@ -12,7 +12,7 @@ use lib.Seq.{drop-cons}
 use borrow.Author.Tests.{lt-ltb, le-ltb, eq-eqb, ne-eqb, ltb-true, ltb-false}
 use Rattle.theory.specs.PathExpr.{before?}
 use Rattle.symbols.specs.Symbols.{order-code}
-use Rattle.narrowed_question.specs.Said.{segment-codes}
+use Rattle.narrowed_question.specs.Contract.{segment-codes}
 
 module _ (l : List ℕ) where
   segment-next : (i b : ℕ) → i < b → b ≤ length l → segment-codes l i b ≡ order-code (getD l i 0) ∷ segment-codes l (i + 1) b

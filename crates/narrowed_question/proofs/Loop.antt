@@ -10,18 +10,19 @@ use native.Mathlib.Omega.{arith}
 use Rattle.theory.specs.PathExpr.{before?}
 use Rattle.fields.specs.Answer.{Answer, got, refused}
 use Rattle.fields.specs.declared.Refusal.{Refusal}
-use Rattle.fields.specs.Said.{refusal-said, number-of, place-of}
+use Rattle.fields.specs.Contract.{refusal-said, number-of, place-of}
 use Rattle.fields.specs.Reading.{Field, ends, wrong, body, field-at, word, read}
 use Rattle.symbols.specs.Symbols.{Numbered, numbered}
 use Rattle.narrowed_question.specs.Form.{Flat, narrowed-form, order-codes}
 use Rattle.narrowed_question.specs.declared.Standing.{Standing}
 use Rattle.narrowed_question.specs.declared.Standing.the-variants.{Head, Between, Within}
-use Rattle.narrowed_question.specs.Said.{go, more, last, arrays, marked, due-of, judged, turned, turned-by, Able, Move, counted, members-in, Packed, Reads, Blank, ReadsInto, outcome-said, segment-codes}
+use Rattle.narrowed_question.specs.Contract.{arrays, counted, members-in, Packed, Reads, Blank, ReadsInto, outcome-said, segment-codes}
+use Rattle.narrowed_question.specs.Internal.{go, more, last, marked, due-of, judged, turned, turned-by, Able, Move}
 use Rattle.narrowed_question.specs.declared.Outcome.{Outcome}
 use Rattle.narrowed_question.specs.declared.Outcome.the-variants as outcome
 use Rattle.narrowed_question.specs.declared.Members.{Members}
 use Rattle.narrowed_question.specs.declared.Marks.{Marks}
-use Rattle.narrowed_question.specs.Said as said
+use Rattle.narrowed_question.specs.Internal as internal
 use Rattle.symbols.specs.declared.Stack.{Stack}
 use Rattle.fields.proofs.Bools.{not-got, told-refused}
 use Rattle.fields.proofs.Fields.{found}
@@ -94,7 +95,7 @@ module _ {s : List ℕ} {st : Standing} {at done prev first used : ℕ} {sizes f
           filled = refill (o (total st (r .xs)) (total st′ (r .xs))) (o (r .f) (r .f)) (o (r .t) (r .t)) (r .filled);
         }
 
-    reading-open : (n f t : ℕ) (st′ : Standing) → judged st at (at + 3 + m) u (take m (drop (at + 3) s)) ≡ got (said.open-as n f t st′)
+    reading-open : (n f t : ℕ) (st′ : Standing) → judged st at (at + 3 + m) u (take m (drop (at + 3) s)) ≡ got (internal.open-as n f t st′)
         → (done < 128) × Reading s st′ (at + 3 + m) done prev first used (set sizes done n) (set from done f) (set to done t) numbers sets
     reading-open n f t st′ h =
         let g = tracks-open s at (r .P) (r .ms) (r .f) (r .t) (r .xs) u m st (r .tracks) e n f t st′ h in
@@ -179,12 +180,12 @@ module _ {s : List ℕ} {st : Standing} {at done prev first used : ℕ} {sizes f
 
 -- ---- a turn: the field at a place, judged
 -- 41, 42 and symbols are not the file's end
-not-end : (st : Standing) (at next u : ℕ) (b : List ℕ) → judged st at next u b ≡ got said.ends → ⊥
-not-end Head at next u b e = let (w, _) = count-go at b said.ends e in let z : _≡_ {A = ℕ} 0 1 = cc in absurd (omega arith)
-not-end (Between l) at next u b e = let (w, _) = open-go l at b said.ends e in let z : _≡_ {A = ℕ} 0 1 = cc in absurd (omega arith)
-not-end (Within l p q) at next u b e = let m = moves l p q at next u b said.ends e in by-left (eqb (m .q′ .left) 0) (m .x) (m .q′) (m .move-is)
+not-end : (st : Standing) (at next u : ℕ) (b : List ℕ) → judged st at next u b ≡ got internal.ends → ⊥
+not-end Head at next u b e = let (w, _) = count-go at b internal.ends e in let z : _≡_ {A = ℕ} 0 1 = cc in absurd (omega arith)
+not-end (Between l) at next u b e = let (w, _) = open-go l at b internal.ends e in let z : _≡_ {A = ℕ} 0 1 = cc in absurd (omega arith)
+not-end (Within l p q) at next u b e = let m = moves l p q at next u b internal.ends e in by-left (eqb (m .q′ .left) 0) (m .x) (m .q′) (m .move-is)
   where
-    by-left : (c : Bool) (x : Numbered) (q′ : Stack) → cond c (last (x .number) (x .set) l p) (more (x .number) (x .set) (Within l p q′)) ≡ said.ends → ⊥
+    by-left : (c : Bool) (x : Numbered) (q′ : Stack) → cond c (last (x .number) (x .set) l p) (more (x .number) (x .set) (Within l p q′)) ≡ internal.ends → ⊥
     by-left true x q′ e = let z : _≡_ {A = ℕ} 0 1 = cc in absurd (omega arith)
     by-left false x q′ e = let z : _≡_ {A = ℕ} 0 1 = cc in absurd (omega arith)
 
@@ -198,45 +199,45 @@ record Judged (s : List ℕ) (st : Standing) (at : ℕ) (v : Move) : Type 0 wher
   room : at + 3 + word s (at + 1) ≤ length s
 
 module _ (s : List ℕ) (st : Standing) (at : ℕ) where
-  turn-field : (v : Move) → (v ≡ said.ends → ⊥) → turned st at s ≡ got v → Judged s st at v
+  turn-field : (v : Move) → (v ≡ internal.ends → ⊥) → turned st at s ≡ got v → Judged s st at v
   unfolding turned
   turn-field v n e = by-field (field-at (due-of st) s at) refl e
     where
       by-field : (d : Field) → field-at (due-of st) s at ≡ d → turned-by st at s d ≡ got v → Judged s st at v
-      by-field ends h e = let z : said.ends ≡ v = cc in absurd (n (sym z))
+      by-field ends h e = let z : internal.ends ≡ v = cc in absurd (n (sym z))
       by-field (wrong i j) h e = absurd (not-got i j v e)
       by-field (body u m) h e =
           let g = found (due-of st) s at u m h in
           let z : at + 3 + m ≡ at + 3 + word s (at + 1) = ap (λ (i : ℕ). at + 3 + i) (sym (g .len)) in
           record { tag = u; len = m; seen = h; moved = e; next = z; room = subst (λ (i : ℕ). i ≤ length s) z (g .room) }
 
-  turn-end : turned st at s ≡ got said.ends → field-at (due-of st) s at ≡ ends
+  turn-end : turned st at s ≡ got internal.ends → field-at (due-of st) s at ≡ ends
   unfolding turned
   turn-end e = by-field (field-at (due-of st) s at) refl e
     where
-      by-field : (d : Field) → field-at (due-of st) s at ≡ d → turned-by st at s d ≡ got said.ends → field-at (due-of st) s at ≡ ends
+      by-field : (d : Field) → field-at (due-of st) s at ≡ d → turned-by st at s d ≡ got internal.ends → field-at (due-of st) s at ≡ ends
       by-field ends h e = h
-      by-field (wrong i j) h e = absurd (not-got i j said.ends e)
+      by-field (wrong i j) h e = absurd (not-got i j internal.ends e)
       by-field (body u m) h e = absurd (not-end st at (at + 3 + m) u (take m (drop (at + 3) s)) e)
 
   -- the place after a field that was judged
-  pub turn-room : (v : Move) → (v ≡ said.ends → ⊥) → turned st at s ≡ got v → at + 3 + word s (at + 1) ≤ length s
+  pub turn-room : (v : Move) → (v ≡ internal.ends → ⊥) → turned st at s ≡ got v → at + 3 + word s (at + 1) ≤ length s
   turn-room v n e = turn-field v n e .room
 
-pub go-moves : (st : Standing) → go st ≡ said.ends → ⊥
+pub go-moves : (st : Standing) → go st ≡ internal.ends → ⊥
 go-moves st e = let z : _≡_ {A = ℕ} 0 1 = cc in absurd (omega arith)
 
-pub open-moves : (n f t : ℕ) (st : Standing) → said.open-as n f t st ≡ said.ends → ⊥
+pub open-moves : (n f t : ℕ) (st : Standing) → internal.open-as n f t st ≡ internal.ends → ⊥
 open-moves n f t st e = let z : _≡_ {A = ℕ} 0 1 = cc in absurd (omega arith)
 
-pub more-moves : (c k : ℕ) (st : Standing) → more c k st ≡ said.ends → ⊥
+pub more-moves : (c k : ℕ) (st : Standing) → more c k st ≡ internal.ends → ⊥
 more-moves c k st e = let z : _≡_ {A = ℕ} 0 1 = cc in absurd (omega arith)
 
-pub last-moves : (c k l p : ℕ) → last c k l p ≡ said.ends → ⊥
+pub last-moves : (c k l p : ℕ) → last c k l p ≡ internal.ends → ⊥
 last-moves c k l p e = let z : _≡_ {A = ℕ} 0 1 = cc in absurd (omega arith)
 
 module _ {s : List ℕ} {st : Standing} {at done prev first used : ℕ} {sizes from to numbers sets : List ℕ} (r : Reading s st at done prev first used sizes from to numbers sets) where
-  pub turn-ends : turned st at s ≡ got said.ends → ReadsInto (read narrowed-form s) (outcome.Accepted done) sizes from to numbers sets
+  pub turn-ends : turned st at s ≡ got internal.ends → ReadsInto (read narrowed-form s) (outcome.Accepted done) sizes from to numbers sets
   turn-ends e =
       let a = reading-ends r (turn-end s st at e) in
       record { outcome = a .0; members = λ n h. let z : done ≡ n = cc in subst (λ (i : ℕ). Packed (members-in (read narrowed-form s)) (arrays i sizes from to numbers sets)) z (a .1) }
@@ -262,10 +263,10 @@ module _ {s : List ℕ} {st : Standing} {at done prev first used : ℕ} {sizes f
       let j = turn-field s st at (go st′) (go-moves st′) e in
       subst (Next st′ done prev first used sizes from to numbers sets) (j .next) (reading-go r (j .tag) (j .len) (j .seen) st′ (j .moved))
 
-  pub turn-open : (n f t : ℕ) (st′ : Standing) → turned st at s ≡ got (said.open-as n f t st′)
+  pub turn-open : (n f t : ℕ) (st′ : Standing) → turned st at s ≡ got (internal.open-as n f t st′)
       → (done < 128) × Reading s st′ (at + 3 + word s (at + 1)) done prev first used (set sizes done n) (set from done f) (set to done t) numbers sets
   turn-open n f t st′ e =
-      let j = turn-field s st at (said.open-as n f t st′) (open-moves n f t st′) e in
+      let j = turn-field s st at (internal.open-as n f t st′) (open-moves n f t st′) e in
       let (h, x) = reading-open r (j .tag) (j .len) (j .seen) n f t st′ (j .moved) in
       (h, subst (Next st′ done prev first used (set sizes done n) (set from done f) (set to done t) numbers sets) (j .next) x)
 
@@ -315,7 +316,7 @@ module _ (s sizes from to numbers sets : List ℕ) (k : Marks) (h : At s sizes f
   abbrev place : ℕ
   place = k .at + 3 + word s (k .at + 1)
 
-  pub at-open : (n f t : ℕ) (st : Standing) → turned (k .st) (k .at) s ≡ got (said.open-as n f t st)
+  pub at-open : (n f t : ℕ) (st : Standing) → turned (k .st) (k .at) s ≡ got (internal.open-as n f t st)
       → At s (set sizes (k .done) n) (set from (k .done) f) (set to (k .done) t) numbers sets (marked st place (k .done) (k .prev) (k .first) (k .used))
   at-open n f t st e =
       let l = h .1 in

@@ -15,7 +15,7 @@ use Rattle.narrowed_question.specs.declared.Members.{Members}
 use Rattle.narrowed_question.specs.Form.{Flat, flat, numbers, set-numbers}
 use Rattle.narrowed_question.specs.Formed.{InOrder, WellFormed}
 use Rattle.narrowed_question.specs.ArrayMembers.{members-given, given}
-use Rattle.narrowed_question.specs.Said.{Packed, sizes-of, from-of, to-of, numbers-of, sets-of}
+use Rattle.narrowed_question.specs.Contract.{Packed, sizes-of, from-of, to-of, numbers-of, sets-of}
 
 -- the next element of an array
 pub heads : (l : List ℕ) (k x : ℕ) (r : List ℕ) → drop k l ≡ x ∷ r → (getD l k 0 ≡ x) × (drop (suc k) l ≡ r)

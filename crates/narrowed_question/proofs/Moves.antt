@@ -17,8 +17,8 @@ use Rattle.fields.proofs.Bools.{onward-got, refused-too, not-refused, cond-then
 use Rattle.narrowed_question.specs.Form.{Flat, open-as, between, within, judge as judge-of, head-of, open-of, grown}
 use Rattle.narrowed_question.specs.declared.Standing.{Standing}
 use Rattle.narrowed_question.specs.declared.Standing.the-variants.{Between, Within}
-use Rattle.narrowed_question.specs.Said.{Move, go, more, last, count-of, open-move, moved, symbol-move}
-use Rattle.narrowed_question.specs.Said as said
+use Rattle.narrowed_question.specs.Internal.{Move, go, more, last, count-of, open-move, moved, symbol-move}
+use Rattle.narrowed_question.specs.Internal as internal
 
 -- a symbol's move, taken apart
 pub record Moves (l p : ℕ) (q : Stack) (at next t : ℕ) (b : List ℕ) (m : Move) : Type 0 where
@@ -75,10 +75,10 @@ module _ (l p : ℕ) (x : Numbered) (q : Stack) where
       by-left true e = let z : _≡_ {A = ℕ} 0 1 = cc in omega arith
       by-left false e = let z : _≡_ {A = ℕ} 0 1 = cc in omega arith
 
-  pub open-not : (n f t : ℕ) (st : Standing) → moved l p x q ≡ said.open-as n f t st → ⊥
+  pub open-not : (n f t : ℕ) (st : Standing) → moved l p x q ≡ internal.open-as n f t st → ⊥
   open-not n f t st e = by-left (eqb (q .left) 0) e
     where
-      by-left : (b : Bool) → cond b (last (x .number) (x .set) l p) (more (x .number) (x .set) (Within l p q)) ≡ said.open-as n f t st → ⊥
+      by-left : (b : Bool) → cond b (last (x .number) (x .set) l p) (more (x .number) (x .set) (Within l p q)) ≡ internal.open-as n f t st → ⊥
       by-left true e = let z : _≡_ {A = ℕ} 0 1 = cc in omega arith
       by-left false e = let z : _≡_ {A = ℕ} 0 1 = cc in omega arith
 
@@ -96,7 +96,7 @@ count-stop at b m k e = by-test (leb (word b 0) 128) e
     by-test false e = cc
 
 abbrev pub opened : ℕ → ℕ → List ℕ → Move
-opened l at b = said.open-as (getD b 0 0) (eight b 1) (eight b 9) (Within (l - 1) at (record { left = getD b 0 0; depth = 0 }))
+opened l at b = internal.open-as (getD b 0 0) (eight b 1) (eight b 9) (Within (l - 1) at (record { left = getD b 0 0; depth = 0 }))
 
 pub open-go : (l at : ℕ) (b : List ℕ) (m : Move) → open-move l at b ≡ got m → (opened l at b ≡ m) × ((leb 1 (getD b 0 0) && leb (getD b 0 0) 48) ≡ true)
 unfolding open-move

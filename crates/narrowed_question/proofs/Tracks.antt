@@ -23,8 +23,8 @@ use Rattle.fields.proofs.ReaderLoop.{Going, going-start, going-ends, going-wron
 use Rattle.narrowed_question.specs.Form.{Flat, flat, open-as, State, head, between, within, due, judge as judge-of, narrowed-form, order-codes}
 use Rattle.narrowed_question.specs.declared.Standing.{Standing}
 use Rattle.narrowed_question.specs.declared.Standing.the-variants.{Head, Between, Within}
-use Rattle.narrowed_question.specs.Said.{go, more, last, due-of, judged, Ready, Able}
-use Rattle.narrowed_question.specs.Said as said
+use Rattle.narrowed_question.specs.Internal.{go, more, last, due-of, judged, Ready, Able}
+use Rattle.narrowed_question.specs.Internal as internal
 use Rattle.narrowed_question.proofs.Moves.{moves, judge-sym, judge-stop, more-is, last-is, go-not, open-not, count-go, count-stop, open-go, open-stop}
 
 -- the definition's state, where the code stands: P the codes of the member before, ms the members so far, of an open one its sets and symbols so far
@@ -128,10 +128,10 @@ module _ (s : List ℕ) (at : ℕ) (P : List ℕ) (ms : List Flat) (f t : ℕ) (
 
     -- 42 opens a member
     pub tracks-open : (st : Standing) → Tracks s st at P ms f t xs → field-at (due-of st) s at ≡ body u m → (n f′ t′ : ℕ) (st′ : Standing)
-        → judged st at N u B ≡ got (said.open-as n f′ t′ st′) → (length ms < 128) × (xs ≡ []) × Shut st × Tracks s st′ N P ms f′ t′ [] × (total st′ [] ≡ n) × Opened st′
-    tracks-open Head r e n f′ t′ st′ h = let w = count-go at B (said.open-as n f′ t′ st′) h .0 in let z : _≡_ {A = ℕ} 0 1 = cc in absurd (omega arith)
+        → judged st at N u B ≡ got (internal.open-as n f′ t′ st′) → (length ms < 128) × (xs ≡ []) × Shut st × Tracks s st′ N P ms f′ t′ [] × (total st′ [] ≡ n) × Opened st′
+    tracks-open Head r e n f′ t′ st′ h = let w = count-go at B (internal.open-as n f′ t′ st′) h .0 in let z : _≡_ {A = ℕ} 0 1 = cc in absurd (omega arith)
     tracks-open (Between l) r e n f′ t′ st′ h =
-        let (w, k) = open-go l at B (said.open-as n f′ t′ st′) h in
+        let (w, k) = open-go l at B (internal.open-as n f′ t′ st′) h in
         let hn : getD B 0 0 ≡ n = cc in
         let hf : eight B 1 ≡ f′ = cc in
         let ht : eight B 9 ≡ t′ = cc in
@@ -154,7 +154,7 @@ module _ (s : List ℕ) (at : ℕ) (P : List ℕ) (ms : List Flat) (f t : ℕ) (
           sym (ap (λ (x : Standing). total x []) w′) ∙ omega (arith, hn),
           subst Opened w′ (λ v. refl),
         )
-    tracks-open (Within l p q) r e n f′ t′ st′ h = let y = moves l p q at N u B (said.open-as n f′ t′ st′) h in absurd (open-not l p (y .x) (y .q′) n f′ t′ st′ (y .move-is))
+    tracks-open (Within l p q) r e n f′ t′ st′ h = let y = moves l p q at N u B (internal.open-as n f′ t′ st′) h in absurd (open-not l p (y .x) (y .q′) n f′ t′ st′ (y .move-is))
 
     -- a symbol more
     pub tracks-more : (st : Standing) → Tracks s st at P ms f t xs → field-at (due-of st) s at ≡ body u m → (c k : ℕ) (st′ : Standing)

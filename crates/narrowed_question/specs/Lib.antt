@@ -3,4 +3,5 @@ pub mod Form
 pub mod Writing
 pub mod Formed
 pub mod Members
-pub mod Said
+pub mod Contract
+pub mod Internal

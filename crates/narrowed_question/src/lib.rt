@@ -15,7 +15,8 @@ ghost use Rattle.fields.specs.Table.{tag-length};
 ghost use Rattle.fields.specs.Reading.{read as read-file, word};
 ghost use Rattle.symbols.specs.Symbols.{order-code, symbol-length};
 ghost use Rattle.narrowed_question.specs.Form.{narrowed-form};
-ghost use Rattle.narrowed_question.specs.Said.{Reads, Blank, ReadsInto, segment-codes, due-of, count-of, open-move, symbol-move, judged, Ready, turn-said, Packed, Able, turned, marked, arrays};
+ghost use Rattle.narrowed_question.specs.Contract.{Reads, Blank, ReadsInto, segment-codes, Packed, arrays};
+ghost use Rattle.narrowed_question.specs.Internal.{due-of, count-of, open-move, symbol-move, judged, Ready, turn-said, Able, turned, marked};
 
 // The number of members, or why the file is refused.
 pub enum Outcome {

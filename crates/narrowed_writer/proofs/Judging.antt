@@ -19,7 +19,7 @@ use Rattle.symbols.proofs.Symbols.{push-got}
 use Rattle.narrowed_question.specs.declared.Members.{Members}
 use Rattle.narrowed_question.specs.Form.{order-codes, numbers}
 use Rattle.narrowed_question.specs.ArrayMembers.{members-given, given}
-use Rattle.narrowed_question.specs.Said.{segment-codes}
+use Rattle.narrowed_question.specs.Contract.{segment-codes}
 use Rattle.narrowed_question.proofs.ArraysFilled.{codes-numbers}
 use Rattle.encode.proofs.Parts.{symbols-many, members-many}
 use Rattle.encode.specs.Wrote.{Few}

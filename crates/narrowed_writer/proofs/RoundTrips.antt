@@ -17,7 +17,7 @@ use Rattle.narrowed_question.specs.declared.Members.{Members}
 use Rattle.narrowed_question.specs.Form.{Flat, narrowed-form}
 use Rattle.narrowed_question.specs.Writing.{encode}
 use Rattle.narrowed_question.specs.ArrayMembers.{given}
-use Rattle.narrowed_question.specs.Said.{Packed}
+use Rattle.narrowed_question.specs.Contract.{Packed}
 use Rattle.narrowed_question.proofs.MembersInArrays.{packed-given}
 use Rattle.narrowed_question.proofs.ReadThenWritten.{encode-read, accepted-formed}
 use Rattle.narrowed_writer.specs.Verdict.{verdict}

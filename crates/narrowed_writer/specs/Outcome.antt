@@ -14,7 +14,7 @@ use Rattle.narrowed_question.specs.declared.Members.{Members}
 use Rattle.narrowed_question.specs.Form.{Flat, narrowed-form}
 use Rattle.narrowed_question.specs.Writing.{encode}
 use Rattle.narrowed_question.specs.ArrayMembers.{given}
-use Rattle.fields.specs.Said.{refusal-said}
+use Rattle.fields.specs.Contract.{refusal-said}
 use Rattle.narrowed_writer.specs.declared.Written.{Written}
 use Rattle.narrowed_writer.specs.declared.Written.the-variants as written-as
 

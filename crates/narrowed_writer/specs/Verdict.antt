@@ -10,7 +10,7 @@ use Rattle.theory.specs.PathExpr.{before?}
 use Rattle.symbols.specs.declared.Stack.{Stack}
 use Rattle.fields.specs.Table.{field-size}
 use Rattle.fields.specs.Answer.{Answer, got, refused, onward}
-use Rattle.fields.specs.Said.{refusal-said}
+use Rattle.fields.specs.Contract.{refusal-said}
 use Rattle.symbols.specs.Symbols.{arity, push}
 use Rattle.narrowed_question.specs.Form.{Flat, order-codes, numbers}
 use Rattle.narrowed_writer.specs.declared.Place.{Place}

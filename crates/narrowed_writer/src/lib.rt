@@ -6,7 +6,7 @@ use symbols::Stack;
 ghost use mathlib.Core.Path.{_≡_};
 ghost use Prim.Native.Nat.{_+_, _*_, _≤_, _<_};
 ghost use lib.ListN.{length, take, drop};
-ghost use Rattle.symbols.specs.Said.{push-said};
+ghost use Rattle.symbols.specs.Contract.{push-said};
 ghost use Rattle.narrowed_question.specs.ArrayMembers.{given};
 ghost use Rattle.narrowed_writer.specs.Outcome.{Writes};
 ghost use Rattle.narrowed_writer.specs.Verdict.{symbol?, offered, path-verdict, member-verdict, verdict, place-said};

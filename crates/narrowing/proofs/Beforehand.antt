@@ -21,7 +21,7 @@ use Rattle.fields.specs.Answer.{Answer, got, refused as refused-file}
 use Rattle.fields.specs.Call.{Outcome, accepts, refuses, Size, file-in}
 use Rattle.fields.proofs.Filing.{not-accepted}
 use Rattle.fields.specs.Reading.{read}
-use Rattle.fields.specs.Said.{source-number}
+use Rattle.fields.specs.Contract.{source-number}
 use Rattle.sheet.specs.Form.{sheet-form}
 use Rattle.sheet.proofs.Ranges.{accepted-sheet}
 use Rattle.question.specs.Form.{question-form, question-symbols}

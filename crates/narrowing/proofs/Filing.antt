@@ -15,7 +15,7 @@ use Rattle.fields.specs.declared.Source.the-variants as source
 use Rattle.fields.specs.declared.Written.{Written}
 use Rattle.fields.specs.declared.Written.the-variants as written
 use Rattle.fields.specs.Call.{Outcome, accepts, refuses, Size, size}
-use Rattle.fields.specs.Said.{number-of, place-of, written-said, Files}
+use Rattle.fields.specs.Contract.{number-of, place-of, written-said, Files}
 use Rattle.fields.proofs.Filing as fields·Filing
 use Rattle.fields.proofs.Filing.{not-accepted}
 use Rattle.narrowed_question.specs.Members.{narrowed-file}
@@ -28,7 +28,7 @@ use Rattle.members_file.specs.Files.{Measuring, Measured, Filing, Filed}
 use Rattle.members_file.proofs.Counting.{arranged-nodes}
 use Rattle.narrowing.specs.declared.Counted.{Counted}
 use Rattle.narrowing.specs.Call.{sized, file-size, file-of, in-area}
-use Rattle.narrowing.specs.Said.{Listed, Sorted, Counts, Known, Puts}
+use Rattle.narrowing.specs.Internal.{Listed, Sorted, Counts, Known, Puts}
 
 -- ---- the members of a part
 module _ {qs ws : List ℕ} {s e : ℕ} (h : Listed qs ws s e) where

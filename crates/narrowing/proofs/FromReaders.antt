@@ -18,7 +18,7 @@ use Rattle.question.proofs.ReaderOutcome as question
 use Rattle.rules.specs.StepTriples.{Tabled}
 use Rattle.rules.proofs.SheetSteps.{tabled-sheet}
 use Rattle.inference.proofs.Accepted.{taken-codes, asks}
-use Rattle.narrowing.specs.Said.{Handed, Ready}
+use Rattle.narrowing.specs.Contract.{Handed, Ready}
 
 module _ {s t : List ℕ} {k e : ℕ} {S : Sheet} (h : sheet.Told s t k e S) where
   valid : T (sheet? S)

@@ -31,7 +31,8 @@ use Rattle.inference.specs.declared.Inferred.the-variants.{Triples, Refused}
 use Rattle.inference.specs.Questions.{Asking, Sheeted, Infers, Found}
 use Rattle.narrowing.specs.declared.Counted.{Counted}
 use Rattle.narrowing.specs.Call.{outcome-of, narrow-need}
-use Rattle.narrowing.specs.Said.{Listed, Ready, Counts, Known, Puts, Counts-named, Infers-file}
+use Rattle.narrowing.specs.Contract.{Ready, Infers-file}
+use Rattle.narrowing.specs.Internal.{Listed, Counts, Known, Puts, Counts-named}
 use Rattle.narrowing.proofs.Filing.{uncounted}
 
 module _ {qs ws t : List ℕ} {count K : ℕ} (h : Ready qs t count K) (n : narrow-need ≤ length ws) where

@@ -16,7 +16,8 @@ use Rattle.theory.specs.Narrowing.{Outcome, refuse, unless, link-fault}
 use Rattle.symbols.specs.Symbols.{operator-numbered, symbol-numbered}
 use Rattle.question.specs.Form.{question-symbols}
 use Rattle.rows.proofs.Words.{le-or-lt}
-use Rattle.narrowing.specs.Said.{Unnamed, FirstUnnamed}
+use Rattle.narrowing.specs.Contract.{FirstUnnamed}
+use Rattle.narrowing.specs.Internal.{Unnamed}
 
 -- ---- one symbol
 same-test : (E l : ℕ) → _≡_ {A = ℕ} (cond (ltb l E) 0 11) (cond (leb E l) 11 0)

@@ -19,7 +19,7 @@ use Rattle.fields.specs.declared.Written.the-variants as written
 use Rattle.fields.specs.Answer.{got, refused as refused-file}
 use Rattle.fields.specs.Call.{refuses, zeroed}
 use Rattle.fields.specs.Reading.{read}
-use Rattle.fields.specs.Said.{number-of, place-of}
+use Rattle.fields.specs.Contract.{number-of, place-of}
 use Rattle.sheet.specs.Form.{sheet-form}
 use Rattle.question.specs.Form.{question-form, question-symbols}
 use Rattle.rows.specs.Kept.{Wrote}
@@ -28,7 +28,8 @@ use Rattle.rows.proofs.Areas.{zero-words}
 use Rattle.narrowing.specs.declared.Counted.{Counted}
 use Rattle.narrowing.specs.declared.Prepared.{Prepared}
 use Rattle.narrowing.specs.Call.{Found, found, outcome-of, narrow-need, settled, members-call, narrow-call, size-call}
-use Rattle.narrowing.specs.Said.{Narrows, Sizes, FirstUnnamed, Handed, Ready, Counts, Puts, parted, Counts-named, Counts-codes, Unprepared, Prepares}
+use Rattle.narrowing.specs.Contract.{Narrows, Sizes, FirstUnnamed, Handed, Ready, parted}
+use Rattle.narrowing.specs.Internal.{Counts, Puts, Counts-named, Counts-codes, Unprepared, Prepares}
 use Rattle.narrowing.proofs.Filing.{uncounted}
 
 -- ---- 11

@@ -1,3 +1,4 @@
 pub mod Call
 pub mod Beforehand
-pub mod Said
+pub mod Contract
+pub mod Internal

@@ -11,7 +11,8 @@ ghost use Rattle.fields.specs.declared.Written.the-variants as written;
 ghost use Rattle.fields.specs.Call.{accepts};
 ghost use Rattle.rules.specs.Requirements.{part};
 ghost use Rattle.narrowing.specs.Call.{narrow-need, narrow-call, size-call};
-ghost use Rattle.narrowing.specs.Said.{Narrows, Sizes, Unnamed, FirstUnnamed, Listed, Ready, Counts, Known, Puts, Counts-named, Infers-file, Counts-codes, Unprepared, Prepares};
+ghost use Rattle.narrowing.specs.Contract.{Narrows, Sizes, FirstUnnamed, Ready, Infers-file};
+ghost use Rattle.narrowing.specs.Internal.{Unnamed, Listed, Counts, Known, Puts, Counts-named, Counts-codes, Unprepared, Prepares};
 
 // The work words that narrowing needs.
 pub const NEED: usize = 8192;

@@ -7,14 +7,14 @@ use Rattle.fields.specs.declared.Refusal.{Refusal}
 use Rattle.fields.specs.declared.Source.{Source}
 use Rattle.fields.specs.Answer.{Answer, got, refused}
 use Rattle.fields.specs.Call.{accepts, refuses}
-use Rattle.fields.specs.Said.{number-of, place-of}
+use Rattle.fields.specs.Contract.{number-of, place-of}
 use Rattle.fields.specs.Reading.{read}
 use Rattle.fields.proofs.Bools.{onward-got, told-refused}
 use Rattle.narrowed_question.specs.declared.Outcome as narrowed·Outcome
 use Rattle.narrowed_question.specs.declared.Outcome.the-variants as outcome
 use Rattle.narrowed_question.specs.declared.Members.{Members}
 use Rattle.narrowed_question.specs.Form.{Flat, narrowed-form}
-use Rattle.narrowed_question.specs.Said.{Reads, outcome-said}
+use Rattle.narrowed_question.specs.Contract.{Reads, outcome-said}
 use lib.ListN.{length}
 use Rattle.paths.specs.OutcomeNumbers.{judged}
 

@@ -10,7 +10,7 @@ use Rattle.fields.specs.declared.Outcome as declared·Outcome
 use Rattle.fields.specs.declared.Outcome.the-variants as outcome
 use Rattle.fields.specs.declared.Written as declared·Written
 use Rattle.fields.specs.declared.Written.the-variants as written
-use Rattle.fields.specs.Said.{number-of, place-of, source-number, outcome-said, written-said}
+use Rattle.fields.specs.Contract.{number-of, place-of, source-number, outcome-said, written-said}
 use Rattle.paths.specs.OutcomeNumbers.{Told, tells, Tells, Tells-file}
 
 pub tells-same : {a b c a′ b′ c′ : ℕ} → a ≡ a′ → b ≡ b′ → c ≡ c′ → tells a b c ≡ tells a′ b′ c′

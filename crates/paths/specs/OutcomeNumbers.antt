@@ -7,7 +7,7 @@ use Prim.Native.Nat.{ℕ}
 use Rattle.fields.specs.declared.Source.{Source}
 use Rattle.fields.specs.Answer.{Answer}
 use Rattle.fields.specs.Call.{Outcome, accepts, refuses, reading, Size, size, Output}
-use Rattle.fields.specs.Said.{source-number}
+use Rattle.fields.specs.Contract.{source-number}
 use Rattle.narrowing.specs.Call as narrow
 use Rattle.answer.specs.Calls as answer
 use Rattle.job.specs.Call as job

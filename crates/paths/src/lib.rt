@@ -6,7 +6,7 @@ use fields::Source;
 use fields::Written;
 use narrowed_question::Members;
 ghost use mathlib.Core.Path.{_≡_};
-ghost use Rattle.fields.specs.Said.{number-of, place-of, source-number, outcome-said, written-said};
+ghost use Rattle.fields.specs.Contract.{number-of, place-of, source-number, outcome-said, written-said};
 ghost use Rattle.fields.specs.declared.Source.the-variants as source;
 ghost use Rattle.fields.specs.Reading.{read};
 ghost use Rattle.sheet.specs.Form.{sheet-form};

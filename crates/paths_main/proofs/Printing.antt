@@ -20,10 +20,10 @@ use Rattle.fields.specs.declared.Written.the-variants as written
 use Rattle.fields.specs.Answer.{got, refused}
 use Rattle.fields.specs.Call.{Size, accepts, size}
 use Rattle.fields.specs.Reading.{read}
-use Rattle.fields.specs.Said.{number-of, place-of, written-said}
+use Rattle.fields.specs.Contract.{number-of, place-of, written-said}
 use Rattle.register.specs.declared.Outcome as register·Outcome
 use Rattle.register.specs.declared.Outcome.the-variants as register·outcome
-use Rattle.register.specs.Said.{outcome-said, sized}
+use Rattle.register.specs.Contract.{outcome-said, sized}
 use Rattle.register.proofs.ReaderOutcome.{refused-file, accepted-records}
 use Rattle.register.specs.Form.{register-form, register-in, value-of}
 use Rattle.register.specs.LinksAhead.{Accepted}
@@ -32,7 +32,7 @@ use Rattle.encode.specs.Wrote.{Wrote}
 use Rattle.narrowing.specs.Call.{narrow-need}
 use Rattle.answer.specs.Calls.{work-need}
 use Rattle.job.specs.Call.{job-call}
-use Rattle.job.specs.Said.{Jobs}
+use Rattle.job.specs.Contract.{Jobs}
 use Rattle.job.proofs.Needs.{larger-both}
 use Rattle.job.proofs.Accepted as job·Accepted
 use Rattle.printing.specs.Text.{answer-text, refusal-text}

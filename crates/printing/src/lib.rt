@@ -10,7 +10,7 @@ ghost use Rattle.theory.specs.Lists.{guard, filter, range};
 ghost use Rattle.theory.specs.Words.{row-words};
 ghost use Rattle.rows.specs.Row.{row-bit};
 ghost use Rattle.relation.specs.Pairs.{pair-at};
-ghost use Rattle.fields.specs.Said.{number-of, place-of};
+ghost use Rattle.fields.specs.Contract.{number-of, place-of};
 ghost use Rattle.encode.specs.Wrote.{Wrote};
 ghost use Rattle.printing.specs.Text.{decimal, line, row-lines, lines, count, answer-text, in-source, refusal-text};
 

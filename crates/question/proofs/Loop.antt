@@ -24,7 +24,8 @@ use Rattle.fields.proofs.Padded.{pad-set}
 use Rattle.question.specs.declared.Standing.{Standing}
 use Rattle.question.specs.declared.Standing.the-variants.{Head, Within}
 use Rattle.question.specs.Form.{State, head, within, question-form, due, judge as judge-of, head-of, fresh, one-more, due-head}
-use Rattle.question.specs.Said.{counted, codes-in, due-of, go, more, judged, Ready}
+use Rattle.question.specs.Contract.{counted, codes-in}
+use Rattle.question.specs.Internal.{due-of, go, more, judged, Ready}
 
 abbrev state-of : Standing → List ℕ → State
 state-of Head xs = head

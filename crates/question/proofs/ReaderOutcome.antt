@@ -8,12 +8,12 @@ use Rattle.fields.specs.declared.Refusal.{Refusal}
 use Rattle.fields.specs.Answer.{got, refused}
 use Rattle.fields.specs.Padded.{padded}
 use Rattle.fields.specs.Reading.{read}
-use Rattle.fields.specs.Said.{number-of, place-of}
+use Rattle.fields.specs.Contract.{number-of, place-of}
 use Rattle.fields.proofs.Bools.{onward-got, told-refused}
 use Rattle.question.specs.declared.Outcome as declared·Outcome
 use Rattle.question.specs.declared.Outcome.the-variants as outcome
 use Rattle.question.specs.Form.{question-form}
-use Rattle.question.specs.Said.{Reads, codes-in, outcome-said}
+use Rattle.question.specs.Contract.{Reads, codes-in, outcome-said}
 
 -- the file's codes are cs, which were handed on
 pub record Told (s codes : List ℕ) (count : ℕ) (cs : List ℕ) : Type 0 where

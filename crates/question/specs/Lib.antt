@@ -1,3 +1,4 @@
 pub mod Form
 pub mod Writing
-pub mod Said
+pub mod Contract
+pub mod Internal

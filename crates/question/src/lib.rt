@@ -11,7 +11,8 @@ ghost use lib.ListN.{length, replicate};
 ghost use Rattle.fields.specs.Table.{tag-length};
 ghost use Rattle.fields.specs.Reading.{read as read-file};
 ghost use Rattle.question.specs.Form.{question-form};
-ghost use Rattle.question.specs.Said.{Reads, due-of, judged, Ready, turn-said};
+ghost use Rattle.question.specs.Contract.{Reads};
+ghost use Rattle.question.specs.Internal.{due-of, judged, Ready, turn-said};
 
 // The most symbols that a question has: as its head's number, and as a length.
 const MOST: u8 = 32;

@@ -10,7 +10,7 @@ ghost use lib.Seq.{sets};
 ghost use Rattle.fields.specs.Table.{field-size};
 ghost use Rattle.fields.specs.Writing.{field-bytes};
 ghost use Rattle.fields.specs.Call.{file-in};
-ghost use Rattle.fields.specs.Said.{Files};
+ghost use Rattle.fields.specs.Contract.{Files};
 ghost use Rattle.encode.specs.Wrote.{Wrote};
 ghost use Rattle.question.specs.Writing.{question-bytes};
 

@@ -18,7 +18,7 @@ use Rattle.fields.proofs.Bools.{and-left, and-right}
 use Rattle.fields.proofs.Fields.{found, ended}
 use Rattle.fields.proofs.Accepted.{accepted-ind}
 use Rattle.register.specs.Form.{State, start, within, due, value, register-form, value-of, register-in, kind?, link?}
-use Rattle.register.specs.Said.{sizes, sized}
+use Rattle.register.specs.Contract.{sizes, sized}
 use Rattle.register.specs.LinksAhead.{Accepted}
 use Rattle.register.proofs.Sound.{SoundState, sound-more}
 

@@ -15,7 +15,7 @@ use Rattle.register.specs.declared.Progress.{Progress}
 use Rattle.register.specs.declared.Position.{Position}
 use Rattle.register.specs.declared.Position.the-variants.{Start, Within}
 use Rattle.register.specs.Form.{due-head, due-entry, complete?}
-use Rattle.register.specs.Said.{due-of, Ready}
+use Rattle.register.specs.Internal.{due-of, Ready}
 
 pub head-length : (s : List ℕ) (at t n : ℕ) → field-at due-head s at ≡ body t n → n ≡ 4
 unfolding tag-length rows

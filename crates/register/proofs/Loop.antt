@@ -18,7 +18,8 @@ use Rattle.register.specs.declared.Progress.{Progress}
 use Rattle.register.specs.declared.Position.{Position}
 use Rattle.register.specs.declared.Position.the-variants.{Start, Within}
 use Rattle.register.specs.Form.{State, start, within, due, judge, value, register-form, kind-of, link-of, edge-of}
-use Rattle.register.specs.Said.{due-of, entry-of, judged, Ready, sizes, sized, sizes-of}
+use Rattle.register.specs.Contract.{entry-of, sizes, sized}
+use Rattle.register.specs.Internal.{due-of, judged, Ready, sizes-of}
 use Rattle.register.proofs.Fields.{ready}
 use Rattle.register.proofs.Sound.{SoundState, sound-more}
 

@@ -16,7 +16,7 @@ use Rattle.fields.proofs.Fields.{found, body-get}
 use Rattle.register.specs.declared.Progress.{Progress}
 use Rattle.register.specs.declared.Position.the-variants.{Within}
 use Rattle.register.specs.Form.{due-entry, kind-of, link-of, after-link, key}
-use Rattle.register.specs.Said.{entry-of}
+use Rattle.register.specs.Contract.{entry-of}
 use Rattle.register.specs.Passed.{KindAt, NumberAt, Passes, Passed, here, further}
 use Rattle.register.proofs.Loop.{Reading, reading-more}
 

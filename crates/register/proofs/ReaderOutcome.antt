@@ -7,12 +7,12 @@ use Rattle.theory.specs.Register.{records}
 use Rattle.fields.specs.declared.Refusal.{Refusal}
 use Rattle.fields.specs.Answer.{refused}
 use Rattle.fields.specs.Reading.{read}
-use Rattle.fields.specs.Said.{number-of, place-of}
+use Rattle.fields.specs.Contract.{number-of, place-of}
 use Rattle.fields.proofs.Bools.{told-refused}
 use Rattle.register.specs.declared.Outcome as declared·Outcome
 use Rattle.register.specs.declared.Outcome.the-variants as outcome
 use Rattle.register.specs.Form.{register-form, register-in}
-use Rattle.register.specs.Said.{outcome-said, sized}
+use Rattle.register.specs.Contract.{outcome-said, sized}
 use Rattle.register.specs.LinksAhead.{Accepted}
 use Rattle.register.proofs.AcceptedRegister.{accepted-sizes}
 

@@ -1,4 +1,5 @@
 pub mod Form
-pub mod Said
+pub mod Contract
+pub mod Internal
 pub mod Passed
 pub mod LinksAhead

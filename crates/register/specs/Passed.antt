@@ -9,7 +9,7 @@ use Rattle.fields.specs.Answer.{got}
 use Rattle.fields.specs.Reading.{word, eight, body, field-at}
 use Rattle.register.specs.declared.Progress.{Progress}
 use Rattle.register.specs.Form.{due-entry}
-use Rattle.register.specs.Said.{entry-of}
+use Rattle.register.specs.Contract.{entry-of}
 
 -- a kind is due at a place, and a whole field with its tag and length lies there
 pub record KindAt (s : List ℕ) (q : Progress) (at : ℕ) : Type 0 where

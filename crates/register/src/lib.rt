@@ -14,7 +14,8 @@ ghost use Rattle.fields.specs.Table.{tag-length};
 ghost use Rattle.fields.specs.Reading.{read};
 ghost use Rattle.theory.specs.Register.{records, kind};
 ghost use Rattle.register.specs.Form.{head-of, kind-of, link-of, key, register-form, register-in};
-ghost use Rattle.register.specs.Said.{due-of, entry-of, judged, Ready, turn-said, outcome-said, sizes-of, sized};
+ghost use Rattle.register.specs.Contract.{entry-of, outcome-said, sized};
+ghost use Rattle.register.specs.Internal.{due-of, judged, Ready, turn-said, sizes-of};
 ghost use Rattle.register.specs.Passed.{KindAt, NumberAt, Passes, Passed};
 ghost use Rattle.register.specs.LinksAhead.{Accepted, cursor-at, OnLinks, to-come, handed};
 

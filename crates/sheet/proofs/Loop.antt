@@ -16,7 +16,7 @@ use Rattle.fields.specs.declared.Refusal.{Refusal}
 use Rattle.fields.specs.Answer.{Answer, got, refused, onward}
 use Rattle.fields.specs.Reading.{ends, wrong, body, field-at, read}
 use Rattle.fields.specs.Table.{tag-length, rows}
-use Rattle.fields.specs.Said.{refusal-said}
+use Rattle.fields.specs.Contract.{refusal-said}
 use Rattle.fields.proofs.Bools.{onward-got, refused-too, not-refused}
 use Rattle.fields.proofs.Fields.{found, body-length, one-due, ended}
 use Rattle.fields.proofs.ReaderLoop.{Going, going-start, going-ends, going-wrong, going-refused, going-more}
@@ -27,7 +27,8 @@ use Rattle.sheet.specs.declared.Standing.{Standing}
 use Rattle.sheet.specs.declared.Standing.the-variants.{Head, Within}
 use Rattle.sheet.specs.Form.{State, head, within, due-head, due-triple, due, head-of, edge-of, next, judge, sheet-form}
 use Rattle.sheet.specs.Table.{permit, table-of, table-in}
-use Rattle.sheet.specs.Said.{outcome-said, sizes, sizes-at, Reads, due-of, go, more, judged, Ready}
+use Rattle.sheet.specs.Contract.{outcome-said, sizes, Reads}
+use Rattle.sheet.specs.Internal.{sizes-at, due-of, go, more, judged, Ready}
 use Rattle.sheet.proofs.Ranges.{so-far, head-got, next-got, sheet-more}
 use Rattle.sheet.proofs.Tables.{table-more}
 

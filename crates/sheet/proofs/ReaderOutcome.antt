@@ -7,13 +7,13 @@ use Rattle.theory.specs.Sheet.{Sheet}
 use Rattle.fields.specs.declared.Refusal.{Refusal}
 use Rattle.fields.specs.Answer.{got, refused}
 use Rattle.fields.specs.Reading.{read}
-use Rattle.fields.specs.Said.{number-of, place-of}
+use Rattle.fields.specs.Contract.{number-of, place-of}
 use Rattle.fields.proofs.Bools.{onward-got, told-refused}
 use Rattle.sheet.specs.declared.Outcome as declared·Outcome
 use Rattle.sheet.specs.declared.Outcome.the-variants as outcome
 use Rattle.sheet.specs.Form.{sheet-form}
 use Rattle.sheet.specs.Table.{table-of, table-in}
-use Rattle.sheet.specs.Said.{Reads, Sizes, outcome-said}
+use Rattle.sheet.specs.Contract.{Reads, Sizes, outcome-said}
 
 -- the file is the sheet S, whose numbers and table were handed on
 pub record Told (s t : List ℕ) (k e : ℕ) (S : Sheet) : Type 0 where

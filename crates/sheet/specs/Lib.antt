@@ -2,4 +2,5 @@
 pub mod Form
 pub mod Table
 -- what the code says of them, and cases
-pub mod Said
+pub mod Contract
+pub mod Internal

@@ -12,7 +12,8 @@ ghost use Rattle.fields.specs.Table.{tag-length};
 ghost use Rattle.fields.specs.Reading.{read as read-file};
 ghost use Rattle.sheet.specs.Form.{sheet-form, key};
 ghost use Rattle.sheet.specs.Table.{cell};
-ghost use Rattle.sheet.specs.Said.{Reads, due-of, judged, Ready, turn-said, outcome-said, sizes-at};
+ghost use Rattle.sheet.specs.Contract.{Reads, outcome-said};
+ghost use Rattle.sheet.specs.Internal.{due-of, judged, Ready, turn-said, sizes-at};
 
 // The numbers of kinds and of links, or why the file is refused.
 pub enum Outcome {

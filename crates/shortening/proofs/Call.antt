@@ -16,7 +16,7 @@ use Rattle.fields.specs.Answer.{refused}
 use Rattle.fields.specs.Call.{file-in}
 use Rattle.fields.specs.Padded.{padded}
 use Rattle.fields.specs.Reading.{read}
-use Rattle.fields.specs.Said.{number-of, place-of, Files}
+use Rattle.fields.specs.Contract.{number-of, place-of, Files}
 use Rattle.question.specs.Form.{question-form}
 use Rattle.question.specs.Writing.{question-bytes}
 use Rattle.question.proofs.Paths.{accepted-question}

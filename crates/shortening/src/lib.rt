@@ -3,7 +3,7 @@ use fields::Source;
 use fields::Written;
 ghost use mathlib.Core.Path.{_≡_};
 ghost use lib.ListN.{take};
-ghost use Rattle.fields.specs.Said.{Files};
+ghost use Rattle.fields.specs.Contract.{Files};
 ghost use Rattle.shortening.specs.Call.{shortened-in, shorten-call};
 ghost use Rattle.shortening.specs.Pass.{turned, kept, first-context, second-context, OfQuestion, Leaves};
 

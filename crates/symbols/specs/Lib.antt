@@ -1,3 +1,3 @@
 pub mod Symbols
 pub mod Writing
-pub mod Said
+pub mod Contract

@@ -8,7 +8,7 @@ ghost use Prim.Native.Nat.{_<_, _%_};
 ghost use lib.ListN.{length};
 ghost use Rattle.fields.specs.Table.{tag-length};
 ghost use Rattle.symbols.specs.Symbols.{symbol-length, step-of, operator-of, symbol-in, push, arity, due-symbols};
-ghost use Rattle.symbols.specs.Said.{symbol-said, push-said};
+ghost use Rattle.symbols.specs.Contract.{symbol-said, push-said};
 
 // Numbers below this one are steps: forward ones, and then reverse ones.
 pub const STEPS: u8 = 2 * fields::LINKS;

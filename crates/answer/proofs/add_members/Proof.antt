@@ -4,7 +4,7 @@ use Rattle.register.specs.Form.{register-in}
 use Rattle.chains.specs.Chain.{Held}
 use Rattle.chains.proofs.Holding.{held-none}
 use Rattle.evaluation.proofs.Grounds.{narrow}
-use Rattle.answer.specs.Said.{lent}
+use Rattle.answer.specs.Contract.{lent}
 use Rattle.answer.proofs.Adding.{Adding, adding-start, adding-more, adding-end, makes-path, size-few, symbols-end}
 use borrow.Author.Needs.{needs}
 use Prim.Native.Nat.{_-_}

@@ -38,7 +38,7 @@ use denote.Triple.Walked.{says, Stays, stay-none, stay-none-slice, walkOf, goes-
 use denote.Exit.{yes}
 use denote.Triple.Clauses.{ensured, lasts}
 use Rattle.fields.specs.Reading.{Field, field-at}
-use Rattle.fields.specs.Said.{field-said}
+use Rattle.fields.specs.Contract.{field-said}
 use Rattle.fields.specs.declared.Due.{Due}
 use Rattle.fields.specs.declared.Seen.{Seen}
 use Rattle.field_reader.specs.declared.Reader.{Reader}

@@ -3,7 +3,7 @@
 use mathlib.Core.Path.{_≡_, refl}
 use lib.ListN.{length}
 use Rattle.theory.specs.PathExpr.{before?}
-use Rattle.narrowed_question.specs.Said.{segment-codes}
+use Rattle.narrowed_question.specs.Contract.{segment-codes}
 use Rattle.narrowed_question.proofs.Comparing.{second-ends, less, greater, equal, first-ends}
 use borrow.Author.Needs.{needs}
 use Prim.Native.Nat.{_-_, _≤_}

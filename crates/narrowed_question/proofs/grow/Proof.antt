@@ -1,7 +1,7 @@
 -- `narrowed_question::grow` meets its contract: the symbol is read and its operands are counted, and the first refusal of the two is the field's; it is the last where no symbol is left.
 -- Assumes nothing.
 use borrow.Author.Tests.{eq-eqb, ne-eqb}
-use Rattle.narrowed_question.specs.Said.{symbol-move}
+use Rattle.narrowed_question.specs.Internal.{symbol-move}
 use borrow.Author.Needs.{needs}
 use Rattle.narrowed_question.proofs.grow.Statement.{statement}
 use Rattle.narrowed_question.proofs.grow.Tie as tie

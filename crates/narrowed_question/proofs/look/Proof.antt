@@ -6,7 +6,7 @@ use Prim.Native.Nat.{_+_}
 use Rattle.fields.specs.Reading.{body, field-at}
 use Rattle.fields.proofs.Raws.{body-found}
 use Rattle.fields.proofs.Fields.{seen-at}
-use Rattle.narrowed_question.specs.Said.{due-of, judged, turned, turned-by}
+use Rattle.narrowed_question.specs.Internal.{due-of, judged, turned, turned-by}
 use Rattle.narrowed_question.proofs.Tracks.{field-ready}
 use borrow.Author.Needs.{needs}
 use Rattle.narrowed_question.proofs.look.Statement.{statement}

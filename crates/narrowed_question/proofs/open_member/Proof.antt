@@ -2,7 +2,7 @@
 -- Assumes nothing.
 use Rattle.fields.specs.Table.{rows, tag-length}
 use borrow.Author.Tests.{lt-leb, le-leb}
-use Rattle.narrowed_question.specs.Said.{open-move}
+use Rattle.narrowed_question.specs.Internal.{open-move}
 use borrow.Author.Needs.{needs}
 use Rattle.narrowed_question.proofs.open_member.Statement.{statement}
 use Rattle.narrowed_question.proofs.open_member.Tie as tie

@@ -3,7 +3,7 @@
 use mathlib.Core.Path.{_∙_, ap, sym, subst}
 use lib.ListN.{length}
 use Rattle.narrowed_question.specs.declared.Marks.{Marks}
-use Rattle.narrowed_question.specs.Said.{turn-said}
+use Rattle.narrowed_question.specs.Internal.{turn-said}
 use Rattle.narrowed_question.proofs.Loop.{At, at-start, blank-long, reading-able, into-refused, turn-ends, turn-stop, turn-room, go-moves, open-moves, more-moves, last-moves}
 use Rattle.narrowed_question.proofs.Loop.{turn-go, turn-open, turn-more, turn-last, turn-order, at-open, at-more, at-close}
 use borrow.Author.Needs.{needs}

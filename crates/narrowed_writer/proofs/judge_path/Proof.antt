@@ -1,7 +1,7 @@
 -- `narrowed_writer::judge_path` meets its contract: the verdict on the symbols left, from the stack and the place reached, is that on the whole path.
 -- Assumes nothing.
 use mathlib.Core.Path.{_∙_, ap, sym}
-use Rattle.symbols.specs.Said.{push-said}
+use Rattle.symbols.specs.Contract.{push-said}
 use lib.ListN.{length}
 use Rattle.narrowed_writer.proofs.Judging.{AtSymbol, path-start, path-ends, path-refused, path-more}
 use borrow.Author.Needs.{needs}

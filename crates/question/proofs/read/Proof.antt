@@ -6,7 +6,8 @@ use denote.Ref.{now}
 use Rattle.fields.specs.Reading.{body, field-at}
 use Rattle.fields.proofs.Fields.{found, seen-at}
 use Rattle.fields.proofs.Raws.{body-found}
-use Rattle.question.specs.Said.{counted, codes-in, outcome-said, due-of, judged, turn-said}
+use Rattle.question.specs.Contract.{counted, codes-in, outcome-said}
+use Rattle.question.specs.Internal.{due-of, judged, turn-said}
 use Rattle.question.proofs.Loop.{Reading, reading-start, reading-ends, reading-wrong, reading-ready, reading-stop, reading-go, reading-more}
 use borrow.Author.Needs.{needs}
 use Prim.Native.Nat.{_+_, _-_, _≤_}

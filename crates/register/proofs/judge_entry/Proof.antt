@@ -1,4 +1,4 @@
-use Rattle.register.specs.Said.{entry-of}
+use Rattle.register.specs.Contract.{entry-of}
 use mathlib.Core.Path.{_∙_}
 use native.Mathlib.Omega.{arith}
 use borrow.Author.Tests.{eq-eqb, ne-eqb}

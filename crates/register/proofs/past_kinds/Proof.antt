@@ -1,7 +1,7 @@
 -- `register::past_kinds` meets its contract: each turn takes one more field that is a kind's, whole and judged to be in range.
 -- Assumes nothing.
 use Rattle.fields.specs.Table.{rows, tag-length}
-use Rattle.register.specs.Said.{turn-said}
+use Rattle.register.specs.Internal.{turn-said}
 use mathlib.Core.Path.{_∙_, sym, ap}
 use lib.ListN.{length-take, length-drop}
 use Rattle.register.proofs.Passing.{kind-room, past-kind}

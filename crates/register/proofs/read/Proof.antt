@@ -2,7 +2,7 @@ use Rattle.register.proofs.Passing.{reading-passed, passed-on}
 use Rattle.register.proofs.Loop.{Reading, reading-start, reading-ends, reading-wrong, reading-room, reading-ready, reading-refused, reading-more}
 use Rattle.fields.proofs.Raws.{body-found}
 use Rattle.fields.proofs.Fields.{seen-at}
-use Rattle.register.specs.Said.{due-of, judged, turn-said}
+use Rattle.register.specs.Internal.{due-of, judged, turn-said}
 use Rattle.fields.specs.Reading.{body, field-at}
 use denote.Ref.{now}
 use lib.ListN.{length, take, drop}

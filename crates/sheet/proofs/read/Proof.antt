@@ -9,7 +9,7 @@ use borrow.Author.Needs.{needs}
 use Rattle.fields.specs.Reading.{body, field-at}
 use Rattle.fields.proofs.Raws.{body-found}
 use Rattle.fields.proofs.Fields.{found, seen-at}
-use Rattle.sheet.specs.Said.{due-of, judged, edge-said, turn-said}
+use Rattle.sheet.specs.Internal.{due-of, judged, edge-said, turn-said}
 use Rattle.sheet.specs.Table.{permit}
 use Rattle.sheet.specs.declared.Standing.the-variants.{Within}
 use Rattle.sheet.proofs.Loop.{Progress, progress-start, reads-refused, progress-ends, progress-wrong, progress-ready, progress-stop, progress-go, progress-more}

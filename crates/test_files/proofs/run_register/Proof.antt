@@ -1,5 +1,5 @@
 use mathlib.Core.Path.{_∙_, ap, sym}
-use Rattle.register.specs.Said.{outcome-said}
+use Rattle.register.specs.Contract.{outcome-said}
 use Rattle.register.proofs.AcceptedRegister.{accepted-sizes}
 use borrow.Author.Needs.{needs}
 use Rattle.test_files.proofs.run_register.Statement.{statement}

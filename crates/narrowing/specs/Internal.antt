@@ -1,61 +1,42 @@
--- What the code's outcome and areas say.
+-- What the code needs on the way: nothing that is handed on rests on it.
 -- Assumes nothing.
 use mathlib.Core.Path.{_≡_}
 use mathlib.Core.Bool.{Bool, cond}
-use mathlib.Core.List.{List, [], List·Memᴰ as In}
+use mathlib.Core.List.{List, List·Memᴰ as In}
 use mathlib.Core.Option.{some}
-use Prim.Native.Nat.{ℕ, _+_, _<_, _≤_}
-use lib.Dec.{T}
+use Prim.Native.Nat.{ℕ, _+_, _≤_}
 use lib.ListN.{length, take}
-use Rattle.theory.specs.PathExpr.{PathExpr, plain?, links?}
-use Rattle.theory.specs.Postfix.{path-of, ended}
+use Rattle.theory.specs.PathExpr.{PathExpr}
+use Rattle.theory.specs.Postfix.{path-of}
 use Rattle.theory.specs.Sheet.{Sheet}
 use Rattle.theory.specs.Inference.{Triple, triples}
-use Rattle.theory.specs.Merging.{Member, members}
+use Rattle.theory.specs.Merging.{Member}
 use Rattle.theory.specs.Sorting.{grouped}
-use Rattle.theory.specs.Narrowing.{Outcome, refused, narrowed, refuse, link-fault, part-fault, narrow-symbols}
+use Rattle.theory.specs.Narrowing.{Outcome, link-fault, narrow-symbols}
 use Rattle.fields.specs.declared.Refusal.{Refusal}
 use Rattle.fields.specs.declared.Source.{Source}
 use Rattle.fields.specs.declared.Written.{Written}
 use Rattle.fields.specs.declared.Written.the-variants as written
 use Rattle.fields.specs.Call.{accepts}
 use Rattle.fields.specs.Call as fields·Call
-use Rattle.fields.specs.Said.{written-said, Files}
+use Rattle.fields.specs.Contract.{written-said, Files}
 use Rattle.symbols.specs.Symbols.{symbol-numbered}
 use Rattle.question.specs.Form.{question-symbols}
 use Rattle.rows.specs.Kept.{Kept, Wrote}
 use Rattle.triples.specs.Paths.{Sound}
 use Rattle.rules.specs.Requirements.{part}
-use Rattle.inference.specs.Questions.{Asking, Sheeted}
+use Rattle.inference.specs.Questions.{Sheeted}
 use Rattle.merge.specs.Arranging.{Suits}
 use Rattle.merge.specs.Runs.{nodes-at}
 use Rattle.members_file.specs.Files.{Measuring}
 use Rattle.narrowing.specs.declared.Counted.{Counted}
 use Rattle.narrowing.specs.declared.Prepared.{Prepared}
-use Rattle.narrowing.specs.Call.{Result, Sizing, outcome-of, sized, in-area, narrow-need, members-call}
-use Rattle.narrowing.specs.Call as call
+use Rattle.narrowing.specs.Call.{outcome-of, sized, in-area, narrow-need, members-call}
+use Rattle.narrowing.specs.Contract.{Handed, parted}
 
--- the outcome and both areas are what is due
-pub record Narrows (due : Result) (o : Written) (xs ys : List ℕ) : Type 0 where
-  pub outcome : written-said o ≡ due .outcome
-  pub work : xs ≡ due .work
-  pub file : ys ≡ due .file
-
--- the outcome and the work words
-pub record Sizes (due : Sizing) (o : Written) (xs : List ℕ) : Type 0 where
-  pub outcome : written-said o ≡ due .outcome
-  pub work : xs ≡ due .work
-
--- ---- what the code computes on the way; nothing that is handed on rests on it
 -- r tells whether the code c is that of a step whose link is not one of E
 pub record Unnamed (E c : ℕ) (r : Bool) : Type 0 where
   pub is : link-fault E (symbol-numbered c 0) ≡ cond r 11 0
-
--- 11 at the r-th of the codes, or at none where r is their number
-pub record FirstUnnamed (E : ℕ) (cs : List ℕ) (r : ℕ) : Type 0 where
-  pub within : r ≤ length cs
-  pub here : r < length cs → (o : Outcome) → refuse (link-fault E) 0 (question-symbols cs) o ≡ refused 11 r
-  pub nowhere : r ≡ length cs → (o : Outcome) → refuse (link-fault E) 0 (question-symbols cs) o ≡ o
 
 -- nodes s to e are the triples of a question
 pub record Listed (qs ws : List ℕ) (s e : ℕ) : Type 0 where
@@ -64,22 +45,6 @@ pub record Listed (qs ws : List ℕ) (s e : ℕ) : Type 0 where
   pub in-table : e ≤ length ws
   pub sound : Sound qs ws e
   pub suits : (t : Triple) → In t (part qs ws s e) → Suits t
-
--- the table and the numbers are those of sheet S
-pub record Handed (t : List ℕ) (K E : ℕ) (S : Sheet) : Type 0 where
-  pub sheeted : Sheeted t K S
-  pub named : S .link-names ≡ E
-
--- the first codes are a question's, and the table is a sheet's
-pub record Ready (qs t : List ℕ) (count K : ℕ) : Type 0 where
-  pub asking : (ws : List ℕ) → 4097 ≤ length ws → Asking qs ws count K
-  pub within : count ≤ length qs
-  pub path : PathExpr
-  pub is : path-of (question-symbols (take count qs)) ≡ some path
-  pub plain : T (plain? path)
-  pub linked : T (links? 64 path)
-  pub sheet : Sheet
-  pub sheeted : Sheeted t K sheet
 
 -- ---- the members counted
 -- the nodes in their order are those of the members
@@ -102,19 +67,10 @@ pub record Known (qs ws : List ℕ) (c : Counted) : Type 0 where
 pub record Puts (qs ws : List ℕ) (c : Counted) (file file′ : List ℕ) (o : Written) : Type 0 where
   pub files : (due : fields·Call.Outcome (List Member)) → Counts qs ws due c → Files (in-area due file) o file′
 
--- 12 or 13, or the members, by any sheet of the table
-abbrev pub parted : Sheet → List ℕ → PathExpr → Outcome
-parted S cs q = refuse (part-fault S) 0 (ended (question-symbols cs) []) (narrowed (members (triples S q)))
-
 -- of the work words only those up to the need changed
 pub record Counts-named (qs ws ws′ t : List ℕ) (count K : ℕ) (c : Counted) : Type 0 where
   pub kept : Kept 0 narrow-need ws ws′
   pub counts : (S : Sheet) → Sheeted t K S → (q : PathExpr) → path-of (question-symbols (take count qs)) ≡ some q → Counts qs ws′ (outcome-of (parted S (take count qs) q)) c
-
--- the same with 14 behind it
-pub record Infers-file (qs ws ws′ t : List ℕ) (count K : ℕ) (file file′ : List ℕ) (o : Written) : Type 0 where
-  pub kept : Kept 0 narrow-need ws ws′
-  pub files : (S : Sheet) → Sheeted t K S → (q : PathExpr) → path-of (question-symbols (take count qs)) ≡ some q → Files (call.written (parted S (take count qs) q) file) o file′
 
 -- with 11 before it
 pub record Counts-codes (qs ws ws′ t : List ℕ) (count K E : ℕ) (c : Counted) : Type 0 where

@@ -1,4 +1,4 @@
--- What the code's outcome and areas say.
+-- What the code needs on the way: nothing that is handed on rests on it.
 -- Assumes nothing.
 use mathlib.Core.Path.{_≡_}
 use mathlib.Core.List.{List}
@@ -6,41 +6,24 @@ use Prim.Native.Nat.{ℕ, _*_, _≤_}
 use lib.Dec.{T}
 use lib.ListN.{length, take}
 use Rattle.theory.specs.Register.{Register}
-use Rattle.theory.specs.Sheet.{Sheet, sheet?, breach}
-use Rattle.theory.specs.Narrowing as narrowing
-use Rattle.theory.specs.Narrowing.{narrow-symbols}
+use Rattle.theory.specs.Sheet.{Sheet, sheet?}
 use Rattle.theory.specs.Evaluation.{narrowed-answer}
 use Rattle.fields.specs.declared.Outcome.the-variants as outcome
 use Rattle.fields.specs.declared.Written.{Written}
 use Rattle.fields.specs.Answer.{got}
-use Rattle.fields.specs.Call.{accepts, Size}
 use Rattle.fields.specs.Reading.{read}
-use Rattle.fields.specs.Said.{written-said}
-use Rattle.question.specs.Form.{question-symbols}
+use Rattle.fields.specs.Contract.{written-said}
 use Rattle.register.specs.Form.{register-in}
 use Rattle.narrowed_question.specs.Form.{Flat, narrowed-form}
 use Rattle.narrowed_question.specs.Formed.{WellFormed}
 use Rattle.rows.specs.Kept.{Kept}
 use Rattle.narrowing.specs.Call.{narrow-need}
-use Rattle.narrowing.specs.Said.{Handed, Ready}
+use Rattle.narrowing.specs.Contract.{Handed, Ready}
 use Rattle.answer.specs.Calls.{members-of}
-use Rattle.answer.specs.Calls as answer·Calls
-use Rattle.answer.specs.Said as answer·Said
-use Rattle.job.specs.Call.{Output, Result, larger, with-breach, completed, filled, settled}
+use Rattle.answer.specs.Contract as answer·contract
+use Rattle.job.specs.Call.{Output, larger, completed, filled, settled}
+use Rattle.job.specs.Contract.{Jobs, due}
 
--- the outcome and the areas are what is due
-pub record Jobs (due : Result) (o : Written) (xs ys zs : List ℕ) : Type 0 where
-  pub outcome : written-said o ≡ due .outcome
-  pub work : xs ≡ due .work
-  pub answer : ys ≡ due .answer
-  pub file : zs ≡ due .file
-
--- demand 3 in one line: where the job is accepted so is the plain answer of the question, and its words are these
-pub record Plain (due : answer·Calls.Result) (o : Written) (ys : List ℕ) : Type 0 where
-  pub accepted : (z : Size) → written-said o ≡ accepts z → due .outcome ≡ accepts tt
-  pub answer : (z : Size) → written-said o ≡ accepts z → ys ≡ due .answer
-
--- ---- what the code computes on the way; nothing that is handed on rests on it
 -- the outcome, and the areas of the results
 pub record Gives (due : Output) (o : Written) (ys zs : List ℕ) : Type 0 where
   pub outcome : written-said o ≡ due .outcome
@@ -56,7 +39,7 @@ pub record HasMembers (bytes : ℕ) (area : List ℕ) : Type 0 where
 
 -- the answer of the members of a narrowed question's file
 pub record Answers-file (file : List ℕ) (r : Register) (n w : ℕ) (work work′ answer answer′ : List ℕ) : Type 0 where
-  pub fills : (ms : List Flat) → read narrowed-form file ≡ got ms → WellFormed ms → answer·Said.Fills n w (narrowed-answer r (members-of ms)) outcome.Accepted work work′ answer answer′
+  pub fills : (ms : List Flat) → read narrowed-form file ≡ got ms → WellFormed ms → answer·contract.Fills n w (narrowed-answer r (members-of ms)) outcome.Accepted work work′ answer answer′
 
 -- the table and the numbers are those of a sheet that was read
 pub record Tells (t : List ℕ) (K E : ℕ) (S : Sheet) : Type 0 where
@@ -73,10 +56,6 @@ pub record Asked (qs t : List ℕ) (count K E : ℕ) : Type 0 where
 pub record Roomy (n w : ℕ) (work : List ℕ) : Type 0 where
   pub narrowing : narrow-need ≤ length work
   pub answering : 28 * (n * w) ≤ length work
-
--- what the narrowing comes to, on a register's file
-abbrev pub due : Sheet → List ℕ → ℕ → List ℕ → narrowing.Outcome
-due S qs count register = with-breach (breach S (register-in register)) (narrow-symbols S (question-symbols (take count qs)))
 
 -- 11, 16, 12 or 13, 14 for the file, or the file and its answer; of the work words only those up to the need changed
 pub record Completes (qs t : List ℕ) (count K E : ℕ) (register : List ℕ) (n w : ℕ) (work work′ answer answer′ file file′ : List ℕ) (o : Written) : Type 0 where

@@ -1,7 +1,7 @@
 -- What the code's enums say, in the paper's numbers.
 -- Assumes nothing.
 use Rattle.fields.specs.Answer.{Answer, got}
-use Rattle.fields.specs.Said.{refusal-said}
+use Rattle.fields.specs.Contract.{refusal-said}
 use Rattle.symbols.specs.declared.Read as declared·Read
 use Rattle.symbols.specs.declared.Read.the-variants as read
 use Rattle.symbols.specs.declared.Pushed as declared·Pushed

@@ -1,49 +1,24 @@
--- What the code's structs and enums say, in the terms of the definitions.
+-- What the code needs on the way: nothing that is handed on rests on it.
 -- Assumes nothing.
 use mathlib.Core.Path.{_≡_}
-use mathlib.Core.Bool.{cond}
 use mathlib.Core.List.{List}
 use Prim.Native.Nat.{ℕ, _+_, _<_}
-use lib.Dec.{eqb}
-use lib.ListN.{length}
-use Rattle.theory.specs.Register.{Register, records}
+use Rattle.theory.specs.Register.{records}
 use Rattle.fields.specs.declared.Due.{Due}
 use Rattle.fields.specs.Table.{tag-length}
-use Rattle.fields.specs.Answer.{Answer, got, onward}
-use Rattle.fields.specs.Said.{refusal-said}
+use Rattle.fields.specs.Answer.{Answer, got}
+use Rattle.fields.specs.Contract.{refusal-said}
 use Rattle.register.specs.declared.Progress.{Progress}
 use Rattle.register.specs.declared.Position.{Position}
 use Rattle.register.specs.declared.Position.the-variants as position
 use Rattle.register.specs.declared.Turn.{Turn}
 use Rattle.register.specs.declared.Turn.the-variants as turn
-use Rattle.register.specs.declared.Outcome.{Outcome}
-use Rattle.register.specs.declared.Outcome.the-variants as outcome
-use Rattle.register.specs.Form.{due-head, due-tag, due-entry, head-of, kind-of, link-of}
+use Rattle.register.specs.Form.{due-head, due-tag, due-entry, head-of}
+use Rattle.register.specs.Contract.{Sizes, entry-of, sizes}
 
--- ---- the outcome
--- the numbers of records and links
-pub record Sizes : Type 0 where
-  pub records : ℕ
-  pub links : ℕ
-
-abbrev pub sizes : ℕ → ℕ → Sizes
-sizes n l = record { records = n; links = l }
-
-abbrev pub outcome-said : Outcome → Answer Sizes
-outcome-said (outcome.Accepted n l) = got (sizes n l)
-outcome-said (outcome.Refused r) = refusal-said r
-
-abbrev pub sized : Answer Register → Answer Sizes
-sized a = onward (λ r. got (sizes (records r) (length (r .links)))) a
-
--- ---- one turn: what the code computes on the way; nothing that is handed on rests on it
 abbrev pub due-of : Position → Due
 due-of position.Start = due-head
 due-of (position.Within q) = due-entry q
-
--- what a body is to the code
-unfoldable pub entry-of : Progress → ℕ → List ℕ → Answer Progress
-entry-of q at b = cond (eqb (q .kindless) 0) (link-of q at b) (kind-of q at b)
 
 abbrev pub judged : Position → ℕ → List ℕ → Answer Progress
 judged position.Start at b = head-of at b

@@ -1,45 +1,21 @@
--- What the code says of the reading of a question.
+-- What the code needs on the way: nothing that is handed on rests on it.
 -- Assumes nothing.
 use mathlib.Core.Path.{_≡_}
 use mathlib.Core.List.{List}
 use Prim.Native.Nat.{ℕ, _<_}
-use lib.ListN.{length, replicate}
 use Rattle.fields.specs.declared.Due.{Due}
 use Rattle.fields.specs.declared.File.the-variants as file
 use Rattle.symbols.specs.declared.Stack.{Stack}
 use Rattle.fields.specs.Table.{tag-length}
-use Rattle.fields.specs.Answer.{Answer, got, refused, onward}
-use Rattle.fields.specs.Padded.{padded}
-use Rattle.fields.specs.Said.{refusal-said}
+use Rattle.fields.specs.Answer.{Answer, got, onward}
+use Rattle.fields.specs.Contract.{refusal-said}
 use Rattle.symbols.specs.Symbols.{symbol-in, symbol-length, arity, push, due-symbols}
-use Rattle.question.specs.declared.Outcome.{Outcome}
-use Rattle.question.specs.declared.Outcome.the-variants as outcome
 use Rattle.question.specs.declared.Standing.{Standing}
 use Rattle.question.specs.declared.Standing.the-variants.{Head, Within}
 use Rattle.question.specs.declared.Turn.{Turn}
 use Rattle.question.specs.declared.Turn.the-variants as turn
 use Rattle.question.specs.Form.{due-head, head-of}
 
--- ---- the outcome
-abbrev pub outcome-said : Outcome → Answer ℕ
-outcome-said (outcome.Accepted n) = got n
-outcome-said (outcome.Refused r) = refusal-said r
-
--- the number of symbols
-abbrev pub counted : Answer (List ℕ) → Answer ℕ
-counted a = onward (λ cs. got (length cs)) a
-
--- the codes, and 0 from there on
-abbrev pub codes-in : Answer (List ℕ) → List ℕ
-codes-in (got cs) = padded 32 cs
-codes-in (refused n p) = replicate 32 0
-
--- the outcome, and every element of the array
-pub record Reads (a : Answer (List ℕ)) (o : Outcome) (array : List ℕ) : Type 0 where
-  pub outcome : outcome-said o ≡ counted a
-  pub codes : array ≡ codes-in a
-
--- ---- one turn: what the code computes on the way; nothing that is handed on rests on it
 abbrev pub due-of : Standing → Due
 due-of Head = due-head
 due-of (Within q) = due-symbols file.Question q

@@ -69,7 +69,8 @@ module _ {s : List ℕ} {n w : ℕ} (ground : Ground s n w) where
     unfolding plain-answer
     fills-plain p o e ev c =
         subst (λ (x : Option PathExpr). Fills n w (asked (register-in s) x) outcome.Accepted work work′ answer answer′) (sym e)
-        (fills-full (asked (register-in s) (some p)) (ground .wide) room (kept-in (ev .kept) (omega arith) (omega arith)) (kept-in (c .kept) (omega arith) (omega arith)) (stored-copied c (ev .pairs)) (past p) fits)
+        (fills-full (asked (register-in s) (some p)) (ground .wide) room (kept-in (ev .kept) (omega arith) (omega arith))
+        (kept-in (c .kept) (omega arith) (omega arith)) (stored-copied c (ev .pairs)) (past p) fits)
 
     pub fills-narrowed : {answer₁ : List ℕ} (ms : List Member) → Wrote 0 (n * w) (λ j. 0) answer answer₁ → Adds (register-in s) n w (narrowed-answer (register-in s) ms) work work′ answer₁ answer′
         → Fills n w (narrowed-answer (register-in s) ms) outcome.Accepted work work′ answer answer′

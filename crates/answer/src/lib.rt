@@ -131,7 +131,8 @@ fn member_route(
     bases: &mut [usize],
     masks: &mut [u64],
 ) -> usize
-    requires { ⌜ Ground (now register) n w × (28 * (n * w) ≤ length (now work)) × (first + size ≤ length (now numbers)) × (first + size ≤ length (now sets)) × (size ≤ 48) × (length (now bases) ≡ 24) × (length (now masks) ≡ 384) ⌝ }
+    requires { ⌜ Ground (now register) n w × (28 * (n * w) ≤ length (now work)) × (first + size ≤ length (now numbers)) × (first + size ≤ length (now sets)) × (size ≤ 48)
+        × (length (now bases) ≡ 24) × (length (now masks) ≡ 384) ⌝ }
     requires { ⌜ MakePath (now numbers) (now sets) size first ⌝ }
     requires { ⌜ Held (register-in (now register)) n w (now held) (now work) × KindRows (register-in (now register)) n w (now kinds) ⌝ }
     ensures { λ m. ⌜ Held (register-in (now (register .entry))) n w (now (held .exit)) (now (work .exit)) × Kept 0 (28 * (n * w)) (now (work .entry)) (now (work .exit))

@@ -59,7 +59,8 @@ module _ {s : List ℕ} {n w : ℕ} (ground : Ground s n w) where
             (λ (o : i ≡ k). let z : c ≡ x = sym (getD-set-same held k c 0 (omega (arith, h .few))) ∙ ap (λ (j : ℕ). getD (set held k c) j 0) (sym o) ∙ q in
             rw (o, ← z) (stored-number c l f m e d hc))
             (λ (o : i ≡ k → ⊥). stored-kept (h .stored i x hi (sym (getD-set-other held k i c 0 o) ∙ q) hx) (m .kept)
-            (⊎-elim (λ (a : i ≤ k). inl (row-le (n * w) (let y : 24 + i < 24 + k = omega arith in y))) (λ (a : k < i). inr (row-le (n * w) (let y : 24 + k < 24 + i = omega arith in y))) (le-or-lt i k)))
+            (⊎-elim (λ (a : i ≤ k). inl (row-le (n * w) (let y : 24 + i < 24 + k = omega arith in y)))
+            (λ (a : k < i). inr (row-le (n * w) (let y : 24 + k < 24 + i = omega arith in y))) (le-or-lt i k)))
             (eq-or-ne i k);
       }
 

@@ -51,7 +51,8 @@ pub laid-more : {n w first m : ℕ} {kinds numbers sets held held′ bases bases
 laid-more {n} {w} {first} {m} {kinds} {numbers} {sets} {held} {held′} {bases} {bases′} {masks} {masks′} j l k h c hj hw = record {
   start = leg-kept n w 0 (getD numbers first 0) (l .start) h (k .bases-kept) (omega arith) (c .start);
   leg =
-      below-more (λ i. Leg n w held′ bases′ (i + 1) (getD numbers (first + 2 * i + 1) 0)) j (λ i hi. leg-kept n w (i + 1) (getD numbers (first + 2 * i + 1) 0) (l .leg i hi) h (k .bases-kept) (omega arith) (c .link i (omega arith))) (k .leg);
+      below-more (λ i. Leg n w held′ bases′ (i + 1) (getD numbers (first + 2 * i + 1) 0)) j (λ i hi. leg-kept n w
+      (i + 1) (getD numbers (first + 2 * i + 1) 0) (l .leg i hi) h (k .bases-kept) (omega arith) (c .link i (omega arith))) (k .leg);
   joint = below-more (λ i. Joint w kinds masks′ i (getD sets (first + 2 * i + 2) 0)) j
       (λ i hi z hz. kept-bit (16 * i) w z (k .masks-kept) (inl (omega arith)) hz ∙ l .joint i hi z hz) (k .joint);
 }
@@ -69,7 +70,8 @@ stored-clean {s} {n} ground p y i hi t ht e =
     (λ (h : t < n). h)
     (le-or-lt n t)
 
-module _ {s : List ℕ} {n w : ℕ} (ground : Ground s n w) {kinds numbers sets held bases masks xs : List ℕ} {first m : ℕ} (kinds-are : KindRows (register-in s) n w kinds) (steps : Held (register-in s) n w held xs)
+module _ {s : List ℕ} {n w : ℕ} (ground : Ground s n w) {kinds numbers sets held bases masks xs : List ℕ} {first m : ℕ}
+    (kinds-are : KindRows (register-in s) n w kinds) (steps : Held (register-in s) n w held xs)
     (c : Chained numbers first m) (l : Laid n w kinds numbers sets first m held bases masks) where
   abbrev r : Register
   r = register-in s
@@ -89,9 +91,11 @@ module _ {s : List ℕ} {n w : ℕ} (ground : Ground s n w) {kinds numbers sets 
       let p = chain-path numbers sets first j in
       let q = step-numbered (getD numbers (first + 2 * j + 1) 0) in
       let y = stored (j + 1) (getD numbers (first + 2 * j + 1) 0) (c .link j (omega arith)) (l .leg j (omega arith)) in
-      some-same (λ z. routed xs bases masks n w j i z && (pair-at xs (getD bases (j + 1) 0) w z t && row-bit masks (16 * j) z)) (λ z. look (evaluate r p) i z && (look (evaluate r q) z t && has ks (kind r z))) n
+      some-same (λ z. routed xs bases masks n w j i z && (pair-at xs (getD bases (j + 1) 0) w z t && row-bit masks (16 * j) z))
+      (λ z. look (evaluate r p) i z && (look (evaluate r q) z t && has ks (kind r z))) n
       (λ z hz. ap₂ (λ (a b : Bool). a && b) (laid-pairs j (omega arith) i z hi (omega (arith, rows-hold ground)))
-      (ap₂ (λ (a b : Bool). a && b) (y .pair z t hz ht) (l .joint j (omega arith) z (omega (arith, rows-hold ground)) ∙ set-has ground ks kinds-are z (omega (arith, rows-hold ground)) ∙ mask-at (λ t. has ks (kind r t)) n z hz)))
+      (ap₂ (λ (a b : Bool). a && b) (y .pair z t hz ht) (l .joint j (omega arith) z (omega (arith, rows-hold ground)) ∙ set-has ground ks kinds-are z (omega (arith, rows-hold ground))
+      ∙ mask-at (λ t. has ks (kind r t)) n z hz)))
       ∙ ap (λ (k : ℕ). join? k (passes? r (through ks)) (look (evaluate r p)) (look (evaluate r q)) i t) (sym (ground .count))
       ∙ sym (look-all (records r) (join? (records r) (passes? r (through ks)) (look (evaluate r p)) (look (evaluate r q))) i t (omega (arith, ground .count)) (λ h. joined-past ks p q i t h))
 

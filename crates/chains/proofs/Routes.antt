@@ -24,7 +24,8 @@ module _ {xs bs ms : List ℕ} {n w m : ℕ} (route : Routed xs bs ms n w m) whe
   routed-past zero s t hj hs l ht = clean-past xs (getD bs 0 0 + s * w) n w t (route .clean 0 (omega arith) s hs) ht l
   routed-past (suc j) s t hj hs l ht =
       some-none (λ z. routed xs bs ms n w j s z && (pair-at xs (getD bs (j + 1) 0) w z t && row-bit ms (16 * j) z)) n
-      (λ z hz. ap (λ (b : Bool). routed xs bs ms n w j s z && (b && row-bit ms (16 * j) z)) (clean-past xs (getD bs (j + 1) 0 + z * w) n w t (route .clean (j + 1) (omega arith) z hz) ht l) ∙ and-false (routed xs bs ms n w j s z))
+      (λ z hz. ap (λ (b : Bool). routed xs bs ms n w j s z && (b && row-bit ms (16 * j) z)) (clean-past xs (getD bs (j + 1) 0 + z * w) n w t (route .clean (j + 1) (omega arith) z hz) ht l)
+      ∙ and-false (routed xs bs ms n w j s z))
 
   module _ {rs : List ℕ} (s : ℕ) (hs : s < n) where
     -- a row that has gone through j links is clean

@@ -111,9 +111,11 @@ fn link(
     masks: &mut [u64],
     j: usize,
 ) -> bool
-    requires { ⌜ Ground (now register) n w × (28 * (n * w) ≤ length (now work)) × Held (register-in (now register)) n w (now held) (now work) × (number < 128) × KindRows (register-in (now register)) n w (now kinds) ⌝ }
+    requires { ⌜ Ground (now register) n w × (28 * (n * w) ≤ length (now work)) × Held (register-in (now register)) n w (now held) (now work) × (number < 128)
+        × KindRows (register-in (now register)) n w (now kinds) ⌝ }
     requires { ⌜ (j < 23) × (length (now bases) ≡ 24) × (length (now masks) ≡ 384) ⌝ }
-    ensures { λ r. ⌜ Held (register-in (now (register .entry))) n w (now (held .exit)) (now (work .exit)) × Holds (now (held .entry)) (now (held .exit)) × Kept (24 * (n * w)) (28 * (n * w)) (now (work .entry)) (now (work .exit))
+    ensures { λ r. ⌜ Held (register-in (now (register .entry))) n w (now (held .exit)) (now (work .exit)) × Holds (now (held .entry)) (now (held .exit))
+        × Kept (24 * (n * w)) (28 * (n * w)) (now (work .entry)) (now (work .exit))
         × (r ≡ true → Linked n w (now (kinds .entry)) number set j (now (held .exit)) (now (bases .entry)) (now (bases .exit)) (now (masks .entry)) (now (masks .exit))) ⌝ }
 {
     let k = hold(work, register, n, w, held, number);
@@ -142,7 +144,8 @@ fn lay(
     bases: &mut [usize],
     masks: &mut [u64],
 ) -> bool
-    requires { ⌜ Ground (now register) n w × (28 * (n * w) ≤ length (now work)) × Held (register-in (now register)) n w (now held) (now work) × KindRows (register-in (now register)) n w (now kinds) ⌝ }
+    requires { ⌜ Ground (now register) n w × (28 * (n * w) ≤ length (now work)) × Held (register-in (now register)) n w (now held) (now work)
+        × KindRows (register-in (now register)) n w (now kinds) ⌝ }
     requires { ⌜ Chained (now numbers) first m × (first + 2 * m < length (now numbers)) × (first + 2 * m < length (now sets)) × (m < 24) × (length (now bases) ≡ 24) × (length (now masks) ≡ 384) ⌝ }
     ensures { λ r. ⌜ Held (register-in (now (register .entry))) n w (now (held .exit)) (now (work .exit)) × Kept (24 * (n * w)) (28 * (n * w)) (now (work .entry)) (now (work .exit))
         × (r ≡ true → Laid n w (now (kinds .entry)) (now (numbers .entry)) (now (sets .entry)) first m (now (held .exit)) (now (bases .exit)) (now (masks .exit))) ⌝ }
@@ -189,7 +192,8 @@ pub fn route(
     bases: &mut [usize],
     masks: &mut [u64],
 ) -> bool
-    requires { ⌜ Ground (now register) n w × (28 * (n * w) ≤ length (now work)) × Held (register-in (now register)) n w (now held) (now work) × KindRows (register-in (now register)) n w (now kinds) ⌝ }
+    requires { ⌜ Ground (now register) n w × (28 * (n * w) ≤ length (now work)) × Held (register-in (now register)) n w (now held) (now work)
+        × KindRows (register-in (now register)) n w (now kinds) ⌝ }
     requires { ⌜ (first + size ≤ length (now numbers)) × (first + size ≤ length (now sets)) × (size ≤ 48) × (length (now bases) ≡ 24) × (length (now masks) ≡ 384) ⌝ }
     ensures { λ r. ⌜ Held (register-in (now (register .entry))) n w (now (held .exit)) (now (work .exit)) × Kept (24 * (n * w)) (28 * (n * w)) (now (work .entry)) (now (work .exit))
         × (r ≡ true → Routed (now (work .exit)) (now (bases .exit)) (now (masks .exit)) n w (size / 2)
@@ -274,7 +278,8 @@ fn add_word(
     to: &[u64],
 )
     requires { ⌜ Routed (now work) (now bases) (now masks) n w m × (n * w ≤ length (now answer)) × (i < w) × (w ≤ length (now from)) × CleanRow (now from) 0 n w × (w ≤ length (now to)) ⌝ }
-    ensures { λ _. ⌜ Gained (64 * i) (64 * i + 64) n w (between (routed (now (work .entry)) (now (bases .entry)) (now (masks .entry)) n w m) (now (from .entry)) (now (to .entry))) (now (answer .entry)) (now (answer .exit)) ⌝ }
+    ensures { λ _. ⌜ Gained (64 * i) (64 * i + 64) n w (between (routed (now (work .entry)) (now (bases .entry)) (now (masks .entry)) n w m) (now (from .entry)) (now (to .entry)))
+        (now (answer .entry)) (now (answer .exit)) ⌝ }
 {
     let mut y = from[i];
     let mut p = 0;
@@ -299,7 +304,8 @@ fn add_rows(
     to: &[u64],
 )
     requires { ⌜ Routed (now work) (now bases) (now masks) n w m × (n * w ≤ length (now answer)) × (w ≤ length (now from)) × CleanRow (now from) 0 n w × (w ≤ length (now to)) ⌝ }
-    ensures { λ _. ⌜ Made 0 n w (λ s t. pair-at (now (answer .entry)) 0 w s t || between (routed (now (work .entry)) (now (bases .entry)) (now (masks .entry)) n w m) (now (from .entry)) (now (to .entry)) s t) (now (answer .entry)) (now (answer .exit)) ⌝ }
+    ensures { λ _. ⌜ Made 0 n w (λ s t. pair-at (now (answer .entry)) 0 w s t
+        || between (routed (now (work .entry)) (now (bases .entry)) (now (masks .entry)) n w m) (now (from .entry)) (now (to .entry)) s t) (now (answer .entry)) (now (answer .exit)) ⌝ }
 {
     for i in 0..w {
         add_word(answer, work, n, w, bases, masks, m, from, i, to);

@@ -27,7 +27,8 @@ use Rattle.symbols.specs.declared.Stack.{Stack}
 use Rattle.fields.proofs.Bools.{not-got, told-refused}
 use Rattle.fields.proofs.Fields.{found}
 use Rattle.narrowed_question.proofs.Moves.{moves, count-go, open-go}
-use Rattle.narrowed_question.proofs.Tracks.{Tracks, tracks-start, total, open-list, Shut, tracks-ends, tracks-wrong, tracks-able, tracks-stop, tracks-go, tracks-open, tracks-more, last-few, last-members, last-total, last-opened, tracks-order, tracks-done}
+use Rattle.narrowed_question.proofs.Tracks.{Tracks, tracks-start, total, open-list, Shut, tracks-ends, tracks-wrong, tracks-able, tracks-stop}
+use Rattle.narrowed_question.proofs.Tracks.{tracks-go, tracks-open, tracks-more, last-few, last-members, last-total, last-opened, tracks-order, tracks-done}
 use Rattle.narrowed_question.proofs.ArraysFilled.{Filled, filled-start, refill, filled-open, room, filled-more, filled-done, numbers-long, before-codes, open-codes, filled-packed}
 
 pub record Reading (s : List ℕ) (st : Standing) (at done prev first used : ℕ) (sizes from to numbers sets : List ℕ) : Type 0 where

@@ -198,7 +198,8 @@ pub join-more : {xs ys zs : List ℕ} {s : ℕ} (ms : List ℕ) (p q n w : ℕ) 
     → Row (p + s * w) w (λ t. some? (by-row ys (p + s * w) ys q w ms 0 t) (range n)) ys zs → s < n → n ≤ 64 * w → p + n * w ≤ q
     → Made p (s + 1) w (join? n (row-bit ms 0) (pair-at xs p w) (pair-at xs q w)) xs zs
 join-more {xs} {ys} {zs} {s} ms p q n w m r hs hn a =
-    made-more m (row-is r (λ t h. some-same (by-row ys (p + s * w) ys q w ms 0 t) (by-row xs (p + s * w) xs q w ms 0 t) n (λ z l. ap₂ _&&_ (first z l) (ap (λ (b : Bool). b && row-bit ms 0 z) (second z t h)))))
+    made-more m (row-is r (λ t h. some-same (by-row ys (p + s * w) ys q w ms 0 t) (by-row xs (p + s * w) xs q w ms 0 t) n
+    (λ z l. ap₂ _&&_ (first z l) (ap (λ (b : Bool). b && row-bit ms 0 z) (second z t h)))))
   where
     first : (z : ℕ) → z < n → row-bit ys (p + s * w) z ≡ row-bit xs (p + s * w) z
     first z l = row-ahead (p + s * w) z m (omega arith) (omega arith)

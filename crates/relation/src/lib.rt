@@ -108,7 +108,8 @@ pub fn take_row(
 // The row becomes the union of the rows z of the relation at q, for each z that it and the row at m of the mask have.
 pub fn follow(row: &mut [u64], work: &[u64], q: usize, n: usize, w: usize, mask: &[u64], m: usize)
     requires { ⌜ (w ≤ length (now row)) × (q + n * w ≤ length (now work)) × (w ≤ 16) × (n ≤ 64 * w) × (m + w ≤ length (now mask)) × CleanRow (now row) 0 n w ⌝ }
-    ensures { λ _. ⌜ Row 0 w (λ t. some? (λ z. row-bit (now (row .entry)) 0 z && (pair-at (now (work .entry)) q w z t && row-bit (now (mask .entry)) m z)) (range n)) (now (row .entry)) (now (row .exit)) ⌝ }
+    ensures { λ _. ⌜ Row 0 w (λ t. some? (λ z. row-bit (now (row .entry)) 0 z && (pair-at (now (work .entry)) q w z t && row-bit (now (mask .entry)) m z)) (range n))
+        (now (row .entry)) (now (row .exit)) ⌝ }
 {
     let mut next = [0u64; 16];
     take_row(&mut next, row, 0, work, q, n, w, mask, m);
@@ -118,7 +119,8 @@ pub fn follow(row: &mut [u64], work: &[u64], q: usize, n: usize, w: usize, mask:
 // The row at d becomes the union of the rows z of the relation at q, for each z that it and the mask have.
 fn follow_row(work: &mut [u64], d: usize, q: usize, n: usize, w: usize, mask: &[u64])
     requires { ⌜ (d + w ≤ q) × (q + n * w ≤ length (now work)) × (w ≤ 16) × (n ≤ 64 * w) × (w ≤ length (now mask)) × CleanRow (now work) d n w ⌝ }
-    ensures { λ _. ⌜ Row d w (λ t. some? (λ z. row-bit (now (work .entry)) d z && (pair-at (now (work .entry)) q w z t && row-bit (now (mask .entry)) 0 z)) (range n)) (now (work .entry)) (now (work .exit)) ⌝ }
+    ensures { λ _. ⌜ Row d w (λ t. some? (λ z. row-bit (now (work .entry)) d z && (pair-at (now (work .entry)) q w z t && row-bit (now (mask .entry)) 0 z)) (range n))
+        (now (work .entry)) (now (work .exit)) ⌝ }
 {
     let mut joined = [0u64; 16];
     take_row(&mut joined, work, d, work, q, n, w, mask, 0);
@@ -128,7 +130,8 @@ fn follow_row(work: &mut [u64], d: usize, q: usize, n: usize, w: usize, mask: &[
 // As `follow_row`; an empty row stays, which is tested first.
 fn join_row(work: &mut [u64], d: usize, q: usize, n: usize, w: usize, mask: &[u64])
     requires { ⌜ (d + w ≤ q) × (q + n * w ≤ length (now work)) × (w ≤ 16) × (n ≤ 64 * w) × (w ≤ length (now mask)) × CleanRow (now work) d n w ⌝ }
-    ensures { λ _. ⌜ Row d w (λ t. some? (λ z. row-bit (now (work .entry)) d z && (pair-at (now (work .entry)) q w z t && row-bit (now (mask .entry)) 0 z)) (range n)) (now (work .entry)) (now (work .exit)) ⌝ }
+    ensures { λ _. ⌜ Row d w (λ t. some? (λ z. row-bit (now (work .entry)) d z && (pair-at (now (work .entry)) q w z t && row-bit (now (mask .entry)) 0 z)) (range n))
+        (now (work .entry)) (now (work .exit)) ⌝ }
 {
     if rows::any(work, d, w) {
         follow_row(work, d, q, n, w, mask);

@@ -18,7 +18,8 @@ use Rattle.answer.proofs.wide.Reads as wide-reads
 use Rattle.kind_rows.proofs.fill.Reads as fill-reads
 
 abbrev Inv-loop : tie.InvT-loop
-Inv-loop count sizes from to numbers sets register n w work₀ answer₀ kinds held₀ first₀ i₀ work answer held first i = Adding (lent count sizes from to numbers sets) (register-in register) n w work₀ work answer₀ answer i first × Held (register-in register) n w held work
+Inv-loop count sizes from to numbers sets register n w work₀ answer₀ kinds held₀ first₀ i₀ work answer held first i = Adding
+    (lent count sizes from to numbers sets) (register-in register) n w work₀ work answer₀ answer i first × Held (register-in register) n w held work
 
 abbrev μ-loop : tie.MeasureT-loop
 μ-loop count sizes from to numbers sets register n w work₀ answer₀ kinds held₀ first₀ i₀ work answer held first i = count - i

@@ -19,7 +19,8 @@ use Rattle.closure_rule.proofs.Keeping.{kept-from-start, kept-from-skip
 
 abbrev Inv-loop : tie.InvT-loop
 Inv-loop words₀ question work s start o n a count₀ b₀ words count b =
-    Ranging question words₀ words (s + start) s count (adjoin-all triple? (part-of question words₀ s start) (kept-from work (original question o n) (a .0) 0 64)) (kept-at work (original question o n) (a .0)) b 64
+    Ranging question words₀ words (s + start) s count (adjoin-all triple? (part-of question words₀ s start) (kept-from work (original question o n) (a .0) 0 64))
+    (kept-at work (original question o n) (a .0)) b 64
 
 abbrev μ-loop : tie.MeasureT-loop
 μ-loop words₀ question work s start o n a count₀ b₀ words count b = 64 - b

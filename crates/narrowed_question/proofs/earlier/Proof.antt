@@ -12,7 +12,8 @@ use Rattle.narrowed_question.proofs.earlier.Statement.{statement}
 use Rattle.narrowed_question.proofs.earlier.Tie as tie
 
 abbrev Inv-loop : tie.InvT-loop
-Inv-loop numbers a b e i₀ j₀ i j = (i ≤ b) × ((j ≤ e) × ((b ≤ length numbers) × ((e ≤ length numbers) × (before? (segment-codes numbers i b) (segment-codes numbers j e) ≡ before? (segment-codes numbers a b) (segment-codes numbers b e)))))
+Inv-loop numbers a b e i₀ j₀ i j = (i ≤ b) × ((j ≤ e) × ((b ≤ length numbers)
+    × ((e ≤ length numbers) × (before? (segment-codes numbers i b) (segment-codes numbers j e) ≡ before? (segment-codes numbers a b) (segment-codes numbers b e)))))
 
 abbrev μ-loop : tie.MeasureT-loop
 μ-loop numbers a b e i₀ j₀ i j = b - i

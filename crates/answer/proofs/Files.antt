@@ -8,7 +8,7 @@ use lib.ListN.{length, getD, drop, replicate, getD-replicate}
 use Rattle.theory.specs.PathExpr.{Symbol}
 use Rattle.theory.specs.Postfix.{path-of}
 use Rattle.fields.specs.declared.Refusal.{Refusal}
-use Rattle.fields.specs.Answer.{got, refused}
+use Rattle.theory.specs.Result.{got, refused}
 use Rattle.fields.specs.Padded.{padded}
 use Rattle.fields.specs.Reading.{read}
 use Rattle.fields.specs.Contract.{number-of, place-of}

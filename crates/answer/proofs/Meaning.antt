@@ -21,7 +21,7 @@ use Rattle.theory.specs.Words.{row-words, answer-words}
 use Rattle.theory.proofs.Tests.{and-right, and-both}
 use Rattle.theory.proofs.Evaluation.{holds-bounds, plain-right, narrowed-right}
 use Rattle.theory.proofs.Words.{words-length, answer-bit}
-use Rattle.fields.specs.Answer.{got}
+use Rattle.theory.specs.Result.{got}
 use Rattle.fields.specs.Call.{Outcome, accepts, refuses, zeroed}
 use Rattle.fields.specs.declared.Source.the-variants as source
 use Rattle.fields.specs.Reading.{read}

@@ -13,7 +13,7 @@ use Rattle.theory.specs.Register.{Register, well-formed?, Holds}
 use Rattle.theory.specs.Evaluation.{plain-answer}
 use Rattle.theory.proofs.Tests.{bool-eq}
 use Rattle.theory.proofs.Evaluation.{plain-right}
-use Rattle.fields.specs.Answer.{Answer, got, refused}
+use Rattle.theory.specs.Result.{Result, got, refused}
 use Rattle.fields.specs.Reading.{read}
 use Rattle.question.specs.Form.{question-form, question-symbols}
 use Rattle.register.specs.Form.{register-form}
@@ -33,7 +33,7 @@ module _ {x y : List ℕ} {p q : PathExpr} (a : AsksFor x p) (b : AsksFor y q) (
       (λ h. plain-right r f q s t .1 (same r s t .0 (plain-right r f p s t .0 h)))
       (λ h. plain-right r f p s t .1 (same r s t .1 (plain-right r f q s t .0 h)))
 
-  by-register : (register work answer : List ℕ) (c : Answer Register) → read register-form register ≡ c → plain-call x register work answer ≡ plain-call y register work answer
+  by-register : (register work answer : List ℕ) (c : Result Register) → read register-form register ≡ c → plain-call x register work answer ≡ plain-call y register work answer
   unfolding plain-call
   by-register register work answer (refused n i) e = rw (a .reads, b .reads, e)
   by-register register work answer (got r) e =

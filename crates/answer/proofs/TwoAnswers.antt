@@ -13,12 +13,12 @@ use Rattle.theory.specs.Postfix.{path-of}
 use Rattle.theory.specs.Register.{Register, records}
 use Rattle.theory.specs.Sheet.{Sheet, sheet?, conforms?}
 use Rattle.theory.specs.Merging.{Member}
-use Rattle.theory.specs.Narrowing.{MemberFits, narrowed, narrow}
+use Rattle.theory.specs.Narrowing.{MemberFits, narrow}
 use Rattle.theory.specs.Evaluation.{plain-answer, narrowed-answer}
 use Rattle.theory.specs.Words.{answer-words}
 use Rattle.theory.proofs.Members.{narrow-fits}
 use Rattle.theory.proofs.Answers.{answer-words-equal, answer-words-subset}
-use Rattle.fields.specs.Answer.{got}
+use Rattle.theory.specs.Result.{got}
 use Rattle.fields.specs.Call.{accepts}
 use Rattle.fields.specs.Reading.{read}
 use Rattle.question.specs.Form.{question-form, question-symbols}
@@ -38,7 +38,7 @@ members-back (m ∷ ms) f =
     ∙ ap (λ (l : List Member). m ∷ l) (members-back ms (λ n i. f n (there i)))
 
 module _
-    (S : Sheet) (ok : T (sheet? S)) (q : PathExpr) (plain : T (plain? q)) (ms : List Member) (e : narrow S q ≡ narrowed ms)
+    (S : Sheet) (ok : T (sheet? S)) (q : PathExpr) (plain : T (plain? q)) (ms : List Member) (e : narrow S q ≡ got ms)
     (question register : List ℕ) (cs : List ℕ) (eq : read question-form question ≡ got cs) (ep : path-of (question-symbols cs) ≡ some q)
     (r : Register) (er : read register-form register ≡ got r) (work answer work′ answer′ : List ℕ)
     (accepted : plain-call question register work answer .outcome ≡ accepts tt)

@@ -24,12 +24,12 @@ use Rattle.narrowed_question.specs.Form.{Flat, narrowed-form}
 use Rattle.narrowed_question.specs.Members.{flat-path}
 
 -- the outcome, and the lent areas after the call
-pub record Result : Type 0 where
+pub record AnswerYield : Type 0 where
   pub outcome : Outcome (Unit {0})
   pub work : List ℕ
   pub answer : List ℕ
 
-abbrev pub result : Outcome (Unit {0}) → List ℕ → List ℕ → Result
+abbrev pub result : Outcome (Unit {0}) → List ℕ → List ℕ → AnswerYield
 result o work answer = record { outcome = o; work = work; answer = answer }
 
 -- ---- the areas
@@ -41,7 +41,7 @@ abbrev pub work-need : Register → ℕ
 work-need r = 28 * answer-need r
 
 -- 15, then 14, then the words of the pairs f
-unfoldable pub answered : Register → (ℕ → ℕ → Bool) → List ℕ → List ℕ → Result
+unfoldable pub answered : Register → (ℕ → ℕ → Bool) → List ℕ → List ℕ → AnswerYield
 answered r f work answer =
     cond (ltb (length work) (work-need r)) (result (refuses source.Work 15 (work-need r)) work answer)
     (cond (ltb (length answer) (answer-need r)) (result (refuses source.Work 14 (answer-need r)) (zeroed (work-need r) work) answer)
@@ -63,13 +63,13 @@ members-of [] = []
 members-of (m ∷ ms) = with-path m (flat-path m) (members-of ms)
 
 -- ---- the calls: the files' refusals leave the areas as they came
-unfoldable pub plain-call : List ℕ → List ℕ → List ℕ → List ℕ → Result
+unfoldable pub plain-call : List ℕ → List ℕ → List ℕ → List ℕ → AnswerYield
 plain-call question register work answer =
     reading (read question-form question) (λ n p. result (refuses source.Question n p) work answer)
     (λ cs. reading (read register-form register) (λ n p. result (refuses source.Register n p) work answer)
     (λ r. answered r (asked r (path-of (question-symbols cs))) work answer))
 
-unfoldable pub narrowed-call : List ℕ → List ℕ → List ℕ → List ℕ → Result
+unfoldable pub narrowed-call : List ℕ → List ℕ → List ℕ → List ℕ → AnswerYield
 narrowed-call narrowed register work answer =
     reading (read narrowed-form narrowed) (λ n p. result (refuses source.Narrowed n p) work answer)
     (λ ms. reading (read register-form register) (λ n p. result (refuses source.Register n p) work answer)

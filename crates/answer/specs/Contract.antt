@@ -16,10 +16,10 @@ use Rattle.narrowed_question.specs.declared.Members.{Members}
 use Rattle.narrowed_question.specs.Formed.{WellFormed}
 use Rattle.narrowed_question.specs.ArrayMembers.{given}
 use Rattle.rows.specs.Kept.{Kept}
-use Rattle.answer.specs.Calls.{Result}
+use Rattle.answer.specs.Calls.{AnswerYield}
 
 -- the outcome and both areas are what is due
-pub record Answers (due : Result) (o : declared·Outcome.Outcome) (xs ys : List ℕ) : Type 0 where
+pub record Answers (due : AnswerYield) (o : declared·Outcome.Outcome) (xs ys : List ℕ) : Type 0 where
   pub outcome : outcome-said o ≡ due .outcome
   pub work : xs ≡ due .work
   pub answer : ys ≡ due .answer

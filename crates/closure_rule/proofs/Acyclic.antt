@@ -7,8 +7,7 @@ use Prim.Native.Nat.{ℕ, _+_, _<_, _≤_}
 use native.Mathlib.Omega.{arith}
 use lib.ListN.{length}
 use Rattle.theory.specs.Lists.{filter}
-use Rattle.theory.specs.Inference.{Triple, triple, distinct, reach, acyclic?}
-use Rattle.theory.specs.Growth.{free}
+use Rattle.theory.specs.Inference.{Triple, triple, distinct, reach, acyclic?, free}
 use Rattle.triples.specs.declared.Node.{Node}
 use Rattle.triples.specs.Table.{Loaded}
 use Rattle.triples.specs.Paths.{triple-of}

@@ -12,13 +12,13 @@ use Rattle.theory.specs.Lists.{adjoin-all}
 use Rattle.theory.specs.PathExpr.{any, size}
 use Rattle.theory.specs.Inference.{Triple, triple?, distinct, end-to-end?, joined, of-join, walks}
 use Rattle.theory.specs.Narrowing.{short?}
-use Rattle.theory.specs.Growth.{grown, grow}
+use Rattle.algorithms.specs.Growth.{grown, grow}
 use Rattle.theory.proofs.Tests.{of-true, to-true}
 use Rattle.theory.proofs.Lists.{every-in, in-every, tabulate-in}
 use Rattle.theory.proofs.Distinct.{in-adjoin-all, adjoin-all-longer}
 use Rattle.theory.proofs.Triples.{in-pairs, pairs-in}
 use Rattle.theory.proofs.Walks.{level, in-walks, all-walks}
-use Rattle.theory.proofs.Growth.{grow-over, grow-turn, grow-longer, few-grown, many-grown}
+use Rattle.algorithms.proofs.Growth.{grow-over, grow-turn, grow-longer, few-grown, many-grown}
 use Rattle.symbols.specs.Symbols.{symbol-numbered}
 use Rattle.rows.specs.Kept.{Kept}
 use Rattle.rows.proofs.Words.{kept-refl, kept-trans}

@@ -8,8 +8,7 @@ use native.Mathlib.Omega.{arith}
 use lib.ListN.{length, length-take, length-drop, set}
 use Rattle.theory.specs.Lists.{guard, adjoin-all, concat-map, tabulate, range}
 use Rattle.theory.specs.PathExpr.{PathExpr, closure, codes, size}
-use Rattle.theory.specs.Inference.{Triple, triple, triple?, between, reach, meets-cyclic?}
-use Rattle.theory.specs.Growth.{kept-closures}
+use Rattle.theory.specs.Inference.{Triple, triple, triple?, between, reach, meets-cyclic?, kept-closures}
 use Rattle.rows.specs.Row.{row-bit}
 use Rattle.rows.proofs.Ranges.{some-no}
 use Rattle.triples.specs.declared.Node.{Node}

@@ -8,11 +8,10 @@ use native.Mathlib.Omega.{arith}
 use lib.ListN.{length}
 use Rattle.theory.specs.Lists.{adjoin-all, NoRepeat}
 use Rattle.theory.specs.PathExpr.{PathExpr}
-use Rattle.theory.specs.Inference.{Triple, triple?, distinct, reach, acyclic?, walks, of-closure}
+use Rattle.theory.specs.Inference.{Triple, triple?, distinct, reach, acyclic?, walks, of-closure, free, kept-closures}
 use Rattle.theory.specs.Narrowing.{short?}
-use Rattle.theory.specs.Growth.{free, kept-closures}
 use Rattle.theory.proofs.Distinct.{adjoin-all-longer}
-use Rattle.theory.proofs.Growth.{filter-norepeat, distinct-whole, closure-distinct, closure-short}
+use Rattle.algorithms.proofs.Growth.{filter-norepeat, distinct-whole, closure-distinct, closure-short}
 use Rattle.rows.specs.Kept.{Kept}
 use Rattle.rows.proofs.Words.{kept-trans}
 use Rattle.triples.specs.Paths.{original}

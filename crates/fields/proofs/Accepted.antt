@@ -5,7 +5,7 @@ use mathlib.Core.Path.{_≡_, refl}
 use mathlib.Core.List.{List}
 use lib.ListN.{take, drop}
 use native.Mathlib.Omega.{arith}
-use Rattle.fields.specs.Answer.{Answer, got, refused, onward}
+use Rattle.theory.specs.Result.{Result, got, refused, onward}
 use Rattle.fields.specs.Reading.{Field, ends, wrong, body, field-at, Form, after, walk}
 
 module _ (F : Form) (s : List ℕ) (P : F .State → ℕ → F .Value → Type 0)
@@ -14,7 +14,7 @@ module _ (F : Form) (s : List ℕ) (P : F .State → ℕ → F .Value → Type 0
     → F .judge st at (at + 3 + n) t (take n (drop (at + 3) s)) ≡ got st′ → P st′ (at + 3 + n) v → P st at v) where
   by-judge : (k : ℕ) (st : F .State) (at t n : ℕ) (v : F .Value) → field-at (F .due st) s at ≡ body t n
       → ((st′ : F .State) (at′ : ℕ) (v : F .Value) → walk F s k st′ at′ ≡ got v → P st′ at′ v)
-      → (a : Answer (F .State)) → F .judge st at (at + 3 + n) t (take n (drop (at + 3) s)) ≡ a
+      → (a : Result (F .State)) → F .judge st at (at + 3 + n) t (take n (drop (at + 3) s)) ≡ a
       → onward (λ st′. walk F s k st′ (at + 3 + n)) a ≡ got v → P st at v
   by-judge k st at t n v e ih (got st′) j h = at-body st at t n st′ v e j (ih st′ (at + 3 + n) v h)
   by-judge k st at t n v e ih (refused m p) j h = let z : _≡_ {A = ℕ} 0 1 = cc in absurd (omega arith)

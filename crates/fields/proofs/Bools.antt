@@ -4,7 +4,7 @@ use mathlib.Core.Path.{_≡_, refl, sym}
 use mathlib.Core.Bool.{Bool, true, false, cond, _&&_, false≢true}
 use Prim.Native.Nat.{ℕ}
 use native.Mathlib.Omega.{arith}
-use Rattle.fields.specs.Answer.{Answer, got, refused, onward}
+use Rattle.theory.specs.Result.{Result, got, refused, onward}
 
 -- a choice that is z, where one side is not z
 pub cond-else : {A : Type 0} (b : Bool) {x y z : A} → (x ≡ z → ⊥) → cond b x y ≡ z → (b ≡ false) × (y ≡ z)
@@ -27,12 +27,12 @@ pub not-got : {A : Type 0} (n p : ℕ) (x : A) → refused n p ≡ got x → ⊥
 not-got n p x e = let z : _≡_ {A = ℕ} 0 1 = cc in omega arith
 
 -- a chain of two that came to a value
-pub onward-got : {A B : Type 0} (f : A → Answer B) (a : Answer A) (y : B) → onward f a ≡ got y → (x : A) × (a ≡ got x) × (f x ≡ got y)
+pub onward-got : {A B : Type 0} (f : A → Result B) (a : Result A) (y : B) → onward f a ≡ got y → (x : A) × (a ≡ got x) × (f x ≡ got y)
 onward-got f (got x) y e = (x, refl, e)
 onward-got f (refused n p) y e = absurd (not-got n p y e)
 
 -- two chains from one answer are refused together, where each refusal after it is one of both
-pub refused-too : {A B C : Type 0} (f : A → Answer B) (g : A → Answer C) (i j : ℕ) (a : Answer A) → ((x : A) → f x ≡ refused i j → g x ≡ refused i j)
+pub refused-too : {A B C : Type 0} (f : A → Result B) (g : A → Result C) (i j : ℕ) (a : Result A) → ((x : A) → f x ≡ refused i j → g x ≡ refused i j)
     → onward f a ≡ refused i j → onward g a ≡ refused i j
 refused-too f g i j (got x) k e = k x e
 refused-too f g i j (refused n p) k e = cc
@@ -41,6 +41,6 @@ pub not-refused : {A B : Type 0} (x : A) (i j : ℕ) → got x ≡ refused i j �
 not-refused x i j e = let z : _≡_ {A = ℕ} 0 1 = cc in absurd (omega arith)
 
 -- an answer of whose value a part is told is refused where that is
-pub told-refused : {A B : Type 0} (f : A → B) (a : Answer A) (n p : ℕ) → refused n p ≡ onward (λ x. got (f x)) a → a ≡ refused n p
+pub told-refused : {A B : Type 0} (f : A → B) (a : Result A) (n p : ℕ) → refused n p ≡ onward (λ x. got (f x)) a → a ≡ refused n p
 told-refused f (got x) n p e = not-refused (f x) n p (sym e)
 told-refused f (refused m q) n p e = cc

@@ -6,7 +6,7 @@ use mathlib.Core.Path.{_≡_, refl, ap, _∙_}
 use mathlib.Core.List.{List}
 use lib.ListN.{length, take, drop}
 use native.Mathlib.Omega.{arith}
-use Rattle.fields.specs.Answer.{Answer, got, refused, onward}
+use Rattle.theory.specs.Result.{Result, got, refused, onward}
 use Rattle.fields.specs.Reading.{Field, ends, wrong, body, field-at, Form, after, walk, read}
 use Rattle.fields.proofs.Fields.{found}
 
@@ -15,7 +15,7 @@ pub suc-of : (k : ℕ) → 0 < k → (j : ℕ) × (k ≡ suc j)
 suc-of zero h = absurd (omega arith)
 suc-of (suc j) h = (j, refl)
 
-pub record Going (F : Form) (s : List ℕ) (A : Answer (F .Value)) (st : F .State) (at : ℕ) : Type 0 where
+pub record Going (F : Form) (s : List ℕ) (A : Result (F .Value)) (st : F .State) (at : ℕ) : Type 0 where
   pub k : ℕ
   pub fuel : length s ≤ k + at
   pub inside : at ≤ length s
@@ -25,7 +25,7 @@ pub going-start : (F : Form) (s : List ℕ) → Going F s (read F s) (F .start) 
 unfolding read
 going-start F s = record { k = length s; fuel = omega arith; inside = omega arith; rest = refl }
 
-module _ (F : Form) (s : List ℕ) (A : Answer (F .Value)) (st : F .State) (at : ℕ) (g : Going F s A st at) where
+module _ (F : Form) (s : List ℕ) (A : Result (F .Value)) (st : F .State) (at : ℕ) (g : Going F s A st at) where
   going-field : (d : Field) → field-at (F .due st) s at ≡ d → A ≡ after F s (λ st′ at′. walk F s (g .k) st′ at′) st at d
   unfolding walk
   going-field d e = g .rest ∙ ap (after F s (λ st′ at′. walk F s (g .k) st′ at′) st at) e
@@ -37,7 +37,7 @@ module _ (F : Form) (s : List ℕ) (A : Answer (F .Value)) (st : F .State) (at :
   going-wrong n p e = going-field (wrong n p) e
 
   module _ (t n : ℕ) (e : field-at (F .due st) s at ≡ body t n) where
-    going-judge : (a : Answer (F .State)) → F .judge st at (at + 3 + n) t (take n (drop (at + 3) s)) ≡ a
+    going-judge : (a : Result (F .State)) → F .judge st at (at + 3 + n) t (take n (drop (at + 3) s)) ≡ a
         → A ≡ onward (λ st′. walk F s (g .k) st′ (at + 3 + n)) a
     going-judge a j = going-field (body t n) e ∙ ap (onward (λ st′. walk F s (g .k) st′ (at + 3 + n))) j
 

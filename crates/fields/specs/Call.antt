@@ -9,14 +9,14 @@ use lib.ListN.{length, replicate}
 use lib.Seq.{sets}
 use Rattle.fields.specs.declared.Source.{Source}
 use Rattle.fields.specs.declared.Source.the-variants as source
-use Rattle.fields.specs.Answer.{Answer, got, refused}
+use Rattle.theory.specs.Result.{Result, got, refused}
 
 pub data Outcome (A : Type 0) : Type 0 where
   accepts : A → Outcome A
   refuses : Source → ℕ → ℕ → Outcome A
 
 -- a file is read, and the call goes on with its value, or with its refusal
-abbrev pub reading : {A R : Type 0} → Answer A → (ℕ → ℕ → R) → (A → R) → R
+abbrev pub reading : {A R : Type 0} → Result A → (ℕ → ℕ → R) → (A → R) → R
 reading (got x) refuse go = go x
 reading (refused n p) refuse go = refuse n p
 

@@ -3,14 +3,14 @@
 use mathlib.Core.Path.{_≡_}
 use mathlib.Core.List.{List, map}
 use Prim.Native.Nat.{ℕ}
-use Rattle.fields.specs.Answer.{Answer}
+use Rattle.theory.specs.Result.{Result}
 use Rattle.fields.specs.Reading.{Form, read}
 
 pub record Case (A : Type 0) : Type 0 where
   pub file : List ℕ
-  pub expected : Answer A
+  pub expected : Result A
 
-abbrev pub case : {A : Type 0} → List ℕ → Answer A → Case A
+abbrev pub case : {A : Type 0} → List ℕ → Result A → Case A
 case s a = record { file = s; expected = a }
 
 -- each file of a table is read as it says

@@ -13,7 +13,7 @@ use Rattle.fields.specs.declared.Written as declared·Written
 use Rattle.fields.specs.declared.Written.the-variants as written
 use Rattle.fields.specs.declared.Seen as declared·Seen
 use Rattle.fields.specs.declared.Seen.the-variants as seen
-use Rattle.fields.specs.Answer.{Answer, refused}
+use Rattle.theory.specs.Result.{Result, refused}
 use Rattle.fields.specs.Call.{Outcome, accepts, refuses, Size, size, Output}
 use Rattle.fields.specs.Reading.{Field, ends, wrong, body}
 
@@ -52,7 +52,7 @@ source-number Narrowed = 3
 source-number Register = 4
 source-number Work = 5
 
-abbrev pub refusal-said : {A : Type 0} → Refusal → Answer A
+abbrev pub refusal-said : {A : Type 0} → Refusal → Result A
 refusal-said r = refused (number-of r) (place-of r)
 
 abbrev pub outcome-said : declared·Outcome.Outcome → Outcome (Unit {0})

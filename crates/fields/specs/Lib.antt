@@ -1,4 +1,3 @@
-pub mod Answer
 pub mod Table
 pub mod Reading
 pub mod Writing

@@ -7,7 +7,7 @@ use Prim.Native.Nat.{ℕ, zero, suc, _+_, _*_}
 use lib.Dec.{leb, ltb}
 use lib.ListN.{length, getD, take, drop}
 use Rattle.fields.specs.declared.Due.{Due}
-use Rattle.fields.specs.Answer.{Answer, got, refused, onward}
+use Rattle.theory.specs.Result.{Result, got, refused, onward}
 use Rattle.fields.specs.Table.{among, rows}
 
 -- the number in two bytes, and in eight, the high one first
@@ -45,13 +45,13 @@ pub record Form : Type 1 where
   -- what is due
   pub due : State → Due
   -- what a field makes of the state, by its place, the place after it, its tag and its body: 3, 6, 4
-  pub judge : State → ℕ → ℕ → ℕ → List ℕ → Answer State
+  pub judge : State → ℕ → ℕ → ℕ → List ℕ → Result State
   -- what was read, at the file's end
   pub value : State → Value
 
 module _ (F : Form) (s : List ℕ) where
   -- what a field leads to, where `rest` reads on from a state and a place
-  abbrev pub after : (F .State → ℕ → Answer (F .Value)) → F .State → ℕ → Field → Answer (F .Value)
+  abbrev pub after : (F .State → ℕ → Result (F .Value)) → F .State → ℕ → Field → Result (F .Value)
   after rest st at ends = got (F .value st)
   after rest st at (wrong n p) = refused n p
   after rest st at (body t n) =
@@ -59,10 +59,10 @@ module _ (F : Form) (s : List ℕ) where
       onward (λ st′. rest st′ next) (F .judge st at next t (take n (drop (at + 3) s)))
 
   -- the fields from a place on, `k` of them at most
-  unfoldable pub walk : ℕ → F .State → ℕ → Answer (F .Value)
+  unfoldable pub walk : ℕ → F .State → ℕ → Result (F .Value)
   walk zero st at = refused 0 at
   walk (suc k) st at = after (λ st′ at′. walk k st′ at′) st at (field-at (F .due st) s at)
 
 -- a field has three bytes or more, so there are fewer fields than bytes, and `walk` never runs out
-unfoldable pub read : (F : Form) → List ℕ → Answer (F .Value)
+unfoldable pub read : (F : Form) → List ℕ → Result (F .Value)
 read F s = walk F s (suc (length s)) (F .start) 0

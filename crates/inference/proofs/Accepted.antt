@@ -7,7 +7,7 @@ use native.Mathlib.Omega.{arith}
 use lib.ListN.{length, getD, take, replicate, List·getD-append}
 use lib.Seq.{take-at}
 use Rattle.theory.specs.Postfix.{path-of}
-use Rattle.fields.specs.Answer.{got}
+use Rattle.theory.specs.Result.{got}
 use Rattle.fields.specs.Padded.{padded}
 use Rattle.fields.specs.Reading.{read}
 use Rattle.fields.proofs.Padded.{pad-length}

@@ -9,7 +9,7 @@ use lib.ListN.{length, getD, take, drop, replicate, length-append, length-drop, 
 use lib.Seq.{length-take-le, take-add, drop-at, getD-take, getD-drop}
 use Rattle.theory.specs.PathExpr.{any, through, PathExpr, Symbol, s-step, s-join, s-op, s-closure, postfix, code}
 use Rattle.theory.specs.Postfix.{Stack}
-use Rattle.theory.specs.Sorting.{set-of, sets-of}
+use Rattle.theory.specs.JoinSets.{set-of, sets-of}
 use Rattle.theory.proofs.Postfix.{path-of-postfix, symbols}
 use Rattle.symbols.specs.Symbols.{Numbered, numbered, symbol-numbered, number-symbol}
 use Rattle.symbols.proofs.Numbers.{symbol-comes}

@@ -12,7 +12,8 @@ use Rattle.theory.specs.PathExpr.{PathExpr, Symbol}
 use Rattle.theory.specs.Postfix.{Stack, go-on, read, top-and, ended}
 use Rattle.theory.specs.Sheet.{Sheet}
 use Rattle.theory.specs.Inference.{Triple, triples}
-use Rattle.theory.specs.Narrowing.{Outcome, refused, unless, refuse, part-fault}
+use Rattle.theory.specs.Narrowing.{Narrowing, unless, refuse, part-fault}
+use Rattle.theory.specs.Result.{refused}
 use Rattle.theory.proofs.Postfix.{single, push-symbols}
 use Rattle.fields.specs.declared.Refusal.{Refusal}
 use Rattle.fields.specs.declared.Refusal.the-variants.{TooMany, TooLong}
@@ -82,7 +83,7 @@ module _ {qs ws₀ ws t : List ℕ} {count K depth used i : ℕ} {xs : List Span
     part-ended = ap (λ (ks : List Symbol). ended ks (g .stack)) next ∙ ap (λ (o : Option Stack). top-and o (ended ss)) (u .pushes)
 
     -- the refusals, by the rule's outcome
-    by-outcome : (S : Sheet) → Sheeted t K S → (o : Outcome)
+    by-outcome : (S : Sheet) → Sheeted t K S → (o : Narrowing)
         → refuse (part-fault S) 0 (ended (symbols-of qs count) []) o ≡ unless (fault-of r) i (refuse (part-fault S) (i + 1) (ended ss st) o)
     by-outcome S k o =
         sym (g .left S k o)
@@ -93,7 +94,7 @@ module _ {qs ws₀ ws t : List ℕ} {count K depth used i : ℕ} {xs : List Span
         fault : part-fault S (u .top) ≡ fault-of r
         fault = sym (outcome-fault S (u .top)) ∙ ap (λ (ts : List Triple). fault-of (outcome ts)) (sym (u .is S k)) ∙ ap fault-of (sym (f .is))
 
-    refuses : (x : Refusal) → ((o : Outcome) → unless (fault-of r) i o ≡ refused (number-of x) (place-of x)) → Infers qs ws₀ ws′ t count K (Refused x)
+    refuses : (x : Refusal) → ((o : Narrowing) → unless (fault-of r) i o ≡ refused (number-of x) (place-of x)) → Infers qs ws₀ ws′ t count K (Refused x)
     refuses x e =
         record {
           kept = kept-more;

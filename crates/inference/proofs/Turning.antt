@@ -13,7 +13,7 @@ use Rattle.theory.specs.PathExpr.{PathExpr, step, closure, Symbol}
 use Rattle.theory.specs.Postfix.{Stack, two-operands, push, read, ended}
 use Rattle.theory.specs.Sheet.{Sheet}
 use Rattle.theory.specs.Inference.{Triple, distinct, of-closure, triples}
-use Rattle.theory.specs.Narrowing.{Outcome, refuse, part-fault}
+use Rattle.theory.specs.Narrowing.{Narrowing, refuse, part-fault}
 use Rattle.theory.proofs.Postfix.{symbols, Step, read-step}
 use Rattle.symbols.specs.Symbols.{symbol-numbered, arity}
 use Rattle.question.specs.Form.{question-symbols}
@@ -54,7 +54,7 @@ pub record Running (qs ws₀ ws t : List ℕ) (count K : ℕ) (path : PathExpr) 
   pub long : length xs ≡ 33
   pub so-far : symbols stack ≡ symbols-of qs i
   pub ahead : read (symbols-from qs count i) stack ≡ some (path ∷ [])
-  pub left : (S : Sheet) → Sheeted t K S → (o : Outcome) → refuse (part-fault S) i (ended (symbols-from qs count i) stack) o ≡ refuse (part-fault S) 0 (ended (symbols-of qs count) []) o
+  pub left : (S : Sheet) → Sheeted t K S → (o : Narrowing) → refuse (part-fault S) i (ended (symbols-from qs count i) stack) o ≡ refuse (part-fault S) 0 (ended (symbols-of qs count) []) o
 
 -- ---- the symbol with code c takes the parts from b on, which leaves the stack `below`, and makes the path `top`
 pub record Turn (qs ws t : List ℕ) (K : ℕ) (xs : List Span) (st : Stack) (c depth used i b : ℕ) : Type 0 where

@@ -11,7 +11,8 @@ use Rattle.theory.specs.PathExpr.{PathExpr, Symbol}
 use Rattle.theory.specs.Postfix.{path-of, ended}
 use Rattle.theory.specs.Sheet.{Sheet}
 use Rattle.theory.specs.Inference.{triples}
-use Rattle.theory.specs.Narrowing.{Outcome, refused, refuse, part-fault, short?}
+use Rattle.theory.specs.Narrowing.{Narrowing, refuse, part-fault, short?}
+use Rattle.theory.specs.Result.{refused}
 use Rattle.fields.specs.Contract.{number-of, place-of}
 use Rattle.question.specs.Form.{question-symbols}
 use Rattle.rows.specs.Kept.{Kept}
@@ -50,8 +51,8 @@ pub record Nodes (qs ws : List ℕ) (s e : ℕ) : Type 0 where
 
 -- the answer by a sheet, where the symbols end the parts ps and make the path q: the first refusal; or none, and the triples of the path
 abbrev pub Found : Sheet → List PathExpr → PathExpr → List ℕ → List ℕ → Inferred → Type 0
-Found S ps q qs ws (Triples s e) = ((o : Outcome) → refuse (part-fault S) 0 ps o ≡ o) × (part qs ws s e ≡ triples S q)
-Found S ps q qs ws (Refused f) = (o : Outcome) → refuse (part-fault S) 0 ps o ≡ refused (number-of f) (place-of f)
+Found S ps q qs ws (Triples s e) = ((o : Narrowing) → refuse (part-fault S) 0 ps o ≡ o) × (part qs ws s e ≡ triples S q)
+Found S ps q qs ws (Refused f) = (o : Narrowing) → refuse (part-fault S) 0 ps o ≡ refused (number-of f) (place-of f)
 
 pub record Infers (qs ws ws′ t : List ℕ) (count K : ℕ) (r : Inferred) : Type 0 where
   pub kept : Kept 0 4097 ws ws′

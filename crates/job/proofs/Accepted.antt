@@ -14,7 +14,7 @@ use Rattle.theory.specs.PathExpr.{PathExpr}
 use Rattle.theory.specs.Register.{Register, records}
 use Rattle.theory.specs.Sheet.{Sheet, conforms?, breach, Breached, conforming, unknown-kind, forbidden-link}
 use Rattle.theory.specs.Merging.{Member}
-use Rattle.theory.specs.Narrowing.{Outcome, refused, narrowed, narrow-symbols}
+use Rattle.theory.specs.Narrowing.{Narrowing, narrow-symbols}
 use Rattle.theory.specs.Evaluation.{plain-answer, narrowed-answer}
 use Rattle.theory.specs.Words.{answer-words}
 use Rattle.theory.proofs.Conformance.{breach-exact}
@@ -23,7 +23,7 @@ use Rattle.theory.proofs.Answers.{answer-words-equal}
 use Rattle.fields.specs.declared.Source.{Source}
 use Rattle.fields.specs.declared.Source.the-variants as source
 use Rattle.fields.specs.declared.Written.{Written}
-use Rattle.fields.specs.Answer.{Answer, got, refused as refused-file}
+use Rattle.theory.specs.Result.{Result, got, refused}
 use Rattle.fields.specs.Call.{accepts, Size, zeroed}
 use Rattle.fields.specs.Reading.{read}
 use Rattle.sheet.specs.Form.{sheet-form}
@@ -66,7 +66,7 @@ module _ (s q g work answer file : List ℕ) (z : Size) (e : job-call s q g work
       unfolding settled filled
       is-completed = is-settled ∙ rw (long, wide)
 
-      module _ (ms : List Member) (eb : breach S r ≡ none) (en : narrow-symbols S (question-symbols cs) ≡ narrowed ms) where
+      module _ (ms : List Member) (eb : breach S r ≡ none) (en : narrow-symbols S (question-symbols cs) ≡ got ms) where
         is-filed : job-call s q g work answer file ≡ result (with-answer r ms answer (file-of ms file)) (zeroed (job-need r) work)
         is-filed = is-completed ∙ rw (eb, en)
 
@@ -92,10 +92,10 @@ module _ (s q g work answer file : List ℕ) (z : Size) (e : job-call s q g work
               words = rw (is-filed, y);
             }
 
-      by-outcome : (b : Option ℕ) (o : Outcome) → breach S r ≡ b → narrow-symbols S (question-symbols cs) ≡ o → Due
+      by-outcome : (b : Option ℕ) (o : Narrowing) → breach S r ≡ b → narrow-symbols S (question-symbols cs) ≡ o → Due
       by-outcome none (refused n i) eb en = not-accepted source.Work n i z (rw (is-completed, eb, en) at e)
-      by-outcome none (narrowed ms) eb en = is-accepted ms eb en
-      by-outcome (some j) (narrowed ms) eb en = not-accepted source.Work 16 j z (rw (is-completed, eb, en) at e)
+      by-outcome none (got ms) eb en = is-accepted ms eb en
+      by-outcome (some j) (got ms) eb en = not-accepted source.Work 16 j z (rw (is-completed, eb, en) at e)
       by-outcome (some j) (refused n i) eb en = by-eleven (eqb n 11) refl
         where
           by-eleven : (t : Bool) → eqb n 11 ≡ t → Due
@@ -108,19 +108,19 @@ module _ (s q g work answer file : List ℕ) (z : Size) (e : job-call s q g work
     by-areas false true ea eb = not-accepted source.Work 14 (answer-need r) z (rw (is-settled, ea, eb) at e)
     by-areas false false ea eb = by-outcome ea eb (breach S r) (narrow-symbols S (question-symbols cs)) refl refl
 
-  by-register : (S : Sheet) → read sheet-form s ≡ got S → (cs : List ℕ) → read question-form q ≡ got cs → (a : Answer Register) → read register-form g ≡ a → Due
+  by-register : (S : Sheet) → read sheet-form s ≡ got S → (cs : List ℕ) → read question-form q ≡ got cs → (a : Result Register) → read register-form g ≡ a → Due
   unfolding job-call
-  by-register S es cs eq (refused-file n p) er = not-accepted source.Register n p z (rw (es, eq, er) at e)
+  by-register S es cs eq (refused n p) er = not-accepted source.Register n p z (rw (es, eq, er) at e)
   by-register S es cs eq (got r) er = by-areas S es cs eq r er (ltb (length work) (job-need r)) (ltb (length answer) (answer-need r)) refl refl
 
-  by-question : (S : Sheet) → read sheet-form s ≡ got S → (a : Answer (List ℕ)) → read question-form q ≡ a → Due
+  by-question : (S : Sheet) → read sheet-form s ≡ got S → (a : Result (List ℕ)) → read question-form q ≡ a → Due
   unfolding job-call
-  by-question S es (refused-file n p) eq = not-accepted source.Question n p z (rw (es, eq) at e)
+  by-question S es (refused n p) eq = not-accepted source.Question n p z (rw (es, eq) at e)
   by-question S es (got cs) eq = by-register S es cs eq (read register-form g) refl
 
-  by-sheet : (a : Answer Sheet) → read sheet-form s ≡ a → Due
+  by-sheet : (a : Result Sheet) → read sheet-form s ≡ a → Due
   unfolding job-call
-  by-sheet (refused-file n p) es = not-accepted source.Sheet n p z (rw es at e)
+  by-sheet (refused n p) es = not-accepted source.Sheet n p z (rw es at e)
   by-sheet (got S) es = by-question S es (read question-form q) refl
 
   pub accepted : Due

@@ -8,7 +8,7 @@ use Rattle.theory.specs.Register.{Register}
 use Rattle.theory.specs.Evaluation.{narrowed-answer}
 use Rattle.fields.specs.declared.Outcome.the-variants as outcome
 use Rattle.fields.specs.declared.Refusal.{Refusal}
-use Rattle.fields.specs.Answer.{got}
+use Rattle.theory.specs.Result.{got}
 use Rattle.fields.specs.Reading.{read}
 use Rattle.narrowed_question.specs.declared.Members.{Members}
 use Rattle.narrowed_question.specs.declared.Outcome as narrowed·Outcome

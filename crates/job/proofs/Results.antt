@@ -14,7 +14,7 @@ use Rattle.theory.specs.Postfix.{ended}
 use Rattle.theory.specs.Register.{Register, records}
 use Rattle.theory.specs.Sheet.{Sheet, breach}
 use Rattle.theory.specs.Merging.{Member, members}
-use Rattle.theory.specs.Narrowing.{Outcome, refused, narrowed, refuse, unless, part-fault, short?, few?, Fits}
+use Rattle.theory.specs.Narrowing.{Narrowing, refuse, unless, part-fault, short?, few?, Fits}
 use Rattle.theory.specs.Inference.{triples}
 use Rattle.theory.specs.Evaluation.{narrowed-answer}
 use Rattle.theory.specs.Words.{answer-words}
@@ -27,7 +27,7 @@ use Rattle.fields.specs.declared.Source.{Source}
 use Rattle.fields.specs.declared.Source.the-variants as source
 use Rattle.fields.specs.declared.Written.{Written}
 use Rattle.fields.specs.declared.Written.the-variants as written
-use Rattle.fields.specs.Answer.{got}
+use Rattle.theory.specs.Result.{got, refused}
 use Rattle.fields.specs.Call.{size}
 use Rattle.fields.specs.Reading.{read}
 use Rattle.fields.specs.Contract.{Files}
@@ -63,12 +63,12 @@ eleven-first none i = refl
 eleven-first (some j) i = refl
 
 -- a part is not refused by 11
-pub before-parts : (S : Sheet) (j : ℕ) (i : ℕ) (ps : List PathExpr) (ms : List Member) → with-breach (some j) (refuse (part-fault S) i ps (narrowed ms)) ≡ refused 16 j
+pub before-parts : (S : Sheet) (j : ℕ) (i : ℕ) (ps : List PathExpr) (ms : List Member) → with-breach (some j) (refuse (part-fault S) i ps (got ms)) ≡ refused 16 j
 unfolding part-fault
 before-parts S j i [] ms = refl
-before-parts S j i (p ∷ ps) ms = by-part (short? (triples S p)) (few? (triples S p)) (refuse (part-fault S) (suc i) ps (narrowed ms)) (before-parts S j (suc i) ps ms)
+before-parts S j i (p ∷ ps) ms = by-part (short? (triples S p)) (few? (triples S p)) (refuse (part-fault S) (suc i) ps (got ms)) (before-parts S j (suc i) ps ms)
   where
-    by-part : (a b : Bool) (o : Outcome) → with-breach (some j) o ≡ refused 16 j → with-breach (some j) (unless (cond a (cond b 0 12) 13) i o) ≡ refused 16 j
+    by-part : (a b : Bool) (o : Narrowing) → with-breach (some j) o ≡ refused 16 j → with-breach (some j) (unless (cond a (cond b 0 12) 13) i o) ≡ refused 16 j
     by-part false b o e = refl
     by-part true false o e = refl
     by-part true true o e = e
@@ -76,24 +76,24 @@ before-parts S j i (p ∷ ps) ms = by-part (short? (triples S p)) (few? (triples
 -- ---- the results
 module _ (r : Register) (file answer : List ℕ) {file′ : List ℕ} where
   -- a refusal leaves the answer as it came
-  pub gives-refused : (x : Outcome) (s : Source) (y : Refusal) → Files (narrow·Call.written x file) (written.Refused s y) file′ → Gives (completed r x answer file) (written.Refused s y) answer file′
+  pub gives-refused : (x : Narrowing) (s : Source) (y : Refusal) → Files (narrow·Call.written x file) (written.Refused s y) file′ → Gives (completed r x answer file) (written.Refused s y) answer file′
   gives-refused (refused n i) s y f = record { outcome = f .outcome; answer = refl; file = f .file }
-  gives-refused (narrowed ms) s y f =
+  gives-refused (got ms) s y f =
       let e = f .outcome in
       record { outcome = e; answer = rw (← e); file = f .file }
 
-  pub gives-filed : (x : Outcome) (ms : List Member) (m b : ℕ) {answer′ : List ℕ} → x ≡ narrowed ms → Files (narrow·Call.written x file) (written.File m b) file′
+  pub gives-filed : (x : Narrowing) (ms : List Member) (m b : ℕ) {answer′ : List ℕ} → x ≡ got ms → Files (narrow·Call.written x file) (written.File m b) file′
       → answer′ ≡ sets answer 0 (answer-words (records r) (narrowed-answer r ms)) → Gives (completed r x answer file) (written.File m b) answer′ file′
   gives-filed x ms m b {answer′} w f a =
-      subst (λ (y : Outcome). Gives (completed r y answer file) (written.File m b) answer′ file′) (sym w)
-      (let g = subst (λ (y : Outcome). Files (narrow·Call.written y file) (written.File m b) file′) w f in
+      subst (λ (y : Narrowing). Gives (completed r y answer file) (written.File m b) answer′ file′) (sym w)
+      (let g = subst (λ (y : Narrowing). Files (narrow·Call.written y file) (written.File m b) file′) w f in
       let e = g .outcome in
       record { outcome = e; answer = rw (← e) a; file = g .file })
 
 -- an outcome of which a file was told
-pub told-file : (file : List ℕ) {file′ : List ℕ} (x : Outcome) (m b : ℕ) → Files (narrow·Call.written x file) (written.File m b) file′ → (ms : List Member) × (x ≡ narrowed ms) × Filed ms file file′ (size m b)
+pub told-file : (file : List ℕ) {file′ : List ℕ} (x : Narrowing) (m b : ℕ) → Files (narrow·Call.written x file) (written.File m b) file′ → (ms : List Member) × (x ≡ got ms) × Filed ms file file′ (size m b)
 told-file file (refused n i) m b f = not-accepted source.Work n i (size m b) (sym (f .outcome))
-told-file file {file′} (narrowed ms) m b f = (ms, refl, subst (λ (l : List ℕ). Filed ms file l (size m b)) (sym (f .file)) (filed ms file (size m b) (sym (f .outcome))))
+told-file file {file′} (got ms) m b f = (ms, refl, subst (λ (l : List ℕ). Filed ms file l (size m b)) (sym (f .file)) (filed ms file (size m b) (sym (f .outcome))))
 
 module _ {qs t : List ℕ} {count K E : ℕ} (a : Asked qs t count K E) {register : List ℕ} {n w : ℕ} (ground : Ground register n w) {i : ℕ} (f : FirstUnnamed E (take count qs) i) where
   abbrev r : Register
@@ -130,7 +130,7 @@ module _ {qs t : List ℕ} {count K E : ℕ} (a : Asked qs t count K E) {registe
       files : (S : Sheet) → Tells t K E S → {p : Written} → o ≡ p → Files (narrow·Call.written (due S qs count register) file) p file₁
       files S d {p} z =
           subst (λ (x : Written). Files (narrow·Call.written (due S qs count register) file) x file₁) z
-          (subst (λ (x : Outcome). Files (narrow·Call.written x file) o file₁) (sym (is-rest S d)) (g .files S (d .handed .sheeted) (a .ready .path) (a .ready .is)))
+          (subst (λ (x : Narrowing). Files (narrow·Call.written x file) o file₁) (sym (is-rest S d)) (g .files S (d .handed .sheeted) (a .ready .path) (a .ready .is)))
 
       pub codes-refused : (s : Source) (y : Refusal) → o ≡ written.Refused s y → {answer : List ℕ} → Completes qs t count K E register n w work work₁ answer answer file file₁ (written.Refused s y)
       codes-refused s y z {answer} =
@@ -141,7 +141,7 @@ module _ {qs t : List ℕ} {count K E : ℕ} (a : Asked qs t count K E) {registe
 
       module _ (m bytes : ℕ) (z : o ≡ written.File m bytes) where
         module _ (S : Sheet) (d : Tells t K E S) where
-          abbrev told : (ms : List Member) × (due S qs count register ≡ narrowed ms) × Filed ms file file₁ (size m bytes)
+          abbrev told : (ms : List Member) × (due S qs count register ≡ got ms) × Filed ms file file₁ (size m bytes)
           told = told-file file (due S qs count register) m bytes (files S d z)
 
           fits : Fits (told .0)

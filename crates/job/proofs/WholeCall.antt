@@ -14,7 +14,7 @@ use Rattle.fields.specs.declared.Refusal.the-variants.{AreaShort, WorkShort}
 use Rattle.fields.specs.declared.Source.the-variants as source
 use Rattle.fields.specs.declared.Written.{Written}
 use Rattle.fields.specs.declared.Written.the-variants as written
-use Rattle.fields.specs.Answer.{got, refused}
+use Rattle.theory.specs.Result.{got, refused}
 use Rattle.fields.specs.Reading.{read}
 use Rattle.fields.specs.Contract.{number-of, place-of}
 use Rattle.sheet.specs.Form.{sheet-form}

@@ -11,8 +11,8 @@ use lib.Seq.{sets}
 use Rattle.theory.specs.Register.{Register, records}
 use Rattle.theory.specs.Sheet.{Sheet, breach}
 use Rattle.theory.specs.Merging.{Member}
-use Rattle.theory.specs.Narrowing as narrowing
-use Rattle.theory.specs.Narrowing.{refused, narrowed, narrow-symbols}
+use Rattle.theory.specs.Narrowing.{Narrowing, narrow-symbols}
+use Rattle.theory.specs.Result.{got, refused}
 use Rattle.theory.specs.Evaluation.{narrowed-answer}
 use Rattle.theory.specs.Words.{answer-words}
 use Rattle.fields.specs.declared.Source.the-variants as source
@@ -46,29 +46,29 @@ with-answer r ms answer f =
     output (f .outcome) (if-accepted (f .outcome) (sets answer 0 (answer-words (records r) (narrowed-answer r ms))) answer) (f .file)
 
 -- 11, 16, 12 or 13, or what comes of the members
-abbrev pub completed : Register → narrowing.Outcome → List ℕ → List ℕ → Output
+abbrev pub completed : Register → Narrowing → List ℕ → List ℕ → Output
 completed r (refused n i) answer file = output (refuses source.Work n i) answer file
-completed r (narrowed ms) answer file = with-answer r ms answer (file-of ms file)
+completed r (got ms) answer file = with-answer r ms answer (file-of ms file)
 
 -- 16 stands behind 11, and before 12 and 13
-abbrev pub with-breach : Option ℕ → narrowing.Outcome → narrowing.Outcome
+abbrev pub with-breach : Option ℕ → Narrowing → Narrowing
 with-breach none o = o
 with-breach (some i) (refused n p) = cond (eqb n 11) (refused n p) (refused 16 i)
-with-breach (some i) (narrowed ms) = refused 16 i
+with-breach (some i) (got ms) = refused 16 i
 
 -- 14 for the answer, or what comes of the narrowing
-unfoldable pub filled : Register → narrowing.Outcome → List ℕ → List ℕ → Output
+unfoldable pub filled : Register → Narrowing → List ℕ → List ℕ → Output
 filled r o answer file = cond (ltb (length answer) (answer-need r)) (output (refuses source.Work 14 (answer-need r)) answer file) (completed r o answer file)
 
 -- ---- the call
 -- the outcome, and the lent areas after the call
-pub record Result : Type 0 where
+pub record JobYield : Type 0 where
   pub outcome : Outcome Size
   pub work : List ℕ
   pub answer : List ℕ
   pub file : List ℕ
 
-abbrev pub result : Output → List ℕ → Result
+abbrev pub result : Output → List ℕ → JobYield
 result o work = record { outcome = o .outcome; work = work; answer = o .answer; file = o .file }
 
 unfoldable pub larger : ℕ → ℕ → ℕ
@@ -79,12 +79,12 @@ abbrev pub job-need : Register → ℕ
 job-need r = larger narrow-need (work-need r)
 
 -- 15, or what comes of it, after which the work words are zero
-unfoldable pub settled : Register → narrowing.Outcome → List ℕ → List ℕ → List ℕ → Result
+unfoldable pub settled : Register → Narrowing → List ℕ → List ℕ → List ℕ → JobYield
 settled r o work answer file =
     cond (ltb (length work) (job-need r)) (result (output (refuses source.Work 15 (job-need r)) answer file) work) (result (filled r o answer file) (zeroed (job-need r) work))
 
 -- the files' refusals leave the areas as they came
-unfoldable pub job-call : List ℕ → List ℕ → List ℕ → List ℕ → List ℕ → List ℕ → Result
+unfoldable pub job-call : List ℕ → List ℕ → List ℕ → List ℕ → List ℕ → List ℕ → JobYield
 job-call sheet question register work answer file =
     reading (read sheet-form sheet) (λ n p. result (output (refuses source.Sheet n p) answer file) work)
     (λ S. reading (read question-form question) (λ n p. result (output (refuses source.Question n p) answer file) work)

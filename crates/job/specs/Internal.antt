@@ -10,7 +10,7 @@ use Rattle.theory.specs.Sheet.{Sheet, sheet?}
 use Rattle.theory.specs.Evaluation.{narrowed-answer}
 use Rattle.fields.specs.declared.Outcome.the-variants as outcome
 use Rattle.fields.specs.declared.Written.{Written}
-use Rattle.fields.specs.Answer.{got}
+use Rattle.theory.specs.Result.{got}
 use Rattle.fields.specs.Reading.{read}
 use Rattle.fields.specs.Contract.{written-said}
 use Rattle.register.specs.Form.{register-in}

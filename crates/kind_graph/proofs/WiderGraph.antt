@@ -10,8 +10,7 @@ use lib.Dec.{T}
 use Rattle.theory.specs.Lists.{guard, filter, concat-map, tabulate, range}
 use Rattle.theory.specs.TransitiveClosure.{look, single}
 use Rattle.theory.specs.PathExpr.{PathExpr, closure}
-use Rattle.theory.specs.Inference.{Triple, triple, between, adjacent?, reach, cyclic?, leads?, meets-cyclic?, acyclic?, walks, of-closure}
-use Rattle.theory.specs.Growth.{free, kept-closures}
+use Rattle.theory.specs.Inference.{Triple, triple, between, adjacent?, reach, cyclic?, leads?, meets-cyclic?, acyclic?, walks, of-closure, free, kept-closures}
 use Rattle.theory.proofs.Tests.{bool-eq, never}
 use Rattle.theory.proofs.TransitiveClosure.{closure-sound, closure-complete}
 use Rattle.theory.proofs.Reach.{Inside, meets-walk, walk-closure, ends}

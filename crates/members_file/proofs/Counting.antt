@@ -8,7 +8,7 @@ use native.Mathlib.Omega.{arith}
 use lib.ListN.{length, length-append}
 use Rattle.theory.specs.PathExpr.{postfix, size}
 use Rattle.theory.specs.Merging.{Member, members}
-use Rattle.theory.specs.Sorting.{grouped}
+use Rattle.algorithms.specs.Sorting.{grouped}
 use Rattle.symbols.specs.Symbols.{Numbered, number-symbol}
 use Rattle.narrowed_question.specs.Form.{flat}
 use Rattle.fields.specs.Writing.{two-bytes, field-bytes}

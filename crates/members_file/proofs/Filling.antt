@@ -7,7 +7,7 @@ use native.Mathlib.Nat.{zero-add}
 use native.Mathlib.Omega.{arith}
 use lib.ListN.{length, length-map}
 use Rattle.theory.specs.Merging.{Member}
-use Rattle.theory.specs.Sorting.{grouped}
+use Rattle.algorithms.specs.Sorting.{grouped}
 use Rattle.symbols.specs.Symbols.{symbols-given}
 use Rattle.narrowed_question.specs.Form.{Flat, flat}
 use Rattle.fields.specs.Writing.{two-bytes, field-bytes}

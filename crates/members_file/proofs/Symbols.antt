@@ -14,7 +14,7 @@ use lib.Seq.{getD-set-same, getD-set-other}
 use borrow.Author.Tests.{ne-eqb}
 use Rattle.theory.specs.Lists.{tabulate}
 use Rattle.theory.specs.PathExpr.{any, through, PathExpr, Symbol, s-step, s-join, s-op, s-closure, postfix, code, codes}
-use Rattle.theory.specs.Sorting.{set-of, sets-of, Inferred, Marked}
+use Rattle.theory.specs.JoinSets.{set-of, sets-of, Inferred, Marked}
 use Rattle.theory.proofs.Tests.{of-true}
 use Rattle.theory.proofs.JoinSets.{symbols-by, inferred-marked}
 use Rattle.symbols.specs.Symbols.{Numbered, numbered, number-symbol, symbol-given, symbols-given}

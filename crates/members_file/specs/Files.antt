@@ -9,7 +9,7 @@ use lib.Dec.{eqb}
 use lib.ListN.{length, getD}
 use lib.Seq.{sets}
 use Rattle.theory.specs.Merging.{Member}
-use Rattle.theory.specs.Sorting.{grouped}
+use Rattle.algorithms.specs.Sorting.{grouped}
 use Rattle.symbols.specs.Symbols.{Numbered, symbol-given, symbols-given}
 use Rattle.narrowed_question.specs.Form.{flat}
 use Rattle.symbols.specs.Writing.{symbols-bytes}

@@ -8,7 +8,7 @@ use native.Mathlib.Omega.{arith}
 use lib.ListN.{length, getD}
 use borrow.Author.Tests.{lt-ltb, le-ltb, eq-eqb, ne-eqb}
 use Rattle.theory.specs.PathExpr.{codes, before?}
-use Rattle.theory.specs.Sorting.{sets-of}
+use Rattle.theory.specs.JoinSets.{sets-of}
 use Rattle.triples.specs.Paths.{triple-of}
 use Rattle.triples.specs.Expansion.{Expanded, Ready}
 use Rattle.symbols.proofs.Numbers.{length-codes}

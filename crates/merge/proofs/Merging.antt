@@ -15,10 +15,11 @@ use Rattle.theory.specs.Lists.{tabulate}
 use Rattle.theory.specs.KindSet.{singleton, set-union}
 use Rattle.theory.specs.PathExpr.{codes, before?, size}
 use Rattle.theory.specs.Merging.{Member, merged}
-use Rattle.theory.specs.Sorting.{grouped, alike?, sets-of, set-unions}
+use Rattle.theory.specs.JoinSets.{sets-of, set-unions}
+use Rattle.algorithms.specs.Sorting.{grouped, alike?}
 use Rattle.theory.proofs.Tests.{to-true}
 use Rattle.theory.proofs.Order.{trichotomy, codes-merge, merged-linked}
-use Rattle.theory.proofs.Sorting.{ahead-unlike, ahead-unlike′, codes-alike, group-takes, group-ends}
+use Rattle.algorithms.proofs.Sorting.{ahead-unlike, ahead-unlike′, codes-alike, group-takes, group-ends}
 use Rattle.theory.proofs.JoinSets.{merge-inferred, merged-sets}
 use Rattle.triples.specs.Paths.{triple-of}
 use Rattle.triples.specs.Expansion.{Expanded, Ready}

@@ -15,9 +15,9 @@ use Rattle.theory.specs.PathExpr.{PathExpr, plain?, links?, size}
 use Rattle.theory.specs.Sheet.{Sheet}
 use Rattle.theory.specs.Inference.{Triple, triples}
 use Rattle.theory.specs.Merging.{Member, of-triple, members}
-use Rattle.theory.specs.Sorting.{place, sorted, ahead?, grouped}
+use Rattle.algorithms.specs.Sorting.{place, sorted, ahead?, grouped}
 use Rattle.theory.proofs.Lists.{tabulate-in}
-use Rattle.theory.proofs.Sorting.{sorted-map, members-sorted}
+use Rattle.algorithms.proofs.Sorting.{sorted-map, members-sorted}
 use Rattle.theory.proofs.TriplePaths.{triples-linked, triples-inferred}
 use Rattle.rows.proofs.Words.{le-or-lt}
 use Rattle.triples.specs.Paths.{triple-of}

@@ -11,7 +11,8 @@ use Rattle.theory.specs.Lists.{tabulate}
 use Rattle.theory.specs.PathExpr.{codes, before?, links?, size}
 use Rattle.theory.specs.Inference.{Triple}
 use Rattle.theory.specs.Merging.{Member, of-triple}
-use Rattle.theory.specs.Sorting.{place, sorted, Inferred}
+use Rattle.theory.specs.JoinSets.{Inferred}
+use Rattle.algorithms.specs.Sorting.{place, sorted}
 use Rattle.triples.specs.Paths.{triple-of, Sound, Has}
 use Rattle.triples.specs.Parts.{part-of}
 use Rattle.merge.specs.Arrays.{segment}

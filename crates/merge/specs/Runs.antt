@@ -11,7 +11,8 @@ use lib.ListN.{length, getD}
 use Rattle.theory.specs.KindSet.{singleton, set-union}
 use Rattle.theory.specs.PathExpr.{codes, before?, links?, size}
 use Rattle.theory.specs.Merging.{Member}
-use Rattle.theory.specs.Sorting.{grouped, sets-of, set-unions, Inferred}
+use Rattle.theory.specs.JoinSets.{sets-of, set-unions, Inferred}
+use Rattle.algorithms.specs.Sorting.{grouped}
 use Rattle.triples.specs.Table.{node-at}
 use Rattle.triples.specs.Paths.{triple-of}
 use Rattle.merge.specs.declared.Ends.{Ends}

@@ -4,7 +4,7 @@ use mathlib.Core.Path.{refl}
 use mathlib.Core.List.{List, [], _∷_}
 use Rattle.theory.specs.PathExpr.{forward, through, step, join}
 use Rattle.theory.specs.Merging.{Member, member}
-use Rattle.fields.specs.Answer.{got, refused}
+use Rattle.theory.specs.Result.{got, refused}
 use Rattle.fields.specs.Case.{Case, case, AllRead}
 use Rattle.fields.specs.Table.{among, rows}
 use Rattle.fields.specs.Reading.{eight, fitting, field-at, walk, read}

@@ -11,11 +11,11 @@ use Rattle.theory.specs.PathExpr.{PathExpr, Symbol, postfix, size, code, codes,
 use Rattle.theory.specs.Postfix.{read as read-paths}
 use Rattle.theory.specs.Sheet.{Sheet, sheet?}
 use Rattle.theory.specs.Merging.{Member, Ascending}
-use Rattle.theory.specs.Narrowing.{narrow, narrowed, MemberFits, Fits}
+use Rattle.theory.specs.Narrowing.{narrow, MemberFits, Fits}
 use Rattle.theory.proofs.Tests.{to-true}
 use Rattle.theory.proofs.Postfix.{path-of-postfix, single}
 use Rattle.theory.proofs.Members.{narrow-fits}
-use Rattle.fields.specs.Answer.{got}
+use Rattle.theory.specs.Result.{got}
 use Rattle.fields.specs.Reading.{read}
 use Rattle.narrowed_question.specs.Form.{order-codes, narrowed-form}
 use Rattle.symbols.specs.Symbols.{Runs, number-symbol}
@@ -82,6 +82,6 @@ unfolding narrowed-file
 narrowed-file-read ms f = read-encode (map flat-of ms) (fits-formed ms f)
 
 -- the file of a narrowing is read as its members
-pub narrowed-back : (S : Sheet) → T (sheet? S) → (q : PathExpr) → T (plain? q) → (ms : List Member) → narrow S q ≡ narrowed ms
+pub narrowed-back : (S : Sheet) → T (sheet? S) → (q : PathExpr) → T (plain? q) → (ms : List Member) → narrow S q ≡ got ms
     → read narrowed-form (narrowed-file ms) ≡ got (map flat-of ms)
 narrowed-back S ok q plain ms e = narrowed-file-read ms (narrow-fits S ok q plain ms e)

@@ -8,7 +8,7 @@ use lib.ListN.{length, take, drop, set, length-set, replicate, length-append, le
 use lib.Dec.{eqb}
 use native.Mathlib.Omega.{arith}
 use Rattle.theory.specs.PathExpr.{before?}
-use Rattle.fields.specs.Answer.{Answer, got, refused}
+use Rattle.theory.specs.Result.{Result, got, refused}
 use Rattle.fields.specs.declared.Refusal.{Refusal}
 use Rattle.fields.specs.Contract.{refusal-said, number-of, place-of}
 use Rattle.fields.specs.Reading.{Field, ends, wrong, body, field-at, word, read}
@@ -44,11 +44,11 @@ reading-start : (s : List ℕ) → Reading s Head 0 0 0 0 0 (replicate 128 0) (r
 reading-start s = record { P = []; ms = []; f = 0; t = 0; xs = []; tracks = tracks-start s; filled = filled-start }
 
 -- of a refused file nothing is said of the arrays
-pub into-refused : {a : Answer (List Flat)} {r : Refusal} {sizes from to numbers sets : List ℕ} → a ≡ refusal-said r → ReadsInto a (outcome.Refused r) sizes from to numbers sets
+pub into-refused : {a : Result (List Flat)} {r : Refusal} {sizes from to numbers sets : List ℕ} → a ≡ refusal-said r → ReadsInto a (outcome.Refused r) sizes from to numbers sets
 into-refused e = record { outcome = ap counted (sym e); members = λ n h. let z : _≡_ {A = ℕ} 0 1 = cc in absurd (omega arith) }
 
 -- ---- the arrays by value
-module _ {a : Answer (List Flat)} {o : Outcome} {sizes from to numbers sets : List ℕ} (h : ReadsInto a o sizes from to numbers sets) {x : Outcome} {q : Members} where
+module _ {a : Result (List Flat)} {o : Outcome} {sizes from to numbers sets : List ℕ} (h : ReadsInto a o sizes from to numbers sets) {x : Outcome} {q : Members} where
   -- a refusal hands out no member
   pub reads-refused : {r : Refusal} → o ≡ outcome.Refused r → (x ≡ outcome.Refused r) × Packed [] q → Reads a x q
   reads-refused {r} e f =

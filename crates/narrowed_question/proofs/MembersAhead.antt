@@ -9,7 +9,7 @@ use lib.Dec.{leb}
 use borrow.Author.Tests.{leb-true}
 use Rattle.theory.specs.PathExpr.{before?}
 use Rattle.fields.specs.declared.File.the-variants as file
-use Rattle.fields.specs.Answer.{got}
+use Rattle.theory.specs.Result.{got}
 use Rattle.fields.specs.Reading.{word, eight}
 use Rattle.symbols.specs.Symbols.{Numbered}
 use Rattle.fields.proofs.Bools.{cond-then, not-got, and-left, and-right}

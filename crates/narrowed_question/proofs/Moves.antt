@@ -10,7 +10,7 @@ use native.Mathlib.Omega.{arith}
 use borrow.Author.Tests.{eqb-true, eqb-false}
 use Rattle.fields.specs.declared.File.the-variants as file
 use Rattle.symbols.specs.declared.Stack.{Stack}
-use Rattle.fields.specs.Answer.{got, refused, onward}
+use Rattle.theory.specs.Result.{got, refused, onward}
 use Rattle.fields.specs.Reading.{word, eight}
 use Rattle.symbols.specs.Symbols.{Numbered, numbered, symbol-in, push, arity}
 use Rattle.fields.proofs.Bools.{onward-got, refused-too, not-refused, cond-then, not-got}

@@ -11,7 +11,7 @@ use borrow.Author.Tests.{eqb-true, eqb-false, leb-true}
 use Rattle.theory.specs.PathExpr.{before?}
 use Rattle.fields.specs.declared.File.the-variants as file
 use Rattle.symbols.specs.declared.Stack.{Stack}
-use Rattle.fields.specs.Answer.{got, refused, onward}
+use Rattle.theory.specs.Result.{got, refused, onward}
 use Rattle.fields.specs.Table.{rows, tag-length}
 use Rattle.fields.specs.Reading.{ends, body, field-at, word, eight, read}
 use Rattle.symbols.specs.Symbols.{Numbered, symbol-in, arity, push, due-symbols}

@@ -10,7 +10,7 @@ use borrow.Author.Tests.{le-leb, eq-eqb, ne-eqb}
 use Rattle.theory.specs.PathExpr.{before?}
 use Rattle.fields.specs.declared.File.the-variants as file
 use Rattle.symbols.specs.declared.Stack.{Stack}
-use Rattle.fields.specs.Answer.{Answer, got}
+use Rattle.theory.specs.Result.{Result, got}
 use Rattle.fields.specs.Table.{among, rows}
 use Rattle.fields.specs.Reading.{eight, fitting, read}
 use Rattle.symbols.specs.Symbols.{Numbered, arity, push, due-symbols}
@@ -51,7 +51,7 @@ pub to-back : (m : Flat) → eight (head-body m) 9 ≡ m .to
 unfolding eight
 to-back m = eight-back (m .to)
 
-module _ (s : List ℕ) (A : Answer (List Flat)) where
+module _ (s : List ℕ) (A : Result (List Flat)) where
   -- a state is reached at a place from which r lies
   abbrev Reaches : State → List ℕ → Type 0
   Reaches st r = (a : ℕ) × Going narrowed-form s A st a × (drop a s ≡ r)

@@ -5,7 +5,7 @@ use mathlib.Core.List.{List, [], map}
 use Prim.Native.Nat.{ℕ, _-_}
 use lib.ListN.{length, take, drop, replicate}
 use Rattle.theory.specs.Lists.{concat-map}
-use Rattle.fields.specs.Answer.{Answer, got, refused, onward}
+use Rattle.theory.specs.Result.{Result, got, refused, onward}
 use Rattle.fields.specs.Contract.{refusal-said}
 use Rattle.symbols.specs.Symbols.{order-code}
 use Rattle.narrowed_question.specs.declared.Members.{Members}
@@ -40,19 +40,19 @@ pub record Packed (ms : List Flat) (q : Members) : Type 0 where
   pub sets : q .sets ≡ padded 6144 (sets-of ms)
 
 -- ---- the outcome
-abbrev pub outcome-said : Outcome → Answer ℕ
+abbrev pub outcome-said : Outcome → Result ℕ
 outcome-said (Accepted n) = got n
 outcome-said (Refused r) = refusal-said r
 
-abbrev pub counted : Answer (List Flat) → Answer ℕ
+abbrev pub counted : Result (List Flat) → Result ℕ
 counted a = onward (λ ms. got (length ms)) a
 
 -- the members read; none where the file is refused
-abbrev pub members-in : Answer (List Flat) → List Flat
+abbrev pub members-in : Result (List Flat) → List Flat
 members-in (got ms) = ms
 members-in (refused n p) = []
 
-pub record Reads (a : Answer (List Flat)) (o : Outcome) (q : Members) : Type 0 where
+pub record Reads (a : Result (List Flat)) (o : Outcome) (q : Members) : Type 0 where
   pub outcome : outcome-said o ≡ counted a
   pub members : Packed (members-in a) q
 
@@ -69,7 +69,7 @@ pub record Blank (a b c n m : List ℕ) : Type 0 where
   pub sets : m ≡ replicate 6144 0
 
 -- the members of an accepted file; of a refused one nothing is said
-pub record ReadsInto (a : Answer (List Flat)) (o : Outcome) (sizes from to numbers sets : List ℕ) : Type 0 where
+pub record ReadsInto (a : Result (List Flat)) (o : Outcome) (sizes from to numbers sets : List ℕ) : Type 0 where
   pub outcome : outcome-said o ≡ counted a
   pub members : (n : ℕ) → o ≡ Accepted n → Packed (members-in a) (arrays n sizes from to numbers sets)
 

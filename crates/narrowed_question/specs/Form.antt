@@ -10,7 +10,7 @@ use Rattle.theory.specs.PathExpr.{before?}
 use Rattle.fields.specs.declared.File.the-variants as file
 use Rattle.fields.specs.declared.Due.{Due}
 use Rattle.symbols.specs.declared.Stack.{Stack}
-use Rattle.fields.specs.Answer.{Answer, got, refused, onward}
+use Rattle.theory.specs.Result.{Result, got, refused, onward}
 use Rattle.fields.specs.Reading.{Form, word, eight}
 use Rattle.symbols.specs.Symbols.{Numbered, order-code, symbol-in, arity, push, due-symbols}
 
@@ -56,17 +56,17 @@ due (between left prev ms) = record { file = file.Narrowed; lo = 0x42; hi = 0x42
 due (within left prev ms o) = due-symbols file.Narrowed (o .stack)
 
 -- 41: the number of members, 0 to 128; refusal 3
-abbrev pub head-of : ℕ → List ℕ → Answer State
+abbrev pub head-of : ℕ → List ℕ → Result State
 head-of at b = cond (leb (word b 0) 128) (got (between (word b 0) [] [])) (refused 3 at)
 
 -- 42: the number of symbols, 1 to 48, and the two sets; refusal 3
-abbrev pub open-of : ℕ → List ℕ → Answer Open
+abbrev pub open-of : ℕ → List ℕ → Result Open
 open-of at b =
     cond (leb 1 (getD b 0 0) && leb (getD b 0 0) 48)
     (got (open-as at (eight b 1) (eight b 9) (record { left = getD b 0 0; depth = 0 }) [])) (refused 3 at)
 
 -- a symbol of the member, that leaves its stack as q: the member is done if none is due; refusal 4
-abbrev pub grown : ℕ → List ℕ → List Flat → Open → Numbered → Stack → Answer State
+abbrev pub grown : ℕ → List ℕ → List Flat → Open → Numbered → Stack → Result State
 grown left prev ms o x q =
     cond (eqb (q .left) 0)
     (cond (before? prev (order-codes (o .sofar ++ (x ∷ []))))
@@ -74,7 +74,7 @@ grown left prev ms o x q =
     (refused 4 (o .place)))
     (got (within left prev ms (open-as (o .place) (o .from) (o .to) q (o .sofar ++ (x ∷ [])))))
 
-abbrev pub judge : State → ℕ → ℕ → ℕ → List ℕ → Answer State
+abbrev pub judge : State → ℕ → ℕ → ℕ → List ℕ → Result State
 judge head at next t b = head-of at b
 judge (between left prev ms) at next t b = onward (λ o. got (within (left - 1) prev ms o)) (open-of at b)
 judge (within left prev ms o) at next t b =

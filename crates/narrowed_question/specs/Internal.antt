@@ -10,7 +10,7 @@ use Rattle.fields.specs.declared.File.the-variants as file
 use Rattle.fields.specs.declared.Due.{Due}
 use Rattle.symbols.specs.declared.Stack.{Stack}
 use Rattle.fields.specs.Table.{tag-length}
-use Rattle.fields.specs.Answer.{Answer, got, refused, onward}
+use Rattle.theory.specs.Result.{Result, got, refused, onward}
 use Rattle.fields.specs.Reading.{Field, field-at, word, eight}
 use Rattle.fields.specs.Reading as field
 use Rattle.fields.specs.Contract.{refusal-said}
@@ -35,11 +35,11 @@ pub data Move : Type 0 where
   last : ℕ → ℕ → ℕ → ℕ → Move
 
 -- 41
-unfoldable pub count-of : ℕ → List ℕ → Answer Move
+unfoldable pub count-of : ℕ → List ℕ → Result Move
 count-of at b = cond (leb (word b 0) 128) (got (go (Between (word b 0)))) (refused 3 at)
 
 -- 42
-unfoldable pub open-move : ℕ → ℕ → List ℕ → Answer Move
+unfoldable pub open-move : ℕ → ℕ → List ℕ → Result Move
 open-move l at b =
     cond (leb 1 (getD b 0 0) && leb (getD b 0 0) 48)
     (got (open-as (getD b 0 0) (eight b 1) (eight b 9) (Within (l - 1) at (record { left = getD b 0 0; depth = 0 })))) (refused 3 at)
@@ -48,10 +48,10 @@ open-move l at b =
 abbrev pub moved : ℕ → ℕ → Numbered → Stack → Move
 moved l p x q = cond (eqb (q .left) 0) (last (x .number) (x .set) l p) (more (x .number) (x .set) (Within l p q))
 
-unfoldable pub symbol-move : ℕ → ℕ → Stack → ℕ → ℕ → ℕ → List ℕ → Answer Move
+unfoldable pub symbol-move : ℕ → ℕ → Stack → ℕ → ℕ → ℕ → List ℕ → Result Move
 symbol-move l p q at next t b = onward (λ x. onward (λ q′. got (moved l p x q′)) (push q at next (arity (x .number)))) (symbol-in at t b)
 
-abbrev pub judged : Standing → ℕ → ℕ → ℕ → List ℕ → Answer Move
+abbrev pub judged : Standing → ℕ → ℕ → ℕ → List ℕ → Result Move
 judged Head at next t b = count-of at b
 judged (Between l) at next t b = open-move l at b
 judged (Within l p q) at next t b = symbol-move l p q at next t b
@@ -62,7 +62,7 @@ Ready Head t n = n ≡ tag-length 0x41
 Ready (Between l) t n = (n ≡ tag-length 0x42) × (0 < l)
 Ready (Within l p q) t n = (n ≡ symbol-length t) × ((0 < q .left) × (q .depth < 255))
 
-abbrev pub turn-said : Turn → Answer Move
+abbrev pub turn-said : Turn → Result Move
 turn-said turn.Ends = got ends
 turn-said (turn.Stop r) = refusal-said r
 turn-said (turn.Go st) = got (go st)
@@ -77,12 +77,12 @@ Able (Between l) = Unit {0}
 Able (Within l p q) = q .depth < 255
 
 -- by the field found at a place
-abbrev pub turned-by : Standing → ℕ → List ℕ → Field → Answer Move
+abbrev pub turned-by : Standing → ℕ → List ℕ → Field → Result Move
 turned-by st at s field.ends = got ends
 turned-by st at s (field.wrong n p) = refused n p
 turned-by st at s (field.body t n) = judged st at (at + 3 + n) t (take n (drop (at + 3) s))
 
-unfoldable pub turned : Standing → ℕ → List ℕ → Answer Move
+unfoldable pub turned : Standing → ℕ → List ℕ → Result Move
 turned st at s = turned-by st at s (field-at (due-of st) s at)
 
 abbrev pub marked : Standing → ℕ → ℕ → ℕ → ℕ → ℕ → Marks

@@ -12,7 +12,7 @@ use borrow.Author.Tests.{leb-true, lt-leb, le-leb}
 use Rattle.theory.specs.PathExpr.{before?}
 use Rattle.symbols.specs.declared.Stack.{Stack}
 use Rattle.fields.specs.Table.{rows, tag-length, field-size}
-use Rattle.fields.specs.Answer.{Answer, got, refused, onward}
+use Rattle.theory.specs.Result.{Result, got, refused, onward}
 use Rattle.symbols.specs.Symbols.{Numbered, arity, order-code, symbols-given}
 use Rattle.fields.proofs.Bools.{cond-then, not-got, onward-got, and-right}
 use Rattle.symbols.proofs.Symbols.{push-got}
@@ -160,10 +160,10 @@ module _ {q : Members} {i at prev first : ℕ} (r : AtMember q i at prev first) 
     found = take size (drop first (q .numbers))
 
     -- by whether the member is in order
-    abbrev ranked : Bool → ℕ → ℕ → Answer ℕ
+    abbrev ranked : Bool → ℕ → ℕ → Result ℕ
     ranked b j next = cond b (members-verdict (order-codes xs) next (members-given q (q .count - (i + 1)) j (first + size))) (refused 4 at)
 
-    abbrev onwards : ℕ → Answer ℕ
+    abbrev onwards : ℕ → Result ℕ
     onwards next = ranked (before? (segment-codes (q .numbers) prev first) (order-codes xs)) (i + 1) next
 
     same : member-verdict at (length xs) (numbers xs) ≡ member-verdict at size found

@@ -6,7 +6,7 @@ use mathlib.Core.List.{List}
 use lib.ListN.{length}
 use lib.Seq.{sets}
 use borrow.Author.Tests.{lt-leb, le-leb}
-use Rattle.fields.specs.Answer.{got, refused}
+use Rattle.theory.specs.Result.{got, refused}
 use Rattle.fields.specs.Reading.{read}
 use Rattle.narrowed_question.specs.declared.Members.{Members}
 use Rattle.narrowed_question.specs.Form.{narrowed-form}

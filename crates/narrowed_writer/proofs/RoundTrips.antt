@@ -9,7 +9,7 @@ use lib.Seq.{sets, sets-eq, take-append-seam}
 use lib.Dec.{leb}
 use native.Mathlib.Omega.{arith}
 use borrow.Author.Tests.{le-leb, leb-true}
-use Rattle.fields.specs.Answer.{Answer, got, refused}
+use Rattle.theory.specs.Result.{Result, got, refused}
 use Rattle.fields.specs.Reading.{read}
 use Rattle.fields.proofs.Bools.{not-got}
 use Rattle.fields.specs.Writing.{Bytes}
@@ -29,7 +29,7 @@ judged-given : (q : Members) (v : List Flat) → judgement q ≡ got v → v ≡
 unfolding judgement file-of
 judged-given q v e = by-verdict (verdict (given q)) (verdict-is (given q) (given-normal q))
   where
-    by-verdict : (a : Answer ℕ) → Whole (encode (given q)) (read narrowed-form (encode (given q))) (given q) a → v ≡ given q
+    by-verdict : (a : Result ℕ) → Whole (encode (given q)) (read narrowed-form (encode (given q))) (given q) a → v ≡ given q
     by-verdict (got n) w = let z : got v ≡ got (given q) = sym e ∙ w .0 in cc
     by-verdict (refused i j) w = absurd (not-got i j v (sym w ∙ e))
 
@@ -56,7 +56,7 @@ written-read q area n e = by-judgement (judgement q) refl e
         ∙ ap (read narrowed-form) (front area (file-of q) (leb-true (length (file-of q)) (length area) t))
         ∙ read-file q ∙ j ∙ ap got (judged-given q v j)
 
-    by-judgement : (a : Answer (List Flat)) → judgement q ≡ a → written a (file-of q) (length area) ≡ got n
+    by-judgement : (a : Result (List Flat)) → judgement q ≡ a → written a (file-of q) (length area) ≡ got n
         → read narrowed-form (take n (area-after a (file-of q) area)) ≡ got (given q)
     by-judgement (refused i j) h e = absurd (not-got i j n e)
     by-judgement (got v) h e = by-room (leb (length (file-of q)) (length area)) v refl h e

@@ -12,7 +12,7 @@ use Rattle.theory.specs.PathExpr.{before?}
 use Rattle.fields.specs.declared.File.the-variants as file
 use Rattle.symbols.specs.declared.Stack.{Stack}
 use Rattle.fields.specs.Table.{rows, tag-length, field-size}
-use Rattle.fields.specs.Answer.{Answer, got, refused, onward}
+use Rattle.theory.specs.Result.{Result, got, refused, onward}
 use Rattle.fields.specs.Reading.{read}
 use Rattle.symbols.specs.Symbols.{Numbered, numbered, operator-of, symbol-in, arity, push, due-symbols, symbols-given}
 use Rattle.fields.proofs.Bools.{and-left}
@@ -95,11 +95,11 @@ symbol-judged at x h = go (ltb (x .number) 128) (eqb (x .number) 255) refl refl
         rw (le-ltb (x .number) 134 (omega arith)) (ap (λ (m : ℕ). got (numbered 255 m)) (eight-back (x .set)) ∙ ap (λ (c : ℕ). got (numbered c (x .set))) (sym z))
     go false false p e =
         operator-judged at (x .number) (ltb (x .number) 134) (ltb-false (x .number) 128 p) refl
-        ∙ ap (λ (a : Answer Numbered). cond (ltb (x .number) 134) a (refused 3 at)) (plain e)
+        ∙ ap (λ (a : Result Numbered). cond (ltb (x .number) 134) a (refused 3 at)) (plain e)
         ∙ ap (λ (b : Bool). cond b (got x) (refused 3 at)) (or-false (ltb (x .number) 134))
 
 -- ---- a file, from a place on
-module _ (s : List ℕ) (A : Answer (List Flat)) where
+module _ (s : List ℕ) (A : Result (List Flat)) where
   -- a state is reached at a place from which r lies
   abbrev Reached : State → ℕ → List ℕ → Type 0
   Reached st a r = Going narrowed-form s A st a × (drop a s ≡ r)
@@ -134,7 +134,7 @@ module _ (s : List ℕ) (A : Answer (List Flat)) where
           subst (λ (a : ℕ). Reached st a r) next-is (going-more narrowed-form s A (within left prev ms o) at g (symbol-tag x) n (lies .seen) st (judged-as ∙ z), lies .after)
 
     -- the open member, of 42 at p, sets f and t and symbols xs in all: it is refused, or ends at a place, where its order decides
-    abbrev Ends : ℕ → ℕ → ℕ → List Numbered → List ℕ → Answer ℕ → Type 0
+    abbrev Ends : ℕ → ℕ → ℕ → List Numbered → List ℕ → Result ℕ → Type 0
     Ends p f t xs r (refused i j) = A ≡ refused i j
     Ends p f t xs r (got a) =
         (before? prev (order-codes xs) ≡ true → Reached (between left (order-codes xs) (ms ++ (flat f t xs ∷ []))) a r)
@@ -151,7 +151,7 @@ module _ (s : List ℕ) (A : Answer (List Flat)) where
         e′ : drop at s ≡ symbol-bytes x ++ r
         e′ = e ∙ ap (λ (m : List ℕ). m ++ r) (append-nil (symbol-bytes x))
 
-        by-offer : (a : Answer Stack) → offered (o .stack) at (x .number) ≡ a → Ends (o .place) (o .from) (o .to) (o .sofar ++ (x ∷ [])) r (onward (λ q′. got (at + symbol-size (x .number))) a)
+        by-offer : (a : Result Stack) → offered (o .stack) at (x .number) ≡ a → Ends (o .place) (o .from) (o .to) (o .sofar ++ (x ∷ [])) r (onward (λ q′. got (at + symbol-size (x .number))) a)
         by-offer (refused i j) z = symbol-refused o at x r g e′ (u .0) k i j (ap (onward (grown left prev ms o x)) z)
         by-offer (got q) z =
             let w : q .left ≡ 0 = omega (arith, offered-got (o .stack) at (x .number) q z .0) in
@@ -164,7 +164,7 @@ module _ (s : List ℕ) (A : Answer (List Flat)) where
         e′ : drop at s ≡ symbol-bytes x ++ (symbols-bytes ys ++ r)
         e′ = e ∙ append-assoc (symbol-bytes x) (symbols-bytes ys) r
 
-        by-offer : (a : Answer Stack) → offered (o .stack) at (x .number) ≡ a
+        by-offer : (a : Result Stack) → offered (o .stack) at (x .number) ≡ a
             → Ends (o .place) (o .from) (o .to) (o .sofar ++ (x ∷ ys)) r (onward (λ q′. path-verdict q′ (at + symbol-size (x .number)) (numbers ys)) a)
         by-offer (refused i j) z = symbol-refused o at x (symbols-bytes ys ++ r) g e′ (u .0) k i j (ap (onward (grown left prev ms o x)) z)
         by-offer (got q) z =
@@ -187,7 +187,7 @@ module _ (s : List ℕ) (A : Answer (List Flat)) where
       size = length (m .symbols)
 
       -- its 42, by whether the number of symbols is in range
-      abbrev opens : Bool → Answer State
+      abbrev opens : Bool → Result State
       opens b = cond b (got (within left prev ms (opened at m))) (refused 3 at)
 
       lies-42 : Lies (due (between (suc left) prev ms)) s at 0x42 (head-body m) (symbols-bytes (m .symbols) ++ r)
@@ -216,7 +216,7 @@ module _ (s : List ℕ) (A : Answer (List Flat)) where
       member-judged u = by-size (leb 1 size && leb size 48) refl u
 
   -- the members that are left: they are refused, or the file ends after them
-  abbrev pub Whole : List Flat → Answer ℕ → Type 0
+  abbrev pub Whole : List Flat → Result ℕ → Type 0
   Whole v (refused i j) = A ≡ refused i j
   Whole v (got a) = (A ≡ got v) × (a ≡ length s)
 
@@ -233,7 +233,7 @@ module _ (s : List ℕ) (A : Answer (List Flat)) where
     by-order true a w k = k a (w .0 refl)
     by-order false a w k = w .1 refl
 
-    by-member : (v : Answer ℕ) → Ends (length rest) prev ms at (m .from) (m .to) (m .symbols) (members-bytes rest) v → Follows
+    by-member : (v : Result ℕ) → Ends (length rest) prev ms at (m .from) (m .to) (m .symbols) (members-bytes rest) v → Follows
         → Whole (ms ++ (m ∷ rest)) (onward (λ next. cond (before? prev (order-codes (m .symbols))) (members-verdict (order-codes (m .symbols)) next rest) (refused 4 at)) v)
     by-member (refused i j) w k = w
     by-member (got a) w k = by-order (before? prev (order-codes (m .symbols))) a w k
@@ -250,11 +250,11 @@ module _ (s : List ℕ) (A : Answer (List Flat)) where
 
 -- the verdict is the reader's
 module _ (v : List Flat) (u : AllNormal v) where
-  abbrev A : Answer (List Flat)
+  abbrev A : Result (List Flat)
   A = read narrowed-form (encode v)
 
   -- 41, by whether the number of members is in range
-  abbrev begins : Bool → Answer State
+  abbrev begins : Bool → Result State
   begins b = cond b (got (between (length v) [] [])) (refused 3 0)
 
   lies-41 : Lies (due head) (encode v) 0 0x41 (two-bytes (length v)) (members-bytes v)

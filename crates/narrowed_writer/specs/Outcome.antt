@@ -8,7 +8,7 @@ use Prim.Native.Nat.{ℕ}
 use lib.Dec.{leb}
 use lib.ListN.{length}
 use lib.Seq.{sets}
-use Rattle.fields.specs.Answer.{Answer, got, refused}
+use Rattle.theory.specs.Result.{Result, got, refused}
 use Rattle.fields.specs.Reading.{read}
 use Rattle.narrowed_question.specs.declared.Members.{Members}
 use Rattle.narrowed_question.specs.Form.{Flat, narrowed-form}
@@ -19,12 +19,12 @@ use Rattle.narrowed_writer.specs.declared.Written.{Written}
 use Rattle.narrowed_writer.specs.declared.Written.the-variants as written-as
 
 -- ---- the outcome: the file's refusal; else 14 with the bytes needed; else the number of bytes
-abbrev pub written : Answer (List Flat) → List ℕ → ℕ → Answer ℕ
+abbrev pub written : Result (List Flat) → List ℕ → ℕ → Result ℕ
 written (refused n p) bytes room = refused n p
 written (got v) bytes room = cond (leb (length bytes) room) (got (length bytes)) (refused 14 (length bytes))
 
 -- the area after it: untouched by a refusal, and past the file
-abbrev pub area-after : Answer (List Flat) → List ℕ → List ℕ → List ℕ
+abbrev pub area-after : Result (List Flat) → List ℕ → List ℕ → List ℕ
 area-after (refused n p) bytes area = area
 area-after (got v) bytes area = cond (leb (length bytes) (length area)) (sets area 0 bytes) area
 
@@ -32,11 +32,11 @@ area-after (got v) bytes area = cond (leb (length bytes) (length area)) (sets ar
 unfoldable pub file-of : Members → List ℕ
 file-of q = encode (given q)
 
-unfoldable pub judgement : Members → Answer (List Flat)
+unfoldable pub judgement : Members → Result (List Flat)
 judgement q = read narrowed-form (file-of q)
 
 -- ---- what the code says
-abbrev pub written-said : Written → Answer ℕ
+abbrev pub written-said : Written → Result ℕ
 written-said (written-as.Accepted n) = got n
 written-said (written-as.Refused r) = refusal-said r
 

@@ -11,13 +11,12 @@ use borrow.Author.Tests.{lt-ltb, le-ltb}
 use Rattle.theory.specs.PathExpr.{PathExpr}
 use Rattle.theory.specs.Sheet.{Sheet}
 use Rattle.theory.specs.Merging.{Member}
-use Rattle.theory.specs.Narrowing as narrowing
-use Rattle.theory.specs.Narrowing.{narrow, narrow-symbols, Judged, unnamed, too-long, too-many, sound}
+use Rattle.theory.specs.Narrowing.{Narrowing, narrow, narrow-symbols, Judged, unnamed, too-long, too-many, sound}
 use Rattle.theory.proofs.Judgement.{narrow-exact}
 use Rattle.theory.proofs.Demand3.{narrow-path}
 use Rattle.fields.specs.declared.Source.{Source}
 use Rattle.fields.specs.declared.Source.the-variants as source
-use Rattle.fields.specs.Answer.{Answer, got, refused as refused-file}
+use Rattle.theory.specs.Result.{Result, got, refused}
 use Rattle.fields.specs.Call.{Outcome, accepts, refuses, Size, file-in}
 use Rattle.fields.proofs.Filing.{not-accepted}
 use Rattle.fields.specs.Reading.{read}
@@ -52,11 +51,11 @@ in-any (accepts ms) s n p e file = not-accepted s n p (file-size ms) (sym e)
 
 -- ---- never 14
 -- of what the sheet makes of the question: 11, 12 or 13
-abbrev Below14 : narrowing.Outcome → Type 0
-Below14 (narrowing.refused n i) = n < 14
-Below14 (narrowing.narrowed ms) = Unit {0}
+abbrev Below14 : Narrowing → Type 0
+Below14 (refused n i) = n < 14
+Below14 (got ms) = Unit {0}
 
-judged-below : (S : Sheet) (q : PathExpr) {o : narrowing.Outcome} → Judged S q o → Below14 o
+judged-below : (S : Sheet) (q : PathExpr) {o : Narrowing} → Judged S q o → Below14 o
 judged-below S q (unnamed f) = omega arith
 judged-below S q (too-long n f l) = omega arith
 judged-below S q (too-many n f h) = omega arith
@@ -67,24 +66,24 @@ abbrev Not14 : Outcome (List Member) → Type 0
 Not14 (refuses x n p) = source-number x ≡ 5 → n ≡ 14 → ⊥
 Not14 (accepts ms) = Unit {0}
 
-not-settled : (o : narrowing.Outcome) → Below14 o → (work : List ℕ) → (b : Bool) → ltb (length work) narrow-need ≡ b → Not14 (settled o work .outcome)
+not-settled : (o : Narrowing) → Below14 o → (work : List ℕ) → (b : Bool) → ltb (length work) narrow-need ≡ b → Not14 (settled o work .outcome)
 unfolding settled
 not-settled o h work true t = rw t (λ x e. omega arith)
-not-settled (narrowing.refused n i) h work false t = rw t (λ x e. omega arith)
-not-settled (narrowing.narrowed ms) h work false t = rw t tt
+not-settled (refused n i) h work false t = rw t (λ x e. omega arith)
+not-settled (got ms) h work false t = rw t tt
 
 module _ (s q work : List ℕ) where
-  by-question : (S : Sheet) → read sheet-form s ≡ got S → (a : Answer (List ℕ)) → read question-form q ≡ a → Not14 (members-call s q work .outcome)
+  by-question : (S : Sheet) → read sheet-form s ≡ got S → (a : Result (List ℕ)) → read question-form q ≡ a → Not14 (members-call s q work .outcome)
   unfolding members-call
-  by-question S es (refused-file n p) eq = rw (es, eq) (λ x e. omega arith)
+  by-question S es (refused n p) eq = rw (es, eq) (λ x e. omega arith)
   by-question S es (got cs) eq =
       let (r, a) = accepted-question q cs eq in
       let below = judged-below S r (narrow-exact S (accepted-sheet s S es) r (narrow S r) .0 refl) in
       rw (es, eq) (not-settled (narrow-symbols S (question-symbols cs)) (subst Below14 (narrow-path S r (question-symbols cs) (a .path)) below) work (ltb (length work) narrow-need) refl)
 
-  by-sheet : (a : Answer Sheet) → read sheet-form s ≡ a → Not14 (members-call s q work .outcome)
+  by-sheet : (a : Result Sheet) → read sheet-form s ≡ a → Not14 (members-call s q work .outcome)
   unfolding members-call
-  by-sheet (refused-file n p) es = rw es (λ x e. omega arith)
+  by-sheet (refused n p) es = rw es (λ x e. omega arith)
   by-sheet (got S) es = by-question S es (read question-form q) refl
 
   not-14 : Not14 (members-call s q work .outcome)

@@ -7,7 +7,7 @@ use native.Mathlib.Omega.{arith}
 use lib.ListN.{length}
 use lib.Seq.{sets}
 use Rattle.theory.specs.Merging.{Member, members}
-use Rattle.theory.specs.Sorting.{grouped}
+use Rattle.algorithms.specs.Sorting.{grouped}
 use Rattle.fields.specs.declared.Refusal.{Refusal}
 use Rattle.fields.specs.declared.Refusal.the-variants.{AreaShort}
 use Rattle.fields.specs.declared.Source.{Source}

@@ -12,7 +12,8 @@ use Rattle.theory.specs.Postfix.{path-of, ended}
 use Rattle.theory.specs.Sheet.{Sheet}
 use Rattle.theory.specs.Inference.{Triple, triples}
 use Rattle.theory.specs.Merging.{Member, members}
-use Rattle.theory.specs.Narrowing.{narrowed, short?}
+use Rattle.theory.specs.Narrowing.{short?}
+use Rattle.theory.specs.Result.{got}
 use Rattle.theory.proofs.Lists.{every-in}
 use Rattle.fields.specs.declared.Refusal.{Refusal}
 use Rattle.fields.specs.declared.Source.the-variants as source
@@ -55,7 +56,7 @@ module _ {qs ws t : List ℕ} {count K : ℕ} (h : Ready qs t count K) (n : narr
     part-refused f w u =
         record {
           kept = kept;
-          counts = λ S g q e. uncounted f u (ap outcome-of (found w S g q e (narrowed (members (triples S q)))));
+          counts = λ S g q e. uncounted f u (ap outcome-of (found w S g q e (got (members (triples S q)))));
         }
 
     module _ (s e : ℕ) (w : r ≡ Triples s e) where
@@ -85,7 +86,7 @@ module _ {qs ws t : List ℕ} {count K : ℕ} (h : Ready qs t count K) (n : narr
             kept = kept;
             counts = λ S g q x.
                 let z = found w S g q x in
-                let same = ap outcome-of (z .0 (narrowed (members (triples S q)))) ∙ ap (λ (l : List Triple). accepts (members l)) (sym (z .1)) in
+                let same = ap outcome-of (z .0 (got (members (triples S q)))) ∙ ap (λ (l : List Triple). accepts (members l)) (sym (z .1)) in
                 subst (λ (o : fields·Call.Outcome (List Member)). Counts qs ws′ o c) (sym same) d;
           }
 

@@ -12,7 +12,7 @@ use lib.ListN.{length, getD, take, drop, drop-of-length-le}
 use lib.Seq.{drop-cons, getD-take, length-take-le}
 use borrow.Author.Tests.{lt-ltb, le-ltb, le-leb, lt-leb}
 use Rattle.theory.specs.PathExpr.{through, s-join}
-use Rattle.theory.specs.Narrowing.{Outcome, refuse, unless, link-fault}
+use Rattle.theory.specs.Narrowing.{Narrowing, refuse, unless, link-fault}
 use Rattle.symbols.specs.Symbols.{operator-numbered, symbol-numbered}
 use Rattle.question.specs.Form.{question-symbols}
 use Rattle.rows.proofs.Words.{le-or-lt}
@@ -46,7 +46,7 @@ unnamed-never E c h = record { is = rw (le-ltb c 64 (omega arith), le-ltb c 128 
 -- ---- the search: what is left finds what the whole finds
 pub record Searching (E : ℕ) (codes : List ℕ) (count i : ℕ) : Type 0 where
   pub within : i ≤ count
-  pub left : (o : Outcome) → refuse (link-fault E) i (question-symbols (drop i (take count codes))) o ≡ refuse (link-fault E) 0 (question-symbols (take count codes)) o
+  pub left : (o : Narrowing) → refuse (link-fault E) i (question-symbols (drop i (take count codes))) o ≡ refuse (link-fault E) 0 (question-symbols (take count codes)) o
 
 pub search-start : (E : ℕ) (codes : List ℕ) (count : ℕ) → Searching E codes count 0
 search-start E codes count = record { within = omega arith; left = λ o. refl }
@@ -71,7 +71,7 @@ module _ (E : ℕ) (codes : List ℕ) (count : ℕ) (room : count ≤ length cod
       next : drop i cs ≡ c ∷ drop (suc i) cs
       next = drop-cons cs i 0 (omega (arith, many)) ∙ ap (λ (x : ℕ). x ∷ drop (suc i) cs) (getD-take count codes i 0 h ∙ sym e)
 
-      turn : (o : Outcome) → unless (cond r 11 0) i (refuse (link-fault E) (suc i) (question-symbols (drop (suc i) cs)) o) ≡ refuse (link-fault E) 0 (question-symbols cs) o
+      turn : (o : Narrowing) → unless (cond r 11 0) i (refuse (link-fault E) (suc i) (question-symbols (drop (suc i) cs)) o) ≡ refuse (link-fault E) 0 (question-symbols cs) o
       turn o =
           ap (λ (n : ℕ). unless n i (refuse (link-fault E) (suc i) (question-symbols (drop (suc i) cs)) o)) (sym (u .is))
           ∙ ap (λ (l : List ℕ). refuse (link-fault E) i (question-symbols l) o) (sym next)

@@ -9,14 +9,14 @@ use lib.Seq.{length-take-le}
 use borrow.Author.Tests.{lt-ltb, le-ltb}
 use Rattle.theory.specs.PathExpr.{Symbol}
 use Rattle.theory.specs.Sheet.{Sheet}
-use Rattle.theory.specs.Narrowing.{Outcome, refused, refuse, link-fault, narrow-read, narrow-symbols}
+use Rattle.theory.specs.Narrowing.{Narrowing, refuse, link-fault, narrow-read, narrow-symbols}
 use Rattle.fields.specs.declared.Refusal.{Refusal}
 use Rattle.fields.specs.declared.Refusal.the-variants.{UnnamedLink, WorkShort}
 use Rattle.fields.specs.declared.Source.{Source}
 use Rattle.fields.specs.declared.Source.the-variants as source
 use Rattle.fields.specs.declared.Written.{Written}
 use Rattle.fields.specs.declared.Written.the-variants as written
-use Rattle.fields.specs.Answer.{got, refused as refused-file}
+use Rattle.theory.specs.Result.{got, refused}
 use Rattle.fields.specs.Call.{refuses, zeroed}
 use Rattle.fields.specs.Reading.{read}
 use Rattle.fields.specs.Contract.{number-of, place-of}
@@ -41,7 +41,7 @@ module _ {qs t : List ℕ} {count K : ℕ} (h : Ready qs t count K) where
   ss = question-symbols (take count qs)
 
   -- what is left once the links are named
-  abbrev pub rest : Sheet → Outcome
+  abbrev pub rest : Sheet → Narrowing
   rest S = parted S (take count qs) (h .path)
 
   by-links : (S : Sheet) (E : ℕ) → S .link-names ≡ E → narrow-symbols S ss ≡ refuse (link-fault E) 0 ss (rest S)
@@ -63,7 +63,7 @@ module _ {qs t : List ℕ} {count K : ℕ} (h : Ready qs t count K) where
       codes-named l {ws′} g =
           record {
             kept = g .kept;
-            counts = λ S d. subst (λ (x : Outcome). Counts qs ws′ (outcome-of x) c) (sym (symbols-named l S (d .named))) (g .counts S (d .sheeted) (h .path) (h .is));
+            counts = λ S d. subst (λ (x : Narrowing). Counts qs ws′ (outcome-of x) c) (sym (symbols-named l S (d .named))) (g .counts S (d .sheeted) (h .path) (h .is));
           }
 
 -- ---- the work words: the need in code and in the definition
@@ -86,12 +86,12 @@ module _ (s q work : List ℕ) where
         zeroed = λ xs z. zero-words 0 (kept-refl 0 0 work) (rw (u .words) at z) (omega arith) ∙ sym (ap (λ (m : Found). m .work) e);
       }
 
-  pub sheet-refused : {p : Prepared} (x : Refusal) → read sheet-form s ≡ refused-file (number-of x) (place-of x) → Unprepared source.Sheet x p → Prepares s q work work p
+  pub sheet-refused : {p : Prepared} (x : Refusal) → read sheet-form s ≡ refused (number-of x) (place-of x) → Unprepared source.Sheet x p → Prepares s q work work p
   unfolding members-call
   sheet-refused x e u = untouched x (rw e) u
 
   module _ (S : Sheet) (e : read sheet-form s ≡ got S) where
-    pub question-refused : {p : Prepared} (x : Refusal) → read question-form q ≡ refused-file (number-of x) (place-of x) → Unprepared source.Question x p → Prepares s q work work p
+    pub question-refused : {p : Prepared} (x : Refusal) → read question-form q ≡ refused (number-of x) (place-of x) → Unprepared source.Question x p → Prepares s q work work p
     unfolding members-call
     question-refused x f u = untouched x (rw (e, f)) u
 

@@ -8,8 +8,8 @@ use Prim.Native.Nat.{ℕ}
 use lib.Dec.{ltb}
 use lib.ListN.{length}
 use Rattle.theory.specs.Merging.{Member}
-use Rattle.theory.specs.Narrowing as narrowing
-use Rattle.theory.specs.Narrowing.{refused, narrowed, narrow-symbols}
+use Rattle.theory.specs.Narrowing.{Narrowing, narrow-symbols}
+use Rattle.theory.specs.Result.{got, refused}
 use Rattle.fields.specs.declared.Source.the-variants as source
 use Rattle.fields.specs.Call.{Outcome, accepts, refuses, reading, Size, size, Output, output, file-in, zeroed}
 use Rattle.fields.specs.Reading.{read}
@@ -27,16 +27,16 @@ abbrev pub found : Outcome (List Member) → List ℕ → Found
 found o work = record { outcome = o; work = work }
 
 -- 11, 12 or 13, or the members
-abbrev pub outcome-of : narrowing.Outcome → Outcome (List Member)
+abbrev pub outcome-of : Narrowing → Outcome (List Member)
 outcome-of (refused n i) = refuses source.Work n i
-outcome-of (narrowed ms) = accepts ms
+outcome-of (got ms) = accepts ms
 
 -- "Work need: 8,192 words to narrow"
 unfoldable pub narrow-need : ℕ
 narrow-need = 8192
 
 -- 15, or what comes of it, after which the work words are zero
-unfoldable pub settled : narrowing.Outcome → List ℕ → Found
+unfoldable pub settled : Narrowing → List ℕ → Found
 settled o work = cond (ltb (length work) narrow-need) (found (refuses source.Work 15 narrow-need) work) (found (outcome-of o) (zeroed narrow-need work))
 
 -- the files' refusals leave the work words as they came
@@ -56,11 +56,11 @@ sized (refuses s n p) = refuses s n p
 sized (accepts ms) = accepts (file-size ms)
 
 -- the outcome, and the work words after the call
-pub record Sizing : Type 0 where
+pub record SizeYield : Type 0 where
   pub outcome : Outcome Size
   pub work : List ℕ
 
-unfoldable pub size-call : List ℕ → List ℕ → List ℕ → Sizing
+unfoldable pub size-call : List ℕ → List ℕ → List ℕ → SizeYield
 size-call sheet question work =
     let m = members-call sheet question work in
     record { outcome = sized (m .outcome); work = m .work }
@@ -76,19 +76,19 @@ in-area (refuses s n p) file = output (refuses s n p) file
 in-area (accepts ms) file = file-of ms file
 
 -- 11, 12 or 13, or what comes of the members
-abbrev pub written : narrowing.Outcome → List ℕ → Output
+abbrev pub written : Narrowing → List ℕ → Output
 written o file = in-area (outcome-of o) file
 
 -- the outcome, and the lent areas after the call
-pub record Result : Type 0 where
+pub record NarrowYield : Type 0 where
   pub outcome : Outcome Size
   pub work : List ℕ
   pub file : List ℕ
 
-abbrev pub result : Output → List ℕ → Result
+abbrev pub result : Output → List ℕ → NarrowYield
 result o work = record { outcome = o .outcome; work = work; file = o .file }
 
-unfoldable pub narrow-call : List ℕ → List ℕ → List ℕ → List ℕ → Result
+unfoldable pub narrow-call : List ℕ → List ℕ → List ℕ → List ℕ → NarrowYield
 narrow-call sheet question work file =
     let m = members-call sheet question work in
     result (in-area (m .outcome) file) (m .work)

@@ -11,31 +11,32 @@ use Rattle.theory.specs.Postfix.{path-of, ended}
 use Rattle.theory.specs.Sheet.{Sheet}
 use Rattle.theory.specs.Inference.{triples}
 use Rattle.theory.specs.Merging.{members}
-use Rattle.theory.specs.Narrowing.{Outcome, refused, narrowed, refuse, link-fault, part-fault}
+use Rattle.theory.specs.Narrowing.{Narrowing, refuse, link-fault, part-fault}
+use Rattle.theory.specs.Result.{got, refused}
 use Rattle.fields.specs.declared.Written.{Written}
 use Rattle.fields.specs.Contract.{written-said, Files}
 use Rattle.question.specs.Form.{question-symbols}
 use Rattle.rows.specs.Kept.{Kept}
 use Rattle.inference.specs.Questions.{Asking, Sheeted}
-use Rattle.narrowing.specs.Call.{Result, Sizing, narrow-need}
+use Rattle.narrowing.specs.Call.{NarrowYield, SizeYield, narrow-need}
 use Rattle.narrowing.specs.Call as call
 
 -- the outcome and both areas are what is due
-pub record Narrows (due : Result) (o : Written) (xs ys : List ℕ) : Type 0 where
+pub record Narrows (due : NarrowYield) (o : Written) (xs ys : List ℕ) : Type 0 where
   pub outcome : written-said o ≡ due .outcome
   pub work : xs ≡ due .work
   pub file : ys ≡ due .file
 
 -- the outcome and the work words
-pub record Sizes (due : Sizing) (o : Written) (xs : List ℕ) : Type 0 where
+pub record Sizes (due : SizeYield) (o : Written) (xs : List ℕ) : Type 0 where
   pub outcome : written-said o ≡ due .outcome
   pub work : xs ≡ due .work
 
 -- 11 at the r-th of the codes, or at none where r is their number
 pub record FirstUnnamed (E : ℕ) (cs : List ℕ) (r : ℕ) : Type 0 where
   pub within : r ≤ length cs
-  pub here : r < length cs → (o : Outcome) → refuse (link-fault E) 0 (question-symbols cs) o ≡ refused 11 r
-  pub nowhere : r ≡ length cs → (o : Outcome) → refuse (link-fault E) 0 (question-symbols cs) o ≡ o
+  pub here : r < length cs → (o : Narrowing) → refuse (link-fault E) 0 (question-symbols cs) o ≡ refused 11 r
+  pub nowhere : r ≡ length cs → (o : Narrowing) → refuse (link-fault E) 0 (question-symbols cs) o ≡ o
 
 -- the table and the numbers are those of sheet S
 pub record Handed (t : List ℕ) (K E : ℕ) (S : Sheet) : Type 0 where
@@ -54,8 +55,8 @@ pub record Ready (qs t : List ℕ) (count K : ℕ) : Type 0 where
   pub sheeted : Sheeted t K sheet
 
 -- 12 or 13, or the members, by any sheet of the table
-abbrev pub parted : Sheet → List ℕ → PathExpr → Outcome
-parted S cs q = refuse (part-fault S) 0 (ended (question-symbols cs) []) (narrowed (members (triples S q)))
+abbrev pub parted : Sheet → List ℕ → PathExpr → Narrowing
+parted S cs q = refuse (part-fault S) 0 (ended (question-symbols cs) []) (got (members (triples S q)))
 
 -- the same with 14 behind it
 pub record Infers-file (qs ws ws′ t : List ℕ) (count K : ℕ) (file file′ : List ℕ) (o : Written) : Type 0 where

@@ -11,8 +11,8 @@ use Rattle.theory.specs.Postfix.{path-of}
 use Rattle.theory.specs.Sheet.{Sheet}
 use Rattle.theory.specs.Inference.{Triple, triples}
 use Rattle.theory.specs.Merging.{Member}
-use Rattle.theory.specs.Sorting.{grouped}
-use Rattle.theory.specs.Narrowing.{Outcome, link-fault, narrow-symbols}
+use Rattle.algorithms.specs.Sorting.{grouped}
+use Rattle.theory.specs.Narrowing.{Narrowing, link-fault, narrow-symbols}
 use Rattle.fields.specs.declared.Refusal.{Refusal}
 use Rattle.fields.specs.declared.Source.{Source}
 use Rattle.fields.specs.declared.Written.{Written}

@@ -7,13 +7,13 @@ use lib.Dec.{T}
 use lib.ListN.{length-map, getD}
 use Rattle.theory.specs.PathExpr.{PathExpr}
 use Rattle.theory.specs.Sheet.{Sheet, sheet?, conforms?}
-use Rattle.theory.specs.Narrowing.{narrowed, narrow}
+use Rattle.theory.specs.Narrowing.{narrow}
 use Rattle.theory.specs.Demand3.{Demand3}
 use Rattle.theory.specs.NoIdle.{NoIdle}
 use Rattle.theory.proofs.Members.{narrow-fits}
 use Rattle.theory.proofs.Demand3.{demand3, narrow-path}
 use Rattle.theory.proofs.NoIdle.{no-idle}
-use Rattle.fields.specs.Answer.{Answer, got}
+use Rattle.theory.specs.Result.{Result, got}
 use Rattle.fields.specs.Call.{Size}
 use Rattle.fields.specs.Reading.{read}
 use Rattle.sheet.specs.Form.{sheet-form}
@@ -36,7 +36,7 @@ module _ {s q file file′ : List ℕ} {z : Size} (a : Accepted s q file file′
   valid : T (sheet? (a .sheet))
   valid = accepted-sheet s (a .sheet) (a .sheet-reads)
 
-  same : narrow (a .sheet) p ≡ narrowed (a .members)
+  same : narrow (a .sheet) p ≡ got (a .members)
   same = narrow-path (a .sheet) p (question-symbols (a .codes)) (k .path) ∙ a .narrows
 
   back : members-of (map flat-of (a .members)) ≡ a .members
@@ -77,7 +77,7 @@ module _ (sheet question register work answer area : List ℕ) (z : Size) (took 
 
   obeys : (S : Sheet) → read sheet-form sheet ≡ got S → T (conforms? S (a .register))
   obeys S e =
-      let f : _≡_ {A = Answer Sheet} (got (a .narrowing .sheet)) (got S) = sym (a .narrowing .sheet-reads) ∙ e in
+      let f : _≡_ {A = Result Sheet} (got (a .narrowing .sheet)) (got S) = sym (a .narrowing .sheet-reads) ∙ e in
       let same-sheet : a .narrowing .sheet ≡ S = cc in
       subst (λ (x : Sheet). T (conforms? x (a .register))) same-sheet (register-conforms a)
 
@@ -93,7 +93,7 @@ module _ (sheet question register work answer area : List ℕ) (z : Size) (took 
           r = a .register;
           register-reads = a .register-reads;
           conforms = obeys;
-          narrowed-same = λ work′ answer′ y i h. ap (λ (l : List ℕ). getD l i 0) e ∙ sym (agrees .equal (record { reads = a .register-reads; plain = ok; narrowed = y }) (obeys (agrees .S) (agrees .sheet-reads)) i h);
+          narrowed-same = λ work′ answer′ y i h. ap (λ (l : List ℕ). getD l i 0) e ∙ sym (agrees .equal (record { reads = a .register-reads; plain = ok; got = y }) (obeys (agrees .S) (agrees .sheet-reads)) i h);
           plain-same = λ work′ answer′ y i h.
               ap (λ (l : List ℕ). getD l i 0) e
               ∙ plain-word question register work answer (a .register) (a .register-reads) (a .narrowing .codes) p (a .narrowing .question-reads) (k .path) ok i h

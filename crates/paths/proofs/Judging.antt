@@ -5,7 +5,7 @@ use mathlib.Core.List.{List}
 use Prim.Native.Nat.{ℕ}
 use Rattle.fields.specs.declared.Refusal.{Refusal}
 use Rattle.fields.specs.declared.Source.{Source}
-use Rattle.fields.specs.Answer.{Answer, got, refused}
+use Rattle.theory.specs.Result.{Result, got, refused}
 use Rattle.fields.specs.Call.{accepts, refuses}
 use Rattle.fields.specs.Contract.{number-of, place-of}
 use Rattle.fields.specs.Reading.{read}
@@ -18,10 +18,10 @@ use Rattle.narrowed_question.specs.Contract.{Reads, outcome-said}
 use lib.ListN.{length}
 use Rattle.paths.specs.OutcomeNumbers.{judged}
 
-pub judged-refused : {A : Type 0} (s : Source) (a : Answer A) (n p : ℕ) → a ≡ refused n p → refuses s n p ≡ judged s a
+pub judged-refused : {A : Type 0} (s : Source) (a : Result A) (n p : ℕ) → a ≡ refused n p → refuses s n p ≡ judged s a
 judged-refused s a n p e = sym (ap (judged s) e)
 
-pub judged-accepted : {A : Type 0} (s : Source) (a : Answer A) (v : A) → a ≡ got v → accepts tt ≡ judged s a
+pub judged-accepted : {A : Type 0} (s : Source) (a : Result A) (v : A) → a ≡ got v → accepts tt ≡ judged s a
 judged-accepted s a v e = sym (ap (judged s) e)
 
 -- a narrowed question's file

@@ -12,7 +12,7 @@ use Rattle.theory.specs.Postfix.{path-of}
 use Rattle.theory.specs.Register.{Register}
 use Rattle.theory.specs.Demand3.{Demand3}
 use Rattle.theory.proofs.Demand3.{same-question}
-use Rattle.fields.specs.Answer.{got}
+use Rattle.theory.specs.Result.{got}
 use Rattle.fields.specs.Call.{Size}
 use Rattle.question.specs.Form.{question-symbols}
 use Rattle.answer.specs.Calls.{members-of, plain-call}
@@ -45,7 +45,7 @@ module _ {question short : List ℕ} {z : Size} (h : Shortens question short z) 
         cc
 
     of-short : {register work₁ answer₁ work₂ answer₂ : List ℕ} {r : Register} → Answers question file register work₁ answer₁ work₂ answer₂ r → Answers short file register work₁ answer₁ work₂ answer₂ r
-    of-short {register} {work₁} {answer₁} a = record { reads = a .reads; plain = ap (λ (x : answer.Result). x .outcome) (plain-same register work₁ answer₁) ∙ a .plain; narrowed = a .narrowed }
+    of-short {register} {work₁} {answer₁} a = record { reads = a .reads; plain = ap (λ (x : answer.AnswerYield). x .outcome) (plain-same register work₁ answer₁) ∙ a .plain; narrowed = a .narrowed }
 
     narrowed-same : Agrees sheet question file w
     narrowed-same =
@@ -63,9 +63,9 @@ module _ {question short : List ℕ} {z : Size} (h : Shortens question short z) 
           meaning = same-question (h .same-pairs) (subst (λ (x : PathExpr). Demand3 (g .S) x (members-of (g .flats))) read-path (g .meaning));
           no-idle = g .no-idle;
           equal = λ {register} {work = work₁} {answer = answer₁} {work′} {answer′} {r} a obeys k l.
-              g .equal (of-short a) obeys k l ∙ ap (λ (x : answer.Result). getD (x .answer) k 0) (plain-same register work₁ answer₁);
+              g .equal (of-short a) obeys k l ∙ ap (λ (x : answer.AnswerYield). getD (x .answer) k 0) (plain-same register work₁ answer₁);
           subset = λ {register} {work = work₁} {answer = answer₁} {work′} {answer′} {r} a k j l b.
-              subst (λ (x : answer.Result). T (bitOf (getD (x .answer) k 0) j)) (plain-same register work₁ answer₁) (g .subset (of-short a) k j l b);
+              subst (λ (x : answer.AnswerYield). T (bitOf (getD (x .answer) k 0) j)) (plain-same register work₁ answer₁) (g .subset (of-short a) k j l b);
         }
 
 pub answers-alike : (question area : List ℕ) (z : Size) → ShortenTook question area z → AnswersAlike question (short-file question area z)

@@ -14,7 +14,7 @@ use Rattle.theory.specs.Register.{Register}
 use Rattle.theory.specs.Sheet.{Sheet, conforms?}
 use Rattle.theory.specs.Demand3.{Demand3}
 use Rattle.theory.specs.NoIdle.{NoIdle}
-use Rattle.fields.specs.Answer.{got}
+use Rattle.theory.specs.Result.{got}
 use Rattle.fields.specs.Call.{accepts, Size}
 use Rattle.fields.specs.Reading.{read}
 use Rattle.sheet.specs.Form.{sheet-form}

@@ -5,7 +5,7 @@ use mathlib.Core.Path.{_≡_}
 use mathlib.Core.List.{List}
 use Prim.Native.Nat.{ℕ}
 use Rattle.fields.specs.declared.Source.{Source}
-use Rattle.fields.specs.Answer.{Answer}
+use Rattle.theory.specs.Result.{Result}
 use Rattle.fields.specs.Call.{Outcome, accepts, refuses, reading, Size, size, Output}
 use Rattle.fields.specs.Contract.{source-number}
 use Rattle.narrowing.specs.Call as narrow
@@ -13,7 +13,7 @@ use Rattle.answer.specs.Calls as answer
 use Rattle.job.specs.Call as job
 
 -- how a file is judged: accepted, or refused by number and place
-abbrev pub judged : {A : Type 0} → Source → Answer A → Outcome (Unit {0})
+abbrev pub judged : {A : Type 0} → Source → Result A → Outcome (Unit {0})
 judged s a = reading a (refuses s) (λ _. accepts tt)
 
 -- ---- in C
@@ -49,17 +49,17 @@ pub record Tells-file (o : Outcome Size) (t : Told) : Type 0 where
   pub only : t .number ≡ 0 → o ≡ accepts (size (t .first) (t .second))
 
 -- ---- the outcome and the areas are what is due
-pub record Answers (due : answer.Result) (t : Told) (xs ys : List ℕ) : Type 0 where
+pub record Answers (due : answer.AnswerYield) (t : Told) (xs ys : List ℕ) : Type 0 where
   pub outcome : Tells (due .outcome) t
   pub work : xs ≡ due .work
   pub answer : ys ≡ due .answer
 
-pub record Narrows (due : narrow.Result) (t : Told) (xs ys : List ℕ) : Type 0 where
+pub record Narrows (due : narrow.NarrowYield) (t : Told) (xs ys : List ℕ) : Type 0 where
   pub outcome : Tells-file (due .outcome) t
   pub work : xs ≡ due .work
   pub file : ys ≡ due .file
 
-pub record Sizes (due : narrow.Sizing) (t : Told) (xs : List ℕ) : Type 0 where
+pub record Sizes (due : narrow.SizeYield) (t : Told) (xs : List ℕ) : Type 0 where
   pub outcome : Tells-file (due .outcome) t
   pub work : xs ≡ due .work
 
@@ -67,13 +67,13 @@ pub record FilesTold (due : Output) (t : Told) (ys : List ℕ) : Type 0 where
   pub outcome : Tells-file (due .outcome) t
   pub file : ys ≡ due .file
 
-pub record Jobs (due : job.Result) (t : Told) (xs ys zs : List ℕ) : Type 0 where
+pub record Jobs (due : job.JobYield) (t : Told) (xs ys zs : List ℕ) : Type 0 where
   pub outcome : Tells-file (due .outcome) t
   pub work : xs ≡ due .work
   pub answer : ys ≡ due .answer
   pub file : zs ≡ due .file
 
 -- where 0 is told the plain answer of the question is accepted, and its words are these
-pub record Plain (due : answer.Result) (t : Told) (ys : List ℕ) : Type 0 where
+pub record Plain (due : answer.AnswerYield) (t : Told) (ys : List ℕ) : Type 0 where
   pub accepted : t .number ≡ 0 → due .outcome ≡ accepts tt
   pub answer : t .number ≡ 0 → ys ≡ due .answer

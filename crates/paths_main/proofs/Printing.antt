@@ -17,7 +17,7 @@ use Rattle.fields.specs.declared.Source.{Source}
 use Rattle.fields.specs.declared.Refusal.{Refusal}
 use Rattle.fields.specs.declared.Written.{Written}
 use Rattle.fields.specs.declared.Written.the-variants as written
-use Rattle.fields.specs.Answer.{got, refused}
+use Rattle.theory.specs.Result.{got, refused}
 use Rattle.fields.specs.Call.{Size, accepts, size}
 use Rattle.fields.specs.Reading.{read}
 use Rattle.fields.specs.Contract.{number-of, place-of, written-said}

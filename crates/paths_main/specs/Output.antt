@@ -10,7 +10,7 @@ use Rattle.theory.specs.Words.{row-words}
 use Rattle.relation.specs.Pairs.{pair-at}
 use Rattle.register.specs.Form.{register-in}
 use Rattle.register.specs.LinksAhead.{Accepted}
-use Rattle.job.specs.Call.{Result, job-call}
+use Rattle.job.specs.Call.{JobYield, job-call}
 use Rattle.printing.specs.Text.{answer-text, text-of}
 
 -- an area as the program lends it
@@ -18,7 +18,7 @@ unfoldable pub zeros : ℕ → List ℕ
 zeros n = replicate n 0
 
 -- the job as the program calls it
-unfoldable pub job-of : List ℕ → List ℕ → List ℕ → Result
+unfoldable pub job-of : List ℕ → List ℕ → List ℕ → JobYield
 job-of sheet question register = job-call sheet question register (zeros 8192) (zeros 256) (zeros 65536)
 
 -- what comes of it, as text

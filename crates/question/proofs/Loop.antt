@@ -10,7 +10,7 @@ use native.Mathlib.Omega.{arith}
 use borrow.Author.Tests.{leb-true}
 use Rattle.fields.specs.declared.File.the-variants as file
 use Rattle.symbols.specs.declared.Stack.{Stack}
-use Rattle.fields.specs.Answer.{got, refused, onward}
+use Rattle.theory.specs.Result.{got, refused, onward}
 use Rattle.fields.specs.Table.{rows, tag-length}
 use Rattle.fields.specs.Reading.{ends, wrong, body, field-at, read}
 use Rattle.symbols.specs.Symbols.{symbol-in, push, arity}

@@ -16,7 +16,7 @@ use Rattle.theory.proofs.Tests.{and-both}
 use Rattle.theory.proofs.Postfix.{postfix-path-of}
 use Rattle.fields.specs.declared.File.the-variants as file
 use Rattle.symbols.specs.declared.Stack.{Stack}
-use Rattle.fields.specs.Answer.{got}
+use Rattle.theory.specs.Result.{got}
 use Rattle.fields.specs.Table.{rows, among, tag-length}
 use Rattle.fields.specs.Reading.{ends, body, field-at, fitting, read}
 use Rattle.symbols.specs.Symbols.{Numbered, numbered, symbol-in, symbol-numbered, number-symbol, arity, push, due-symbols, Runs}

@@ -12,7 +12,7 @@ use lib.Seq.{getD-append-seam}
 use borrow.Author.Tests.{eqb-true}
 use Rattle.fields.specs.declared.File.the-variants as file
 use Rattle.symbols.specs.declared.Stack.{Stack}
-use Rattle.fields.specs.Answer.{got}
+use Rattle.theory.specs.Result.{got}
 use Rattle.fields.specs.Table.{rows, tag-length}
 use Rattle.fields.specs.Reading.{ends, body, field-at, read}
 use Rattle.symbols.specs.Symbols.{Numbered, numbered, symbol-in, arity, push, Fine}

@@ -18,7 +18,7 @@ use Rattle.theory.proofs.Postfix.{path-of-postfix, single}
 use Rattle.theory.proofs.Members.{plain-sets}
 use Rattle.theory.proofs.Walks.{size-pos}
 use Rattle.fields.specs.declared.File.the-variants as file
-use Rattle.fields.specs.Answer.{Answer, got}
+use Rattle.theory.specs.Result.{Result, got}
 use Rattle.fields.specs.Table.{among, rows}
 use Rattle.fields.specs.Reading.{fitting, read}
 use Rattle.fields.proofs.ReaderLoop.{Going, going-start, going-ends, going-more}
@@ -77,7 +77,7 @@ code-fits q c h = go (decLe 128 c)
     go (yes l) = rw (le-ltb c 128 l, ne-eqb c 255 (omega arith))
     go (no l) = rw (lt-ltb c 128 (omega arith))
 
-module _ (s : List ℕ) (A : Answer (List ℕ)) where
+module _ (s : List ℕ) (A : Result (List ℕ)) where
   symbols-forth : (ys : List ℕ) (q : Stack) (cs : List ℕ) (at : ℕ) → Going question-form s A (within q cs) at → drop at s ≡ symbols-bytes (numbered-codes ys) → Runs q (numbered-codes ys) → Small ys
       → length ys ≡ q .left → A ≡ got (cs ++ ys)
   symbols-forth [] q cs at g e u small l =

@@ -10,7 +10,7 @@ use Rattle.theory.specs.PathExpr.{Symbol}
 use Rattle.fields.specs.declared.File.the-variants as file
 use Rattle.fields.specs.declared.Due.{Due}
 use Rattle.symbols.specs.declared.Stack.{Stack}
-use Rattle.fields.specs.Answer.{Answer, got, refused, onward}
+use Rattle.theory.specs.Result.{Result, got, refused, onward}
 use Rattle.fields.specs.Reading.{Form}
 use Rattle.symbols.specs.Symbols.{Numbered, symbol-numbered, symbol-in, arity, push, due-symbols}
 
@@ -27,7 +27,7 @@ due head = due-head
 due (within q cs) = due-symbols file.Question q
 
 -- 21: the number of symbols, 1 to 32; refusal 3
-unfoldable pub head-of : ℕ → List ℕ → Answer ℕ
+unfoldable pub head-of : ℕ → List ℕ → Result ℕ
 head-of at b = cond (leb 1 (getD b 0 0) && leb (getD b 0 0) 32) (got (getD b 0 0)) (refused 3 at)
 
 -- a path of n symbols, none of them read
@@ -35,10 +35,10 @@ abbrev pub fresh : ℕ → State
 fresh n = within (record { left = n; depth = 0 }) []
 
 -- one symbol more
-abbrev pub one-more : Stack → List ℕ → ℕ → ℕ → Numbered → Answer State
+abbrev pub one-more : Stack → List ℕ → ℕ → ℕ → Numbered → Result State
 one-more q cs at next x = onward (λ q′. got (within q′ (cs ++ (x .number ∷ [])))) (push q at next (arity (x .number)))
 
-abbrev pub judge : State → ℕ → ℕ → ℕ → List ℕ → Answer State
+abbrev pub judge : State → ℕ → ℕ → ℕ → List ℕ → Result State
 judge head at next t b = onward (λ n. got (fresh n)) (head-of at b)
 judge (within q cs) at next t b = onward (one-more q cs at next) (symbol-in at t b)
 

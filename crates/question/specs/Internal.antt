@@ -7,7 +7,7 @@ use Rattle.fields.specs.declared.Due.{Due}
 use Rattle.fields.specs.declared.File.the-variants as file
 use Rattle.symbols.specs.declared.Stack.{Stack}
 use Rattle.fields.specs.Table.{tag-length}
-use Rattle.fields.specs.Answer.{Answer, got, onward}
+use Rattle.theory.specs.Result.{Result, got, onward}
 use Rattle.fields.specs.Contract.{refusal-said}
 use Rattle.symbols.specs.Symbols.{symbol-in, symbol-length, arity, push, due-symbols}
 use Rattle.question.specs.declared.Standing.{Standing}
@@ -24,7 +24,7 @@ pub data Move : Type 0 where
   go : Stack → Move
   more : ℕ → Stack → Move
 
-abbrev pub judged : Standing → ℕ → ℕ → ℕ → List ℕ → Answer Move
+abbrev pub judged : Standing → ℕ → ℕ → ℕ → List ℕ → Result Move
 judged Head at next t b = onward (λ n. got (go (record { left = n; depth = 0 }))) (head-of at b)
 judged (Within q) at next t b = onward (λ x. onward (λ q′. got (more (x .number) q′)) (push q at next (arity (x .number)))) (symbol-in at t b)
 
@@ -33,7 +33,7 @@ abbrev pub Ready : Standing → ℕ → ℕ → Type 0
 Ready Head t n = n ≡ tag-length 0x21
 Ready (Within q) t n = (n ≡ symbol-length t) × ((0 < q .left) × (q .depth < 255))
 
-abbrev pub turn-said : Turn → Answer Move
+abbrev pub turn-said : Turn → Result Move
 turn-said (turn.Stop r) = refusal-said r
 turn-said (turn.Go q) = got (go q)
 turn-said (turn.More c q) = got (more c q)

@@ -12,7 +12,7 @@ use Rattle.theory.specs.Lists.{every?}
 use Rattle.theory.specs.Register.{Edge, Register, records, kind, well-formed?}
 use Rattle.theory.proofs.Tests.{of-true, to-true}
 use Rattle.theory.proofs.Lists.{every-in}
-use Rattle.fields.specs.Answer.{Answer, got, refused}
+use Rattle.theory.specs.Result.{Result, got, refused}
 use Rattle.fields.specs.Reading.{read}
 use Rattle.fields.proofs.Bools.{and-left, and-right}
 use Rattle.fields.proofs.Fields.{found, ended}
@@ -77,7 +77,7 @@ pub accepted-sizes : (s : List ℕ) (n l : ℕ) → got (sizes n l) ≡ sized (r
 unfolding register-in
 accepted-sizes s n l h = by-answer (read register-form s) refl h
   where
-    by-answer : (a : Answer Register) → read register-form s ≡ a → got (sizes n l) ≡ sized a
+    by-answer : (a : Result Register) → read register-form s ≡ a → got (sizes n l) ≡ sized a
         → (read register-form s ≡ got (value-of a)) × (records (value-of a) ≡ n) × (length (value-of a .links) ≡ l)
     by-answer (got r) e h = let z : sizes n l ≡ sizes (records r) (length (r .links)) = cc in (e, sym (ap (λ p. p .records) z), sym (ap (λ p. p .links) z))
     by-answer (refused m p) e h = let z : _≡_ {A = ℕ} 0 1 = cc in absurd (omega arith)

@@ -5,7 +5,7 @@ use mathlib.Core.List.{List, [], _∷_}
 use Prim.Native.Nat.{ℕ}
 use Rattle.theory.specs.Register.{edge, Register}
 use Rattle.fields.specs.Case.{Case, case, AllRead}
-use Rattle.fields.specs.Answer.{got, refused}
+use Rattle.theory.specs.Result.{got, refused}
 use Rattle.fields.specs.Table.{among, rows}
 use Rattle.fields.specs.Reading.{read, walk, field-at, fitting}
 use Rattle.register.specs.Form.{register-form, head-of, kind-of, link-of, key}

@@ -9,7 +9,7 @@ use borrow.Author.Tests.{eqb-true}
 use lib.Dec.{eqb}
 use lib.ListN.{length, getD, take, drop}
 use Rattle.theory.specs.Register.{Edge}
-use Rattle.fields.specs.Answer.{got, refused, onward}
+use Rattle.theory.specs.Result.{got, refused, onward}
 use Rattle.fields.specs.Reading.{ends, wrong, body, field-at, read}
 use Rattle.fields.proofs.Bools.{and-left, and-right}
 use Rattle.fields.proofs.Fields.{found, ended}

@@ -8,7 +8,7 @@ use native.Mathlib.Omega.{arith}
 use borrow.Author.Tests.{lt-ltb, lt-leb, le-ltb, le-leb, ne-eqb}
 use lib.Dec.{eqb}
 use lib.ListN.{length, getD, take, drop}
-use Rattle.fields.specs.Answer.{got}
+use Rattle.theory.specs.Result.{got}
 use Rattle.fields.specs.declared.Due.{Due}
 use Rattle.fields.specs.Table.{among, rows, tag-length, field-size}
 use Rattle.fields.specs.Reading.{body, field-at, fitting, word, eight}

@@ -10,7 +10,7 @@ use lib.Dec.{eqb}
 use lib.ListN.{length, getD, take, drop}
 use Rattle.theory.specs.Register.{Edge, edge, Register, records, kind}
 use Rattle.fields.specs.Table.{rows, tag-length, field-size}
-use Rattle.fields.specs.Answer.{Answer, got, refused}
+use Rattle.theory.specs.Result.{Result, got, refused}
 use Rattle.fields.specs.Reading.{ends, body, field-at, word, read}
 use Rattle.fields.proofs.Bools.{and-left, and-right}
 use Rattle.fields.proofs.Fields.{found, ended, body-get}
@@ -184,7 +184,7 @@ pub kind-lies : (s : List ℕ) (i : ℕ) → i < records (register-in s) → (10
 unfolding register-in
 kind-lies s i h = by-answer (read register-form s) refl h
   where
-    by-answer : (a : Answer Register) → read register-form s ≡ a → i < records (value-of a) → (10 + 4 * i < length s) × (getD s (10 + 4 * i) 0 ≡ kind (value-of a) i)
+    by-answer : (a : Result Register) → read register-form s ≡ a → i < records (value-of a) → (10 + 4 * i < length s) × (getD s (10 + 4 * i) 0 ≡ kind (value-of a) i)
     by-answer (refused n p) e h = absurd (omega arith)
     by-answer (got v) e h =
         let r = kinds-at s 7 (v .kinds) i (placed s v e .kinds-lie) h in

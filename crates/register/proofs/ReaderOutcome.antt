@@ -5,7 +5,7 @@ use mathlib.Core.List.{List}
 use Prim.Native.Nat.{ℕ}
 use Rattle.theory.specs.Register.{records}
 use Rattle.fields.specs.declared.Refusal.{Refusal}
-use Rattle.fields.specs.Answer.{refused}
+use Rattle.theory.specs.Result.{refused}
 use Rattle.fields.specs.Reading.{read}
 use Rattle.fields.specs.Contract.{number-of, place-of}
 use Rattle.fields.proofs.Bools.{told-refused}

@@ -10,7 +10,7 @@ use lib.Dec.{leb, eqb}
 use lib.ListN.{length, getD, length-append}
 use Rattle.theory.specs.Lists.{every?}
 use Rattle.theory.specs.Register.{Edge}
-use Rattle.fields.specs.Answer.{got, onward}
+use Rattle.theory.specs.Result.{got, onward}
 use Rattle.fields.specs.Reading.{word}
 use Rattle.fields.proofs.Bools.{cond-then, and-left, and-right, not-got, onward-got}
 use Rattle.register.specs.declared.Progress.{Progress}

@@ -6,7 +6,7 @@ use Prim.Native.Nat.{ℕ}
 use lib.Dec.{eqb}
 use lib.ListN.{length}
 use Rattle.theory.specs.Register.{Register, records}
-use Rattle.fields.specs.Answer.{Answer, got, onward}
+use Rattle.theory.specs.Result.{Result, got, onward}
 use Rattle.fields.specs.Contract.{refusal-said}
 use Rattle.register.specs.declared.Progress.{Progress}
 use Rattle.register.specs.declared.Outcome.{Outcome}
@@ -22,13 +22,13 @@ pub record Sizes : Type 0 where
 abbrev pub sizes : ℕ → ℕ → Sizes
 sizes n l = record { records = n; links = l }
 
-abbrev pub outcome-said : Outcome → Answer Sizes
+abbrev pub outcome-said : Outcome → Result Sizes
 outcome-said (outcome.Accepted n l) = got (sizes n l)
 outcome-said (outcome.Refused r) = refusal-said r
 
-abbrev pub sized : Answer Register → Answer Sizes
+abbrev pub sized : Result Register → Result Sizes
 sized a = onward (λ r. got (sizes (records r) (length (r .links)))) a
 
 -- what a body is to the code
-unfoldable pub entry-of : Progress → ℕ → List ℕ → Answer Progress
+unfoldable pub entry-of : Progress → ℕ → List ℕ → Result Progress
 entry-of q at b = cond (eqb (q .kindless) 0) (link-of q at b) (kind-of q at b)

@@ -9,7 +9,7 @@ use lib.ListN.{getD}
 use Rattle.theory.specs.Register.{Edge, edge, Register}
 use Rattle.fields.specs.declared.File.the-variants as file
 use Rattle.fields.specs.declared.Due.{Due}
-use Rattle.fields.specs.Answer.{Answer, got, refused, onward}
+use Rattle.theory.specs.Result.{Result, got, refused, onward}
 use Rattle.fields.specs.Reading.{Form, word, read}
 use Rattle.register.specs.declared.Progress.{Progress}
 
@@ -36,7 +36,7 @@ due-entry q = record { file = file.Register; lo = due-tag q; hi = due-tag q; end
 abbrev pub after-head : List ℕ → Progress
 after-head b = record { records = word b 0; links = word b 2; kindless = word b 0; left = word b 2; floor = 0 }
 
-unfoldable pub head-of : ℕ → List ℕ → Answer Progress
+unfoldable pub head-of : ℕ → List ℕ → Result Progress
 head-of at b = cond (leb (word b 0) 1024 && leb (word b 2) 4096) (got (after-head b)) (refused 3 at)
 
 -- 32: the kind of the next record; refusal 3
@@ -46,7 +46,7 @@ kind? k = ltb k 64
 abbrev pub after-kind : Progress → Progress
 after-kind q = record { records = q .records; links = q .links; kindless = q .kindless - 1; left = q .left; floor = q .floor }
 
-unfoldable pub kind-of : Progress → ℕ → List ℕ → Answer Progress
+unfoldable pub kind-of : Progress → ℕ → List ℕ → Result Progress
 kind-of q at b = cond (kind? (getD b 0 0)) (got (after-kind q)) (refused 3 at)
 
 -- 33: a link between two of n records; refusals 3 and 4
@@ -63,7 +63,7 @@ key b = (word b 0 * 256 + getD b 2 0) * 65536 + word b 3
 abbrev pub after-link : Progress → List ℕ → Progress
 after-link q b = record { records = q .records; links = q .links; kindless = q .kindless; left = q .left - 1; floor = key b + 1 }
 
-unfoldable pub link-of : Progress → ℕ → List ℕ → Answer Progress
+unfoldable pub link-of : Progress → ℕ → List ℕ → Result Progress
 link-of q at b =
     cond (link? (q .records) (edge-of b)) (cond (leb (q .floor) (key b)) (got (after-link q b)) (refused 4 at)) (refused 3 at)
 
@@ -71,7 +71,7 @@ abbrev pub due : State → Due
 due start = due-head
 due (within q ks es) = due-entry q
 
-abbrev pub judge : State → ℕ → ℕ → ℕ → List ℕ → Answer State
+abbrev pub judge : State → ℕ → ℕ → ℕ → List ℕ → Result State
 judge start at next t b = onward (λ q. got (within q [] [])) (head-of at b)
 judge (within q ks es) at next t b =
     cond (eqb (q .kindless) 0)
@@ -89,7 +89,7 @@ abbrev pub register-form : Form
 register-form = record { State = State; Value = Register; start = start; due = due; judge = judge; value = value }
 
 -- the register in a file; one with no records where the file is refused
-abbrev pub value-of : Answer Register → Register
+abbrev pub value-of : Result Register → Register
 value-of (got r) = r
 value-of (refused n p) = no-register
 

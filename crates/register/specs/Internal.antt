@@ -6,7 +6,7 @@ use Prim.Native.Nat.{ℕ, _+_, _<_}
 use Rattle.theory.specs.Register.{records}
 use Rattle.fields.specs.declared.Due.{Due}
 use Rattle.fields.specs.Table.{tag-length}
-use Rattle.fields.specs.Answer.{Answer, got}
+use Rattle.theory.specs.Result.{Result, got}
 use Rattle.fields.specs.Contract.{refusal-said}
 use Rattle.register.specs.declared.Progress.{Progress}
 use Rattle.register.specs.declared.Position.{Position}
@@ -20,7 +20,7 @@ abbrev pub due-of : Position → Due
 due-of position.Start = due-head
 due-of (position.Within q) = due-entry q
 
-abbrev pub judged : Position → ℕ → List ℕ → Answer Progress
+abbrev pub judged : Position → ℕ → List ℕ → Result Progress
 judged position.Start at b = head-of at b
 judged (position.Within q) at b = entry-of q at b
 
@@ -29,10 +29,10 @@ abbrev pub Ready : Position → ℕ → Type 0
 Ready position.Start n = n ≡ tag-length 0x31
 Ready (position.Within q) n = (n ≡ tag-length (due-tag q)) × (0 < q .kindless + q .left)
 
-abbrev pub turn-said : Turn → Answer Progress
+abbrev pub turn-said : Turn → Result Progress
 turn-said (turn.Go q) = got q
 turn-said (turn.Stop r) = refusal-said r
 
-abbrev pub sizes-of : Position → Answer Sizes
+abbrev pub sizes-of : Position → Result Sizes
 sizes-of position.Start = got (sizes 0 0)
 sizes-of (position.Within q) = got (sizes (q .records) (q .links))

@@ -5,7 +5,7 @@ use mathlib.Core.List.{List, [], _∷_}
 use Prim.Native.Nat.{ℕ, _*_, _-_, _≤_}
 use lib.ListN.{length, drop}
 use Rattle.theory.specs.Register.{Edge}
-use Rattle.fields.specs.Answer.{got}
+use Rattle.theory.specs.Result.{got}
 use Rattle.fields.specs.Table.{field-size}
 use Rattle.fields.specs.Reading.{read}
 use Rattle.register.specs.declared.Links as declared·Links

@@ -5,7 +5,7 @@ use mathlib.Core.List.{List}
 use Prim.Native.Nat.{ℕ, _+_, _/_, _%_, _<_, _≤_}
 use lib.ListN.{length, getD, take, drop}
 use Rattle.fields.specs.Table.{tag-length, field-size}
-use Rattle.fields.specs.Answer.{got}
+use Rattle.theory.specs.Result.{got}
 use Rattle.fields.specs.Reading.{word, eight, body, field-at}
 use Rattle.register.specs.declared.Progress.{Progress}
 use Rattle.register.specs.Form.{due-entry}

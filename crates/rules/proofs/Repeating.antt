@@ -7,7 +7,7 @@ use Prim.Native.Nat.{ℕ, _+_, _<_, _≤_}
 use native.Mathlib.Omega.{arith}
 use Rattle.theory.specs.Lists.{adjoin-all}
 use Rattle.theory.specs.Inference.{Triple, triple?}
-use Rattle.theory.proofs.Growth.{adjoin-all-none}
+use Rattle.algorithms.proofs.Growth.{adjoin-all-none}
 use Rattle.theory.proofs.Triples.{triple-eq, triple-refl}
 use Rattle.rows.proofs.Words.{kept-refl}
 use Rattle.triples.specs.declared.Node.{Node}

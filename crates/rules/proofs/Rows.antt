@@ -9,7 +9,7 @@ use lib.ListN.{getD}
 use Rattle.theory.specs.Lists.{adjoin-all}
 use Rattle.theory.specs.PathExpr.{any}
 use Rattle.theory.specs.Inference.{Triple, triple?, of-join}
-use Rattle.theory.specs.Growth.{no-triple, grown}
+use Rattle.algorithms.specs.Growth.{no-triple, grown}
 use Rattle.theory.specs.Narrowing.{short?}
 use Rattle.theory.proofs.Lists.{tabulate-at}
 use Rattle.symbols.specs.Symbols.{symbol-numbered}

@@ -6,7 +6,7 @@ use mathlib.Core.List.{List, [], _∷_, _++_}
 use Prim.Native.Nat.{ℕ}
 use Rattle.theory.specs.Sheet.{Sheet}
 use Rattle.theory.specs.Register.{edge}
-use Rattle.fields.specs.Answer.{got, refused}
+use Rattle.theory.specs.Result.{got, refused}
 use Rattle.fields.specs.Case.{Case, case, AllRead}
 use Rattle.fields.specs.Reading.{read, walk, field-at, fitting}
 use Rattle.fields.specs.Table.{among, rows}

@@ -13,7 +13,7 @@ use Rattle.theory.specs.Sheet.{Sheet, sheet?}
 use Rattle.theory.proofs.Tests.{tests}
 use Rattle.theory.proofs.Sheet.{kinds-fit, names-fit}
 use Rattle.fields.specs.declared.Refusal.{Refusal}
-use Rattle.fields.specs.Answer.{Answer, got, refused, onward}
+use Rattle.theory.specs.Result.{Result, got, refused, onward}
 use Rattle.fields.specs.Reading.{ends, wrong, body, field-at, read}
 use Rattle.fields.specs.Table.{tag-length, rows}
 use Rattle.fields.specs.Contract.{refusal-said}
@@ -56,7 +56,7 @@ unfolding table-of
 progress-start s = record { es = []; going = going-start sheet-form s; holds = refl; filled = refl }
 
 -- ---- what is returned
-pub reads-refused : (a : Answer Sheet) (r : Refusal) (o : Outcome) (t : List ℕ) → a ≡ refusal-said r → (o ≡ outcome.Refused r) × (t ≡ replicate 4096 0) → Reads a o t
+pub reads-refused : (a : Result Sheet) (r : Refusal) (o : Outcome) (t : List ℕ) → a ≡ refusal-said r → (o ≡ outcome.Refused r) × (t ≡ replicate 4096 0) → Reads a o t
 reads-refused a r o t e h = record { outcome = ap outcome-said (h .0) ∙ ap sizes (sym e); table = h .1 ∙ ap table-in (sym e) }
 
 module _ (s : List ℕ) (at : ℕ) (table : List ℕ) where

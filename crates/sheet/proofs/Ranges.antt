@@ -10,7 +10,7 @@ use Rattle.theory.specs.Lists.{every?}
 use Rattle.theory.specs.Register.{Edge}
 use Rattle.theory.specs.Sheet.{Sheet, in-range?, sheet?}
 use Rattle.theory.proofs.Tests.{tests, and-left, and-right, and-both, of-true}
-use Rattle.fields.specs.Answer.{got}
+use Rattle.theory.specs.Result.{got}
 use Rattle.fields.specs.Reading.{ends, body, field-at, read}
 use Rattle.fields.proofs.Bools.{cond-then, not-got, onward-got}
 use Rattle.fields.proofs.Fields.{ended}

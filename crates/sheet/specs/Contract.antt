@@ -4,7 +4,7 @@ use mathlib.Core.Path.{_≡_}
 use mathlib.Core.List.{List}
 use Prim.Native.Nat.{ℕ}
 use Rattle.theory.specs.Sheet.{Sheet}
-use Rattle.fields.specs.Answer.{Answer, got, onward}
+use Rattle.theory.specs.Result.{Result, got, onward}
 use Rattle.fields.specs.Contract.{refusal-said}
 use Rattle.sheet.specs.declared.Outcome.{Outcome}
 use Rattle.sheet.specs.declared.Outcome.the-variants as outcome
@@ -15,14 +15,14 @@ pub record Sizes : Type 0 where
   pub kinds : ℕ
   pub links : ℕ
 
-abbrev pub outcome-said : Outcome → Answer Sizes
+abbrev pub outcome-said : Outcome → Result Sizes
 outcome-said (outcome.Accepted k e) = got (record { kinds = k; links = e })
 outcome-said (outcome.Refused r) = refusal-said r
 
-abbrev pub sizes : Answer Sheet → Answer Sizes
+abbrev pub sizes : Result Sheet → Result Sizes
 sizes a = onward (λ S. got (record { kinds = S .kinds; links = S .link-names })) a
 
 -- the outcome, and every word of the table
-pub record Reads (a : Answer Sheet) (o : Outcome) (t : List ℕ) : Type 0 where
+pub record Reads (a : Result Sheet) (o : Outcome) (t : List ℕ) : Type 0 where
   pub outcome : outcome-said o ≡ sizes a
   pub table : t ≡ table-in a

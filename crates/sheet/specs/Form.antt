@@ -10,7 +10,7 @@ use Rattle.theory.specs.Register.{Edge, edge}
 use Rattle.theory.specs.Sheet.{Sheet}
 use Rattle.fields.specs.declared.File.the-variants as file
 use Rattle.fields.specs.declared.Due.{Due}
-use Rattle.fields.specs.Answer.{Answer, got, refused, onward}
+use Rattle.theory.specs.Result.{Result, got, refused, onward}
 use Rattle.fields.specs.Reading.{Form}
 use Rattle.sheet.specs.declared.Triples.{Triples}
 
@@ -35,7 +35,7 @@ abbrev pub fresh : ℕ → ℕ → Triples
 fresh k e = record { kinds = k; links = e; count = 0; floor = 0 }
 
 -- 11: the numbers of kinds and of links, 1 to 64; refusal 3
-unfoldable pub head-of : ℕ → List ℕ → Answer Triples
+unfoldable pub head-of : ℕ → List ℕ → Result Triples
 head-of at b =
     cond (leb 1 (getD b 0 0) && leb (getD b 0 0) 64)
     (cond (leb 1 (getD b 1 0) && leb (getD b 1 0) 64) (got (fresh (getD b 0 0) (getD b 1 0))) (refused 3 at))
@@ -50,13 +50,13 @@ abbrev pub edge-of : List ℕ → Edge
 edge-of b = edge (getD b 0 0) (getD b 1 0) (getD b 2 0)
 
 -- 12: a triple; refusals 3 and 4
-unfoldable pub next : Triples → ℕ → List ℕ → Answer Triples
+unfoldable pub next : Triples → ℕ → List ℕ → Result Triples
 next q at b =
     cond (ltb (getD b 0 0) (q .kinds) && ltb (getD b 1 0) (q .links) && ltb (getD b 2 0) (q .kinds))
     (cond (leb (q .floor) (key b)) (got (record { kinds = q .kinds; links = q .links; count = q .count + 1; floor = key b + 1 })) (refused 4 at))
     (refused 3 at)
 
-abbrev pub judge : State → ℕ → ℕ → ℕ → List ℕ → Answer State
+abbrev pub judge : State → ℕ → ℕ → ℕ → List ℕ → Result State
 judge head at after t b = onward (λ q. got (within q [])) (head-of at b)
 judge (within q es) at after t b = onward (λ q′. got (within q′ (es ++ (edge-of b ∷ [])))) (next q at b)
 

@@ -6,7 +6,7 @@ use Prim.Native.Nat.{ℕ, _<_}
 use Rattle.theory.specs.Register.{Edge, edge}
 use Rattle.fields.specs.declared.Due.{Due}
 use Rattle.fields.specs.Table.{tag-length}
-use Rattle.fields.specs.Answer.{Answer, got, onward}
+use Rattle.theory.specs.Result.{Result, got, onward}
 use Rattle.fields.specs.Contract.{refusal-said}
 use Rattle.sheet.specs.declared.Triples.{Triples}
 use Rattle.sheet.specs.declared.Triple.{Triple}
@@ -17,7 +17,7 @@ use Rattle.sheet.specs.declared.Turn.the-variants as turn
 use Rattle.sheet.specs.Form.{due-head, due-triple, head-of, next, edge-of}
 use Rattle.sheet.specs.Contract.{Sizes}
 
-abbrev pub sizes-at : Standing → Answer Sizes
+abbrev pub sizes-at : Standing → Result Sizes
 sizes-at Head = got (record { kinds = 0; links = 0 })
 sizes-at (Within q) = got (record { kinds = q .kinds; links = q .links })
 
@@ -29,7 +29,7 @@ pub data Move : Type 0 where
   go : Triples → Move
   more : Edge → Triples → Move
 
-abbrev pub judged : Standing → ℕ → List ℕ → Answer Move
+abbrev pub judged : Standing → ℕ → List ℕ → Result Move
 judged Head at b = onward (λ q. got (go q)) (head-of at b)
 judged (Within q) at b = onward (λ q′. got (more (edge-of b) q′)) (next q at b)
 
@@ -41,7 +41,7 @@ Ready (Within q) n = (n ≡ tag-length 0x12) × (q .count < 512)
 abbrev pub edge-said : Triple → Edge
 edge-said x = edge (x .from .0) (x .link .0) (x .to .0)
 
-abbrev pub turn-said : Turn → Answer Move
+abbrev pub turn-said : Turn → Result Move
 turn-said (turn.Stop r) = refusal-said r
 turn-said (turn.Go q) = got (go q)
 turn-said (turn.More x q) = got (more (edge-said x) q)

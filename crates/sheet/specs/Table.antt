@@ -7,7 +7,7 @@ use lib.ListN.{getD, set, replicate}
 use Rattle.bits.specs.Bit.{bitOf, withBit}
 use Rattle.theory.specs.Register.{Edge}
 use Rattle.theory.specs.Sheet.{Sheet}
-use Rattle.fields.specs.Answer.{Answer, got, refused}
+use Rattle.theory.specs.Result.{Result, got, refused}
 
 -- the word of a from kind and a link
 abbrev pub cell : ℕ → ℕ → ℕ
@@ -25,6 +25,6 @@ unfoldable pub table-of : List Edge → List ℕ
 table-of es = foldl permit (replicate 4096 0) es
 
 -- all 0 where the file is refused
-abbrev pub table-in : Answer Sheet → List ℕ
+abbrev pub table-in : Result Sheet → List ℕ
 table-in (got S) = table-of (S .permitted)
 table-in (refused n p) = replicate 4096 0

@@ -16,7 +16,7 @@ use Rattle.theory.specs.Simplification.{normal-form}
 use Rattle.theory.proofs.Tests.{and-left, and-right}
 use Rattle.theory.proofs.Simplification.{weight, no-heavier, reaches, irreducible, normal-stays, one-result, twice, never-longer, same-pairs, normal-plain, normal-links}
 use Rattle.fields.specs.declared.Source.the-variants as source
-use Rattle.fields.specs.Answer.{Answer, got, refused}
+use Rattle.theory.specs.Result.{Result, got, refused}
 use Rattle.fields.specs.Call.{accepts, Size, output}
 use Rattle.fields.specs.Call as fields·Call
 use Rattle.fields.specs.Reading.{read}
@@ -121,7 +121,7 @@ module _ {cs : List ℕ} {p : PathExpr} (a : Asks cs p) where
 
 -- ---- a call that was accepted
 module _ (question area : List ℕ) (z : Size) where
-  by-read : (a : Answer (List ℕ)) → read question-form question ≡ a → ShortenTook question area z
+  by-read : (a : Result (List ℕ)) → read question-form question ≡ a → ShortenTook question area z
       → (cs : List ℕ) × (read question-form question ≡ got cs) × Filed (length (shortened-codes cs)) (question-bytes (shortened-codes cs)) area (shorten-call question area .file) z
   unfolding shorten-call shortened-in
   by-read (refused n p) e t = not-accepted source.Question n p z (rw e at t)

@@ -12,7 +12,7 @@ use Rattle.theory.specs.PathExpr.{PathExpr}
 use Rattle.theory.specs.Postfix.{path-of}
 use Rattle.theory.specs.Register.{Register, Holds}
 use Rattle.theory.specs.Simplification.{Reduces, Irreducible}
-use Rattle.fields.specs.Answer.{got}
+use Rattle.theory.specs.Result.{got}
 use Rattle.fields.specs.Call.{accepts, Size, output}
 use Rattle.fields.specs.Reading.{read}
 use Rattle.fields.specs.Writing.{Bytes}

@@ -8,7 +8,8 @@ use Rattle.theory.specs.PathExpr.{forward, reverse, any, through, conjunction, 
 use Rattle.theory.specs.Register.{edge}
 use Rattle.theory.specs.Sheet.{Sheet}
 use Rattle.theory.specs.Merging.{Member, member}
-use Rattle.theory.specs.Narrowing.{Outcome, narrowed, narrow-symbols}
+use Rattle.theory.specs.Narrowing.{Narrowing, narrow-symbols}
+use Rattle.theory.specs.Result.{got}
 use Rattle.narrowed_question.specs.Members.{narrowed-file}
 
 -- ---- the sheet, and the steps over its links
@@ -73,8 +74,8 @@ cases =
     ∷ []
 
 -- ---- what a case comes to, and what the paper says
-pub record Result : Type 0 where
-  pub narrowing : Outcome
+pub record Narrowed : Type 0 where
+  pub narrowing : Narrowing
   pub file : Option (List ℕ)
 
 -- the members' file, where one is printed
@@ -82,8 +83,8 @@ abbrev written : List Member → Option (List ℕ) → Option (List ℕ)
 written ms none = none
 written ms (some f) = some (narrowed-file ms)
 
-abbrev pub computed : Case → Result
+abbrev pub computed : Case → Narrowed
 computed c = record { narrowing = narrow-symbols sheet (postfix (c .question)); file = written (c .members) (c .file) }
 
-abbrev pub expected : Case → Result
-expected c = record { narrowing = narrowed (c .members); file = c .file }
+abbrev pub expected : Case → Narrowed
+expected c = record { narrowing = got (c .members); file = c .file }

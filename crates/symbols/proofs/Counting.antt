@@ -14,7 +14,7 @@ use Rattle.theory.specs.PathExpr.{PathExpr, step, join, op, closure, Symbol, s-
 use Rattle.theory.specs.Postfix.{push as push-path, go-on, read as read-paths}
 use Rattle.theory.proofs.Postfix.{none-some}
 use Rattle.symbols.specs.declared.Stack.{Stack}
-use Rattle.fields.specs.Answer.{got}
+use Rattle.theory.specs.Result.{got}
 use Rattle.symbols.specs.Symbols.{Numbered, arity, push}
 use Rattle.fields.proofs.Bools.{cond-else, not-got}
 use Rattle.symbols.proofs.Symbols.{push-got}

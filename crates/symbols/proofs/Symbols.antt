@@ -9,7 +9,7 @@ use lib.Dec.{ltb, leb, eqb}
 use lib.ListN.{getD}
 use borrow.Author.Tests.{ltb-true, leb-true, eqb-false}
 use Rattle.symbols.specs.declared.Stack.{Stack}
-use Rattle.fields.specs.Answer.{got}
+use Rattle.theory.specs.Result.{got}
 use Rattle.fields.specs.Reading.{eight}
 use Rattle.symbols.specs.Symbols.{Numbered, numbered, step-of, operator-of, symbol-in, push, Plain}
 use Rattle.fields.proofs.Bools.{cond-else, cond-then, and-left, and-right, not-got}

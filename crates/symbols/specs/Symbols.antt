@@ -14,7 +14,7 @@ use Rattle.fields.specs.declared.File.{File}
 use Rattle.fields.specs.declared.Due.{Due}
 use Rattle.symbols.specs.declared.Stack.{Stack}
 use Rattle.fields.specs.Table.{tag-length}
-use Rattle.fields.specs.Answer.{Answer, got, refused}
+use Rattle.theory.specs.Result.{Result, got, refused}
 use Rattle.fields.specs.Reading.{eight}
 
 -- ---- a symbol as a number: its code, and 255 for a join through the set beside it
@@ -53,20 +53,20 @@ abbrev pub numbered : ℕ → ℕ → Numbered
 numbered c m = record { number = c; set = m }
 
 -- 43: direction and link; refusal 3
-unfoldable pub step-of : ℕ → List ℕ → Answer Numbered
+unfoldable pub step-of : ℕ → List ℕ → Result Numbered
 step-of at b = cond (ltb (getD b 0 0) 2 && ltb (getD b 1 0) 64) (got (numbered (getD b 0 0 * 64 + getD b 1 0) 0)) (refused 3 at)
 
 -- 44: an operator; refusal 3
-unfoldable pub operator-of : ℕ → List ℕ → Answer Numbered
+unfoldable pub operator-of : ℕ → List ℕ → Result Numbered
 operator-of at b = cond (leb 128 (getD b 0 0) && leb (getD b 0 0) 133) (got (numbered (getD b 0 0) 0)) (refused 3 at)
 
 -- the symbol of a field at a place, by its tag: 43, 44 or 45
-unfoldable pub symbol-in : ℕ → ℕ → List ℕ → Answer Numbered
+unfoldable pub symbol-in : ℕ → ℕ → List ℕ → Result Numbered
 symbol-in at t b = cond (eqb t 0x43) (step-of at b) (cond (eqb t 0x44) (operator-of at b) (got (numbered 255 (eight b 0))))
 
 -- ---- operands: `left` symbols are still due, `depth` paths stand on the stack
 -- one symbol more, that takes k paths; its field is at a place, with the place after it: refusal 6
-unfoldable pub push : Stack → ℕ → ℕ → ℕ → Answer Stack
+unfoldable pub push : Stack → ℕ → ℕ → ℕ → Result Stack
 push q at next k =
     cond (ltb (q .depth) k) (refused 6 at)
     (cond (eqb (q .left) 1 && not (eqb (q .depth - k + 1) 1)) (refused 6 next)

@@ -8,7 +8,8 @@ use Rattle.theory.specs.PathExpr.{PathExpr, plain?}
 use Rattle.theory.specs.Register.{Register, records, well-formed?}
 use Rattle.theory.specs.Sheet.{Sheet, sheet?, conforms?}
 use Rattle.theory.specs.Merging.{Member}
-use Rattle.theory.specs.Narrowing.{narrowed, narrow}
+use Rattle.theory.specs.Narrowing.{narrow}
+use Rattle.theory.specs.Result.{got}
 use Rattle.theory.specs.Evaluation.{plain-answer, narrowed-answer}
 use Rattle.theory.specs.Words.{answer-words, Subset}
 use Rattle.theory.proofs.Tests.{bool-eq}
@@ -16,7 +17,7 @@ use Rattle.theory.proofs.Evaluation.{plain-right, narrowed-right}
 use Rattle.theory.proofs.Words.{words-subset}
 use Rattle.theory.proofs.Demand3.{demand3}
 
-module _ (S : Sheet) (ok : T (sheet? S)) (q : PathExpr) (plain : T (plain? q)) (ms : List Member) (e : narrow S q ≡ narrowed ms)
+module _ (S : Sheet) (ok : T (sheet? S)) (q : PathExpr) (plain : T (plain? q)) (ms : List Member) (e : narrow S q ≡ got ms)
     (r : Register) (well-formed : T (well-formed? r)) where
   pub answer-sound : (s t : ℕ) → T (narrowed-answer r ms s t) → T (plain-answer r q s t)
   answer-sound s t a = plain-right r well-formed q s t .1 (demand3 S ok q plain ms e .sound r s t (narrowed-right r well-formed ms s t .0 a))

@@ -15,7 +15,8 @@ use Rattle.theory.specs.Sheet.{Sheet, sheet?, conforms?}
 use Rattle.theory.specs.Derivation.{Derives}
 use Rattle.theory.specs.Inference.{Triple, triples}
 use Rattle.theory.specs.Merging.{Member, members}
-use Rattle.theory.specs.Narrowing.{narrowed, link-fault, part-fault, refuse, narrow, narrow-read, narrow-symbols}
+use Rattle.theory.specs.Narrowing.{link-fault, part-fault, refuse, narrow, narrow-read, narrow-symbols}
+use Rattle.theory.specs.Result.{got}
 use Rattle.theory.specs.Demand3.{Pair, Answer, Witness, Demand3}
 use Rattle.theory.proofs.KindSet.{has-singleton}
 use Rattle.theory.proofs.KindsOfSheet.{derives-inside}
@@ -101,7 +102,7 @@ module _ (S : Sheet) (ok : T (sheet? S)) (q : PathExpr) (plain : T (plain? q)) (
     no-members = (none-given, none-left);
   }
 
-pub demand3 : (S : Sheet) → T (sheet? S) → (q : PathExpr) → T (plain? q) → (ms : List Member) → narrow S q ≡ narrowed ms → Demand3 S q ms
+pub demand3 : (S : Sheet) → T (sheet? S) → (q : PathExpr) → T (plain? q) → (ms : List Member) → narrow S q ≡ got ms → Demand3 S q ms
 demand3 S ok q plain ms e = subst (λ l. Demand3 S q l) (sym (narrow-members S q ms e)) (whole S ok q plain (narrow-short S q ms e))
 
 -- ---- the same of a question's symbols
@@ -109,13 +110,13 @@ pub narrow-postfix : (S : Sheet) (q : PathExpr) → narrow-symbols S (postfix q)
 unfolding narrow-symbols narrow
 narrow-postfix S q =
     ap (narrow-read S (postfix q)) (path-of-postfix q)
-    ∙ ap (λ ps. refuse (link-fault (S .link-names)) 0 (postfix q) (refuse (part-fault S) 0 ps (narrowed (members (triples S q))))) (ended-parts q)
+    ∙ ap (λ ps. refuse (link-fault (S .link-names)) 0 (postfix q) (refuse (part-fault S) 0 ps (got (members (triples S q))))) (ended-parts q)
 
 pub narrow-path : (S : Sheet) (q : PathExpr) (ss : List Symbol) → path-of ss ≡ some q → narrow S q ≡ narrow-symbols S ss
 narrow-path S q ss e = sym (narrow-postfix S q) ∙ ap (narrow-symbols S) (postfix-path-of ss q e)
 
 pub demand3-symbols : (S : Sheet) → T (sheet? S) → (ss : List Symbol) (q : PathExpr) → path-of ss ≡ some q → T (plain? q)
-    → (ms : List Member) → narrow-symbols S ss ≡ narrowed ms → Demand3 S q ms
+    → (ms : List Member) → narrow-symbols S ss ≡ got ms → Demand3 S q ms
 demand3-symbols S ok ss q read plain ms e =
     demand3 S ok q plain ms (narrow-path S q ss read ∙ e)
 

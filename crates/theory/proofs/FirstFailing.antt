@@ -10,7 +10,8 @@ use native.Mathlib.Nat.{add-zero, add-suc, suc-add}
 use native.Mathlib.Omega.{arith}
 use lib.Dec.{T}
 use Rattle.theory.specs.Lists.{first-failing, First, now, later}
-use Rattle.theory.specs.Narrowing.{Outcome, refused, unless, refuse}
+use Rattle.theory.specs.Narrowing.{Narrowing, unless, refuse}
+use Rattle.theory.specs.Result.{refused}
 
 shift : (i j : ℕ) → suc i + j ≡ i + suc j
 shift i j = suc-add i j ∙ sym (add-suc i j)
@@ -63,7 +64,7 @@ module _ {A : Type 0} (fault : A → ℕ) where
       go zero e = refl
       go (suc k) e = absurd (n (λ z. absurd (omega (arith, e, z))))
 
-  pub first-refused : {xs : List A} {j : ℕ} {x : A} → First Fault xs j x → (i : ℕ) (o : Outcome) → refuse fault i xs o ≡ refused (fault x) (i + j)
+  pub first-refused : {xs : List A} {j : ℕ} {x : A} → First Fault xs j x → (i : ℕ) (o : Narrowing) → refuse fault i xs o ≡ refused (fault x) (i + j)
   first-refused (now {x = x} {xs = xs} p) i o = go (fault x) refl
     where
       go : (n : ℕ) → fault x ≡ n → unless n i (refuse fault (suc i) xs o) ≡ refused n (i + 0)
@@ -72,7 +73,7 @@ module _ {A : Type 0} (fault : A → ℕ) where
   first-refused (later {x = x} {y = y} {xs = xs} {i = j} n f) i o =
       ap (λ k. unless k i (refuse fault (suc i) xs o)) (no-fault x n) ∙ first-refused f (suc i) o ∙ ap (refused (fault y)) (shift i j)
 
-  pub none-refused : (xs : List A) → ((x : A) → In x xs → fault x ≡ 0) → (i : ℕ) (o : Outcome) → refuse fault i xs o ≡ o
+  pub none-refused : (xs : List A) → ((x : A) → In x xs → fault x ≡ 0) → (i : ℕ) (o : Narrowing) → refuse fault i xs o ≡ o
   none-refused [] h i o = refl
   none-refused (x ∷ xs) h i o =
       ap (λ k. unless k i (refuse fault (suc i) xs o)) (h x (here refl)) ∙ none-refused xs (λ y m. h y (there m)) (suc i) o

@@ -12,12 +12,11 @@ use lib.ListN.{length, length-append}
 use Rattle.theory.specs.KindSet.{set-union}
 use Rattle.theory.specs.PathExpr.{Via, any, through, PathExpr, step, join, op, closure, Symbol, s-join, s-op, s-closure, postfix, size, code, erase, plain?}
 use Rattle.theory.specs.Inference.{Triple}
-use Rattle.theory.specs.Merging.{Member, of-triple, merge-via, merge, merged, members}
-use Rattle.theory.specs.Sorting.{alike?, set-of, sets-of, set-unions, EvenVia, plain, with-sets, Even, steps, joins, ops, closures, Inferred, Marked}
-use Rattle.theory.proofs.Tests.{apart, tests, and-both}
+use Rattle.theory.specs.Merging.{Member, of-triple, same-shape?, merge-via, merge, merged, members}
+use Rattle.theory.specs.JoinSets.{set-of, sets-of, set-unions, EvenVia, plain, with-sets, Even, steps, joins, ops, closures, Inferred, Marked}
+use Rattle.theory.proofs.Tests.{apart, tests, of-true, and-both}
 use Rattle.theory.proofs.Soundness.{erase-plain}
-use Rattle.theory.proofs.Merging.{insert-all}
-use Rattle.theory.proofs.Sorting.{alike-shape}
+use Rattle.theory.proofs.Merging.{same-shape, insert-all}
 
 -- ---- the sets of a merged path are the unions
 binary-sets : (p q : PathExpr) (s : Symbol) → map set-of (postfix p ++ (postfix q ++ (s ∷ []))) ≡ sets-of p ++ (sets-of q ++ (set-of s ∷ []))
@@ -167,9 +166,9 @@ members-inferred (t ∷ ts) h m i =
     insert-all (λ n. Inferred (n .path)) (λ x y a. merge-inferred (x .path) (y .path)) (of-triple t) (members ts) (h t (here refl)) (members-inferred ts (λ u j. h u (there j))) m i
 
 -- so a group takes in a member by the unions of their sets
-pub merged-sets : (m n : Member) → Inferred (m .path) → Inferred (n .path) → alike? m n ≡ true
+pub merged-sets : (m n : Member) → Inferred (m .path) → Inferred (n .path) → same-shape? (m .path) (n .path) ≡ true
     → sets-of (merged m n .path) ≡ set-unions (sets-of (m .path)) (sets-of (n .path))
-merged-sets m n x y a = merge-sets (inferred-even (m .path) (n .path) x y (alike-shape m n a))
+merged-sets m n x y a = merge-sets (inferred-even (m .path) (n .path) x y (same-shape (m .path) (n .path) (of-true (same-shape? (m .path) (n .path)) a)))
 
 -- ---- symbol by symbol: what depends on a symbol's code and set alone is computed from the two lists
 module _ {A : Type 0} (f : Symbol → A) (g : ℕ → ℕ → A) (h : (s : Symbol) → Marked s → f s ≡ g (code s) (set-of s)) where

@@ -13,7 +13,8 @@ use Rattle.theory.specs.PathExpr.{Symbol, s-step, s-join, s-op, s-closur
 use Rattle.theory.specs.Sheet.{Sheet, sheet?}
 use Rattle.theory.specs.Inference.{triples}
 use Rattle.theory.specs.Merging.{members}
-use Rattle.theory.specs.Narrowing.{Outcome, refused, narrowed, link-fault, short?, part-fault, refuse, narrow, Unnamed, Named, TooLong, Faulty, Judged, unnamed, too-long, too-many, sound}
+use Rattle.theory.specs.Narrowing.{Narrowing, link-fault, short?, part-fault, refuse, narrow, Unnamed, Named, TooLong, Faulty, Judged, unnamed, too-long, too-many, sound}
+use Rattle.theory.specs.Result.{got, refused}
 use Rattle.theory.proofs.Tests.{of-true}
 use Rattle.theory.proofs.FirstFailing.{first-map, first-holds, scan, Fault, fault?, no-fault, first-refused, none-refused}
 use Rattle.theory.proofs.Narrowing.{fault-short}
@@ -122,8 +123,8 @@ module _ (S : Sheet) (ok : T (sheet? S)) (q : PathExpr) where
   abbrev E : ℕ
   E = S .link-names
 
-  abbrev inferred : Outcome
-  inferred = refuse (part-fault S) 0 (parts q) (narrowed (members (triples S q)))
+  abbrev inferred : Narrowing
+  inferred = refuse (part-fault S) 0 (parts q) (got (members (triples S q)))
 
   walked : Scanned S (parts q)
   walked = scanned S ok (λ u. ⊥) (parts q) (grounded S q) (λ u k. absurd k)
@@ -132,33 +133,33 @@ module _ (S : Sheet) (ok : T (sheet? S)) (q : PathExpr) where
   unfolding narrow
   past-links n = none-refused (link-fault E) (postfix q) (λ s m. no-fault (link-fault E) s (λ c. n s m (fault-unnamed E s c))) 0 inferred
 
-  of-judged : {o : Outcome} → Judged S q o → narrow S q ≡ o
+  of-judged : {o : Narrowing} → Judged S q o → narrow S q ≡ o
   unfolding narrow
   of-judged (unnamed {i = i} {s = s} f) =
       first-refused (link-fault E) (first-map (named-fault E) (fault-unnamed E) f) 0 inferred ∙ ap₂ refused (unnamed-fault E s (first-holds f)) (zero-add i)
   of-judged (too-long {i = i} n f l) =
       let r = rule-first walked f in
-      past-links n ∙ first-refused (part-fault S) (r .0) 0 (narrowed (members (triples S q))) ∙ ap₂ refused (long-is (r .1) l) (zero-add i)
+      past-links n ∙ first-refused (part-fault S) (r .0) 0 (got (members (triples S q))) ∙ ap₂ refused (long-is (r .1) l) (zero-add i)
   of-judged (too-many {i = i} n f h) =
       let r = rule-first walked f in
-      past-links n ∙ first-refused (part-fault S) (r .0) 0 (narrowed (members (triples S q))) ∙ ap₂ refused (many-is (r .1) (first-holds f) h) (zero-add i)
-  of-judged (sound n h) = past-links n ∙ none-refused (part-fault S) (parts q) (rule-none walked h) 0 (narrowed (members (triples S q)))
+      past-links n ∙ first-refused (part-fault S) (r .0) 0 (got (members (triples S q))) ∙ ap₂ refused (many-is (r .1) (first-holds f) h) (zero-add i)
+  of-judged (sound n h) = past-links n ∙ none-refused (part-fault S) (parts q) (rule-none walked h) 0 (got (members (triples S q)))
 
-  judged : (o : Outcome) × Judged S q o
+  judged : (o : Narrowing) × Judged S q o
   judged = go (scan (fault? (link-fault E)) (postfix q)) (scan (fault? (part-fault S)) (parts q))
     where
-      by-part : {i : ℕ} {p : PathExpr} {n : ℕ} → Named S q → First (Faulty S) (parts q) i p → PartIs S p n → (o : Outcome) × Judged S q o
+      by-part : {i : ℕ} {p : PathExpr} {n : ℕ} → Named S q → First (Faulty S) (parts q) i p → PartIs S p n → (o : Narrowing) × Judged S q o
       by-part n f (fine h) = absurd (h (first-holds f))
       by-part {i} n f (many h m) = (refused 12 i, too-many n f h)
       by-part {i} n f (long l) = (refused 13 i, too-long n f l)
 
       go : ((i : ℕ) × (s : Symbol) × First (Fault (link-fault E)) (postfix q) i s) ⊎ ((s : Symbol) → In s (postfix q) → ¬ Fault (link-fault E) s)
           → ((i : ℕ) × (p : PathExpr) × First (Fault (part-fault S)) (parts q) i p) ⊎ ((p : PathExpr) → In p (parts q) → ¬ Fault (part-fault S) p)
-          → (o : Outcome) × Judged S q o
+          → (o : Narrowing) × Judged S q o
       go (inl f) rest = (refused 11 (f .0), unnamed (first-map (fault-unnamed E) (named-fault E) (f .2)))
       go (inr n) (inl f) = let r = first-rule walked (f .2) in by-part (λ s m h. n s m (named-fault E s h)) (r .0) (r .1)
       go (inr n) (inr h) =
-          (narrowed (members (triples S q)), sound (λ s m u. n s m (named-fault E s u)) (none-rule walked (λ p m. no-fault (part-fault S) p (h p m))))
+          (got (members (triples S q)), sound (λ s m u. n s m (named-fault E s u)) (none-rule walked (λ p m. no-fault (part-fault S) p (h p m))))
 
-  pub narrow-exact : (o : Outcome) → (narrow S q ≡ o) ↔ Judged S q o
+  pub narrow-exact : (o : Narrowing) → (narrow S q ≡ o) ↔ Judged S q o
   narrow-exact o = (λ e. let j = judged in subst (Judged S q) (sym (of-judged (j .1)) ∙ e) (j .1), λ j. of-judged j)

@@ -11,7 +11,6 @@ pub mod Triples
 pub mod Reach
 pub mod Walks
 pub mod ClosureRule
-pub mod Growth
 pub mod KindsOfSheet
 pub mod Ends
 pub mod Inference
@@ -27,7 +26,6 @@ pub mod Simplification
 pub mod Postfix
 pub mod Merging
 pub mod Order
-pub mod Sorting
 pub mod TriplePaths
 pub mod JoinSets
 pub mod FirstFailing

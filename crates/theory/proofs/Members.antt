@@ -14,7 +14,8 @@ use Rattle.theory.specs.Sheet.{Sheet, sheet?}
 use Rattle.theory.specs.Derivation.{Triples, Step, along, back, Join, joins, Operate, union-left, union-right, conjoins, branches-right, branches-left, Walk, first, then, Derives}
 use Rattle.theory.specs.Inference.{Triple, triples}
 use Rattle.theory.specs.Merging.{Member, of-triple, merge-via, merge, merged, insert, members, same-shape?}
-use Rattle.theory.specs.Narrowing.{narrowed, link-fault, narrow, via-fits, sets-fit, MemberFits, Fits}
+use Rattle.theory.specs.Narrowing.{link-fault, narrow, via-fits, sets-fit, MemberFits, Fits}
+use Rattle.theory.specs.Result.{got}
 use Rattle.theory.proofs.Tests.{tests, and-both, cond-case}
 use Rattle.theory.proofs.Lists.{every-in}
 use Rattle.theory.proofs.Rules.{Sub, induction}
@@ -175,7 +176,7 @@ plain-sets (join (through m) p q) t = absurd t
 plain-sets (op o p q) t = (plain-sets p (search tests), plain-sets q (search tests))
 plain-sets (closure p) t = plain-sets p t
 
-module _ (S : Sheet) (ok : T (sheet? S)) (q : PathExpr) (plain : T (plain? q)) (ms : List Member) (e : narrow S q ≡ narrowed ms) where
+module _ (S : Sheet) (ok : T (sheet? S)) (q : PathExpr) (plain : T (plain? q)) (ms : List Member) (e : narrow S q ≡ got ms) where
   ranged : (t : Triple) → In t (triples S q) → Ranged S ok (t .from) (t .path) (t .to)
   ranged t i =
       derives-ranged S ok q (t .from) (t .path) (t .to) (exact S ok q (narrow-short S q ms e) (t .from) (t .path) (t .to) .0 i)

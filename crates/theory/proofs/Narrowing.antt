@@ -11,20 +11,21 @@ use Rattle.theory.specs.PathExpr.{Symbol, PathExpr, postfix, parts}
 use Rattle.theory.specs.Sheet.{Sheet}
 use Rattle.theory.specs.Inference.{triples}
 use Rattle.theory.specs.Merging.{Member, members}
-use Rattle.theory.specs.Narrowing.{Outcome, refused, narrowed, link-fault, short?, few?, part-fault, refuse, narrow}
+use Rattle.theory.specs.Narrowing.{Narrowing, link-fault, short?, few?, part-fault, refuse, narrow}
+use Rattle.theory.specs.Result.{got, refused}
 use Rattle.theory.specs.Lists.{First}
 use Rattle.theory.proofs.FirstFailing.{scan, Fault, fault?, no-fault, first-refused, none-refused}
 use Rattle.theory.proofs.Inference.{Short}
 
 -- what is not refused has no fault
-not-refused : {A : Type 0} (fault : A → ℕ) (xs : List A) (o : Outcome) (ms : List Member) → refuse fault 0 xs o ≡ narrowed ms
-    → ((x : A) → In x xs → fault x ≡ 0) × (o ≡ narrowed ms)
+not-refused : {A : Type 0} (fault : A → ℕ) (xs : List A) (o : Narrowing) (ms : List Member) → refuse fault 0 xs o ≡ got ms
+    → ((x : A) → In x xs → fault x ≡ 0) × (o ≡ got ms)
 not-refused {A} fault xs o ms e = go (scan (fault? fault) xs)
   where
-    never : {n i : ℕ} → refused n i ≡ narrowed ms → ((x : A) → In x xs → fault x ≡ 0) × (o ≡ narrowed ms)
+    never : {n i : ℕ} → refused n i ≡ got ms → ((x : A) → In x xs → fault x ≡ 0) × (o ≡ got ms)
     never d = let z : _≡_ {A = ℕ} 0 1 = cc in absurd (omega arith)
 
-    go : ((i : ℕ) × (x : A) × First (Fault fault) xs i x) ⊎ ((x : A) → In x xs → ¬ Fault fault x) → ((x : A) → In x xs → fault x ≡ 0) × (o ≡ narrowed ms)
+    go : ((i : ℕ) × (x : A) × First (Fault fault) xs i x) ⊎ ((x : A) → In x xs → ¬ Fault fault x) → ((x : A) → In x xs → fault x ≡ 0) × (o ≡ got ms)
     go (inl f) = never (sym (first-refused fault (f .2) 0 o) ∙ e)
     go (inr h) = let clean : (x : A) → In x xs → fault x ≡ 0 = λ x m. no-fault fault x (h x m) in (clean, sym (none-refused fault xs clean 0 o) ∙ e)
 
@@ -46,13 +47,13 @@ module _ (S : Sheet) (p : PathExpr) (e : part-fault S p ≡ 0) where
       go true false d = absurd (omega arith)
       go false c d = absurd (omega arith)
 
-module _ (S : Sheet) (q : PathExpr) (ms : List Member) (e : narrow S q ≡ narrowed ms) where
-  links-clean : ((s : Symbol) → In s (postfix q) → link-fault (S .link-names) s ≡ 0) × (refuse (part-fault S) 0 (parts q) (narrowed (members (triples S q))) ≡ narrowed ms)
+module _ (S : Sheet) (q : PathExpr) (ms : List Member) (e : narrow S q ≡ got ms) where
+  links-clean : ((s : Symbol) → In s (postfix q) → link-fault (S .link-names) s ≡ 0) × (refuse (part-fault S) 0 (parts q) (got (members (triples S q))) ≡ got ms)
   unfolding narrow
-  links-clean = not-refused (link-fault (S .link-names)) (postfix q) (refuse (part-fault S) 0 (parts q) (narrowed (members (triples S q)))) ms e
+  links-clean = not-refused (link-fault (S .link-names)) (postfix q) (refuse (part-fault S) 0 (parts q) (got (members (triples S q)))) ms e
 
-  parts-clean : ((p : PathExpr) → In p (parts q) → part-fault S p ≡ 0) × (narrowed (members (triples S q)) ≡ narrowed ms)
-  parts-clean = not-refused (part-fault S) (parts q) (narrowed (members (triples S q))) ms (links-clean .1)
+  parts-clean : ((p : PathExpr) → In p (parts q) → part-fault S p ≡ 0) × (got (members (triples S q)) ≡ got ms)
+  parts-clean = not-refused (part-fault S) (parts q) (got (members (triples S q))) ms (links-clean .1)
 
   pub narrow-links : (s : Symbol) → In s (postfix q) → link-fault (S .link-names) s ≡ 0
   narrow-links = links-clean .0
@@ -64,4 +65,4 @@ module _ (S : Sheet) (q : PathExpr) (ms : List Member) (e : narrow S q ≡ narro
   narrow-few p m = fault-few S p (parts-clean .0 p m)
 
   pub narrow-members : ms ≡ members (triples S q)
-  narrow-members = let d : narrowed (members (triples S q)) ≡ narrowed ms = parts-clean .1 in cc
+  narrow-members = let d : got (members (triples S q)) ≡ got ms = parts-clean .1 in cc

@@ -11,8 +11,9 @@ use Rattle.theory.specs.PathExpr.{Via, any, through, Op, PathExpr, step,
 use Rattle.theory.specs.Sheet.{Sheet, sheet?}
 use Rattle.theory.specs.Inference.{Triple, triples}
 use Rattle.theory.specs.Merging.{Member, member, of-triple, same-shape?, merge-via, merge, merged, members}
-use Rattle.theory.specs.Sorting.{plain, with-sets, Even, steps, joins, ops, closures, Inferred}
-use Rattle.theory.specs.Narrowing.{narrowed, narrow}
+use Rattle.theory.specs.JoinSets.{plain, with-sets, Even, steps, joins, ops, closures, Inferred}
+use Rattle.theory.specs.Narrowing.{narrow}
+use Rattle.theory.specs.Result.{got}
 use Rattle.theory.specs.NoIdle.{Cut, at-join, join-left, join-right, op-left, op-right, below, NoIdle}
 use Rattle.theory.proofs.Tests.{tests}
 use Rattle.theory.proofs.KindSet.{has-singleton, singleton-has, has-union}
@@ -166,5 +167,5 @@ module _ (S : Sheet) (ok : T (sheet? S)) (q : PathExpr) (h : T (plain? q)) (shor
       (v .path .holds (universal S) (t .from) (t .to) (derives-own S ok q h (t .from) (t .path) (t .to) d))
       (v .from (t .from) (has-singleton (t .from)), v .to (t .to) (has-singleton (t .to)))
 
-pub no-idle : (S : Sheet) → T (sheet? S) → (q : PathExpr) → T (plain? q) → (ms : List Member) → narrow S q ≡ narrowed ms → NoIdle S ms
+pub no-idle : (S : Sheet) → T (sheet? S) → (q : PathExpr) → T (plain? q) → (ms : List Member) → narrow S q ≡ got ms → NoIdle S ms
 no-idle S ok q h ms e = subst (λ l. NoIdle S l) (sym (narrow-members S q ms e)) (whole S ok q h (narrow-short S q ms e))

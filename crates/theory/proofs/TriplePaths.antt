@@ -13,11 +13,10 @@ use Rattle.theory.specs.PathExpr.{Direction, Via, any, through, Op, unio
 use Rattle.theory.specs.Sheet.{Sheet}
 use Rattle.theory.specs.Inference.{Triple, stepped?, between, of-step, pairs, end-to-end?, joined, of-join, same-ends?, same-start?, conjoined, branched-right, branched-left, of-op, reach, meets-cyclic?, acyclic?, walks, of-closure, triples}
 use Rattle.theory.specs.Merging.{of-triple, members}
-use Rattle.theory.specs.Sorting.{sorted, ahead?, grouped, steps, joins, ops, closures, Inferred}
+use Rattle.theory.specs.JoinSets.{steps, joins, ops, closures, Inferred}
 use Rattle.theory.proofs.Tests.{and-left, and-right, and-both}
 use Rattle.theory.proofs.Lists.{in-filter}
 use Rattle.theory.proofs.Triples.{in-distinct, in-pairs, in-between}
-use Rattle.theory.proofs.Sorting.{members-sorted}
 
 -- ---- what holds of the paths of all triples of a question: O of the question's parts, P of the paths
 pub record Paths (O P : PathExpr → Type 0) : Type 0 where
@@ -91,10 +90,6 @@ linked-paths = record {
 
 pub triples-linked : (S : Sheet) (q : PathExpr) → T (links? 64 q) → (t : Triple) → In t (triples S q) → T (links? 64 (t .path))
 triples-linked S q x = triples-paths S (λ p. T (links? 64 p)) (λ p. T (links? 64 p)) linked-paths q x
-
--- the members of a question
-pub question-sorted : (S : Sheet) (q : PathExpr) → T (links? 64 q) → members (triples S q) ≡ grouped (sorted ahead? (map of-triple (triples S q)))
-question-sorted S q x = members-sorted (triples S q) (triples-linked S q x)
 
 -- its joins have sets outside kept closures, and none inside
 singleton-pos : (k : ℕ) → 0 < singleton k

@@ -101,13 +101,18 @@ abbrev pub walks : ℕ → List Triple → List Triple → List Triple
 walks zero ws ts = ws
 walks (suc n) ws ts = ws ++ walks n (of-join ws ts) ts
 
--- The walks that meet no cyclic kind, then the original part's closure from a to b where a walk meets one.
+-- the triples that meet no cyclic kind
+abbrev pub free : ℕ → List Triple → List Triple
+free K ts = filter (acyclic? (reach K ts)) ts
+
+-- the original part's closure from a to b, where a walk meets one
+abbrev pub kept-closures : ℕ → PathExpr → List Triple → List Triple
+kept-closures K p ts = between K (closure p) (meets-cyclic? K (reach K ts))
+
+-- The walks over the free triples, then the closures that are kept.
 -- A walk of 25 triples has at least 49 symbols: with one of them the part is refused, so longer ones need no listing.
 unfoldable pub of-closure : ℕ → PathExpr → List Triple → List Triple
-of-closure K p ts =
-    let w = reach K ts in
-    let free = filter (acyclic? w) ts in
-    walks 24 free free ++ between K (closure p) (meets-cyclic? K w)
+of-closure K p ts = walks 24 (free K ts) (free K ts) ++ kept-closures K p ts
 
 -- ---- the triples of each part
 abbrev pub triples : Sheet → PathExpr → List Triple

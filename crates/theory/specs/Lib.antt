@@ -1,5 +1,6 @@
--- general: lists, transitive closure, kind sets
+-- general: lists, a value or a refusal, transitive closure, kind sets
 pub mod Lists
+pub mod Result
 pub mod TransitiveClosure
 pub mod KindSet
 -- paths and their meaning
@@ -11,10 +12,9 @@ pub mod Simplification
 pub mod Sheet
 pub mod Derivation
 pub mod Inference
-pub mod Growth
 -- narrowing and answers
 pub mod Merging
-pub mod Sorting
+pub mod JoinSets
 pub mod Narrowing
 pub mod Evaluation
 pub mod Words

@@ -9,6 +9,7 @@ use Prim.Native.Nat.{ℕ, zero, suc, _≤_, _<_}
 use lib.Dec.{T, leb, ltb}
 use lib.ListN.{length}
 use Rattle.theory.specs.Lists.{every?, First, NoRepeat}
+use Rattle.theory.specs.Result.{Result, got, refused}
 use Rattle.theory.specs.KindSet.{is-set}
 use Rattle.theory.specs.PathExpr.{Via, any, through, Symbol, s-step, s-join, s-op, s-closure, PathExpr, step, join, op, closure, postfix, parts, size, links?}
 use Rattle.theory.specs.Postfix.{path-of, ended}
@@ -17,10 +18,9 @@ use Rattle.theory.specs.Derivation.{Derives}
 use Rattle.theory.specs.Inference.{Triple, triples}
 use Rattle.theory.specs.Merging.{Member, members, Ascending}
 
--- refused: number and place
-pub data Outcome : Type 0 where
-  refused : ℕ → ℕ → Outcome
-  narrowed : List Member → Outcome
+-- what narrowing gives: the members, or a refusal
+abbrev pub Narrowing : Type 0
+Narrowing = Result (List Member)
 
 -- ---- a symbol's refusal, or 0
 abbrev pub link-fault : ℕ → Symbol → ℕ
@@ -40,24 +40,24 @@ unfoldable pub part-fault : Sheet → PathExpr → ℕ
 part-fault S p = let ts = triples S p in cond (short? ts) (cond (few? ts) 0 12) 13
 
 -- ---- the first fault, with its place counted from i; else what follows
-abbrev pub unless : ℕ → ℕ → Outcome → Outcome
+abbrev pub unless : ℕ → ℕ → Narrowing → Narrowing
 unless zero i o = o
 unless (suc n) i o = refused (suc n) i
 
-abbrev pub refuse : {A : Type 0} → (A → ℕ) → ℕ → List A → Outcome → Outcome
+abbrev pub refuse : {A : Type 0} → (A → ℕ) → ℕ → List A → Narrowing → Narrowing
 refuse fault i [] o = o
 refuse fault i (x ∷ xs) o = let r = refuse fault (suc i) xs o in unless (fault x) i r
 
 -- 11 for the first link of E or more; then the first symbol with 12 or 13; else the members
-unfoldable pub narrow : Sheet → PathExpr → Outcome
-narrow S q = refuse (link-fault (S .link-names)) 0 (postfix q) (refuse (part-fault S) 0 (parts q) (narrowed (members (triples S q))))
+unfoldable pub narrow : Sheet → PathExpr → Narrowing
+narrow S q = refuse (link-fault (S .link-names)) 0 (postfix q) (refuse (part-fault S) 0 (parts q) (got (members (triples S q))))
 
 -- the same of a question's symbols: symbol i ends part i (what is no path its reader has refused)
-abbrev pub narrow-read : Sheet → List Symbol → Option PathExpr → Outcome
+abbrev pub narrow-read : Sheet → List Symbol → Option PathExpr → Narrowing
 narrow-read S ss none = refused 6 (length ss)
-narrow-read S ss (some q) = refuse (link-fault (S .link-names)) 0 ss (refuse (part-fault S) 0 (ended ss []) (narrowed (members (triples S q))))
+narrow-read S ss (some q) = refuse (link-fault (S .link-names)) 0 ss (refuse (part-fault S) 0 (ended ss []) (got (members (triples S q))))
 
-unfoldable pub narrow-symbols : Sheet → List Symbol → Outcome
+unfoldable pub narrow-symbols : Sheet → List Symbol → Narrowing
 narrow-symbols S ss = narrow-read S ss (path-of ss)
 
 -- ---- 11, 12 and 13 in terms of the rules alone
@@ -86,11 +86,11 @@ abbrev pub Faulty : Sheet → PathExpr → Type 0
 Faulty S o = TooLong S o ⊎ TooMany S o
 
 -- The outcome by the rules: the first link that the sheet does not name; else the first part that is faulty, 13 if it is too long; else the members.
-pub data Judged (S : Sheet) (q : PathExpr) : Outcome → Type 0 where
+pub data Judged (S : Sheet) (q : PathExpr) : Narrowing → Type 0 where
   unnamed : {i : ℕ} {s : Symbol} → First (Unnamed (S .link-names)) (postfix q) i s → Judged S q (refused 11 i)
   too-long : {i : ℕ} {p : PathExpr} → Named S q → First (Faulty S) (parts q) i p → TooLong S p → Judged S q (refused 13 i)
   too-many : {i : ℕ} {p : PathExpr} → Named S q → First (Faulty S) (parts q) i p → ¬ TooLong S p → Judged S q (refused 12 i)
-  sound : Named S q → ((p : PathExpr) → In p (parts q) → ¬ Faulty S p) → Judged S q (narrowed (members (triples S q)))
+  sound : Named S q → ((p : PathExpr) → In p (parts q) → ¬ Faulty S p) → Judged S q (got (members (triples S q)))
 
 -- ---- what a file of members can hold
 abbrev pub via-fits : Via → Type 0

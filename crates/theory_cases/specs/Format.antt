@@ -11,7 +11,8 @@ use Rattle.theory.specs.Simplification.{normal-form}
 use Rattle.theory.specs.Register.{Edge, edge, Register, records, well-formed?}
 use Rattle.theory.specs.Sheet.{Sheet, sheet?, breach}
 use Rattle.theory.specs.Merging.{Member}
-use Rattle.theory.specs.Narrowing.{Outcome, refused, narrowed, narrow-symbols}
+use Rattle.theory.specs.Narrowing.{Narrowing, narrow-symbols}
+use Rattle.theory.specs.Result.{got, refused}
 use Rattle.theory.specs.Evaluation.{plain-answer, narrowed-answer}
 use Rattle.theory.specs.Words.{answer-words}
 
@@ -95,11 +96,11 @@ members? [] (n ∷ ns) = false
 members? (m ∷ ms) [] = false
 members? (m ∷ ms) (n ∷ ns) = numbers? (member-numbers m) n && members? ms ns
 
-abbrev narrowed-same? : Case → Outcome → Expected → Bool
+abbrev narrowed-same? : Case → Narrowing → Expected → Bool
 narrowed-same? c (refused n i) (refusal k j) = eqb n k && eqb i j
 narrowed-same? c (refused n i) (members ns) = false
-narrowed-same? c (narrowed ms) (refusal k j) = false
-narrowed-same? c (narrowed ms) (members ns) = members? ms ns && numbers? (answer-words (records (c .register)) (narrowed-answer (c .register) ms)) (c .narrowed-words)
+narrowed-same? c (got ms) (refusal k j) = false
+narrowed-same? c (got ms) (members ns) = members? ms ns && numbers? (answer-words (records (c .register)) (narrowed-answer (c .register) ms)) (c .narrowed-words)
 
 abbrev plain-same? : Case → Option PathExpr → Bool
 plain-same? c none = false

@@ -13,7 +13,7 @@ use Rattle.theory.specs.PathExpr.{through, Direction, PathExpr, step, codes, co
 use Rattle.symbols.proofs.Numbers.{code-number, length-codes}
 use Rattle.triples.specs.declared.Node.{Node}
 use Rattle.triples.specs.Table.{node-at}
-use Rattle.theory.specs.Sorting.{sets-of}
+use Rattle.theory.specs.JoinSets.{sets-of}
 use Rattle.theory.proofs.JoinSets.{sets-length}
 use Rattle.triples.specs.Paths.{original, triple-of, Has}
 use Rattle.triples.specs.Expansion.{Wrote, Expanded, Ready}

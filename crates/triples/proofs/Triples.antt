@@ -15,7 +15,7 @@ use Rattle.symbols.specs.Symbols.{symbol-numbered}
 use Rattle.rows.specs.Kept.{Kept}
 use Rattle.triples.specs.Table.{node-at}
 use Rattle.triples.specs.Paths.{original, built, of-node, triple-at, triple-of}
-use Rattle.theory.specs.Growth.{no-triple}
+use Rattle.algorithms.specs.Growth.{no-triple}
 
 cond-same : {A : Type 0} (b : Bool) (x y z : A) → (T b → x ≡ y) → cond b x z ≡ cond b y z
 cond-same true x y z e = e tt

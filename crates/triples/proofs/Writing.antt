@@ -9,7 +9,7 @@ use lib.ListN.{length, getD, set, take, drop, replicate, length-append, length-s
 use lib.Seq.{take-suc, getD-drop}
 use Rattle.theory.specs.PathExpr.{Via, Op, PathExpr, join, op, closure, s-join, op-code}
 use Rattle.theory.proofs.Lists.{sets-append}
-use Rattle.theory.specs.Sorting.{set-of}
+use Rattle.theory.specs.JoinSets.{set-of}
 use Rattle.triples.specs.Expansion.{Wrote, Expanded}
 
 -- ---- one after the other

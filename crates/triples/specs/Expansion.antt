@@ -6,7 +6,7 @@ use Prim.Native.Nat.{ℕ, _+_, _≤_}
 use lib.ListN.{length}
 use lib.Seq.{sets}
 use Rattle.theory.specs.PathExpr.{PathExpr, codes}
-use Rattle.theory.specs.Sorting.{sets-of}
+use Rattle.theory.specs.JoinSets.{sets-of}
 use Rattle.triples.specs.Table.{node-at}
 use Rattle.triples.specs.Paths.{Has}
 

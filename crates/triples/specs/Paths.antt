@@ -12,8 +12,8 @@ use Rattle.theory.specs.KindSet.{singleton}
 use Rattle.theory.specs.PathExpr.{forward, through, PathExpr, step, join, op, closure, Symbol, s-step, s-join, s-op, s-closure, codes, size}
 use Rattle.theory.specs.Postfix.{path-of}
 use Rattle.theory.specs.Inference.{Triple, triple}
-use Rattle.theory.specs.Growth.{no-triple}
-use Rattle.theory.specs.Sorting.{sets-of}
+use Rattle.algorithms.specs.Growth.{no-triple}
+use Rattle.theory.specs.JoinSets.{sets-of}
 use Rattle.symbols.specs.Symbols.{symbol-numbered}
 use Rattle.question.specs.Form.{question-symbols}
 use Rattle.triples.specs.declared.Node.{Node}

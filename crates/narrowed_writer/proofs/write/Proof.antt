@@ -1,6 +1,6 @@
 -- `narrowed_writer::write` meets its contract: the verdict is the reader's on the file, and one without refusal tells the file's length: the area holds it, or it is 14.
 -- Assumes nothing.
-use Rattle.fields.specs.Answer.{got}
+use Rattle.theory.specs.Result.{got}
 use mathlib.Core.Path.{refl, _∙_, ap, sym}
 use native.Mathlib.Omega.{arith}
 use Rattle.narrowed_writer.specs.Verdict.{place-said}

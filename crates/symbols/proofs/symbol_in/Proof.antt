@@ -4,7 +4,7 @@ use Rattle.fields.specs.Table.{rows, tag-length}
 use native.Mathlib.Omega.{arith}
 use borrow.Author.Tests.{eq-eqb, ne-eqb}
 use mathlib.Core.Path.{_∙_, ap}
-use Rattle.fields.specs.Answer.{got}
+use Rattle.theory.specs.Result.{got}
 use Rattle.symbols.specs.Symbols.{symbol-in, numbered}
 use Rattle.symbols.proofs.symbol_in.Statement.{statement}
 use Rattle.symbols.proofs.symbol_in.Tie as tie

@@ -11,17 +11,17 @@ use native.Mathlib.Omega.{arith}
 use lib.Dec.{T, T-not, not-T, ltb, leb, leb→le, le→leb}
 use lib.ListN.{length, getD, length-append}
 use borrow.Author.Tests.{lt-ltb, le-ltb}
 use Rattle.theory.specs.Lists.{guard, filter, some?, adjoin, adjoin-all, concat-map, tabulate, range, NoRepeat}
 use Rattle.theory.specs.PathExpr.{Op, union, conjunction, branch-right, branch-left, PathExpr, step, join, op, closure, size}
 use Rattle.theory.specs.Sheet.{Sheet}
-use Rattle.theory.specs.Inference.{Triple, triple, triple?, distinct, stepped?, between, of-step, of-join, pairs, end-to-end?, same-ends?, same-start?, joined, conjoined, branched-right, branched-left, of-op, reach, meets-cyclic?, acyclic?, walks, of-closure, triples}
+use Rattle.theory.specs.Inference.{Triple, triple, triple?, distinct, stepped?, between, of-step, of-join, pairs, end-to-end?, same-ends?, same-start?, joined, conjoined, branched-right, branched-left, of-op, reach, meets-cyclic?, acyclic?, walks, of-closure, triples, free, kept-closures}
 use Rattle.theory.specs.Narrowing.{short?}
-use Rattle.theory.specs.Growth.{no-triple, grown, grow, free, kept-closures}
+use Rattle.algorithms.specs.Growth.{no-triple, grown, grow}
 use Rattle.theory.proofs.Tests.{test, of-true, cond-case, bool-eq, apart}
 use Rattle.theory.proofs.Lists.{in-guard, in-filter, some-in, in-some, every-in, in-every, in-concat-map, in-tabulate}
 use Rattle.theory.proofs.Distinct.{in-adjoin, adjoin-all-old, adjoin-all-new, adjoin-all-append, adjoin-all-longer}
 use Rattle.theory.proofs.Triples.{triple-eq, triple-refl, in-distinct, distinct-in, distinct-norepeat, in-pairs, in-between}
 use Rattle.theory.proofs.Walks.{level, level-size, walks-in, in-walks}
 
 -- ---- `adjoin-all`
 module _ {A : Type 0} (eq : A → A → Bool) where

@@ -9,14 +9,16 @@ use native.Mathlib.Omega.{arith}
 use lib.Arith.{bin-ind}
 use lib.Bits.{bitOr, or-step}
 use lib.Dec.{T}
 use Rattle.theory.specs.KindSet.{set-union}
 use Rattle.theory.specs.PathExpr.{Via, any, through, PathExpr, step, join, op, closure, codes, before?, erase, links?, same?, path-discrete}
-use Rattle.theory.specs.Inference.{Triple}
+use Rattle.theory.specs.Sheet.{Sheet}
+use Rattle.theory.specs.Inference.{Triple, triples}
 use Rattle.theory.specs.Merging.{Member, member, of-triple, same-shape?, merge-via, merge, merged, insert, members}
-use Rattle.theory.specs.Sorting.{place, sorted, ahead?, alike?, put, grouped, gathered}
+use Rattle.algorithms.specs.Sorting.{place, sorted, ahead?, alike?, put, grouped, gathered}
 use Rattle.theory.proofs.Tests.{apart, never, of-true, to-true, to-decided}
 use Rattle.theory.proofs.Merging.{same-shape, merge-erase}
+use Rattle.theory.proofs.TriplePaths.{triples-linked}
 use Rattle.theory.proofs.Order.{codes-erase, codes-inj, codes-merge, trichotomy, before-trans, before-cases, Linked}
 
 -- ---- paths of one shape have the same codes and the same order
 pub shape-codes : (p q : PathExpr) → erase p ≡ erase q → codes p ≡ codes q
@@ -282,3 +284,7 @@ group-run m (n ∷ ns) rest a s =
     stops : (ks : List Member) → Stops m ks → Stops (merged m n) ks
     stops [] t = tt
     stops (k ∷ ks) t = merged-alike m n k ∙ t
+
+-- the members of a question
+pub question-sorted : (S : Sheet) (q : PathExpr) → T (links? 64 q) → members (triples S q) ≡ grouped (sorted ahead? (map of-triple (triples S q)))
+question-sorted S q x = members-sorted (triples S q) (triples-linked S q x)

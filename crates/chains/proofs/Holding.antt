@@ -25,7 +25,7 @@ use Rattle.evaluation.specs.Ground.{Ground, direction}
 use Rattle.evaluation.specs.Stack.{Stored}
 use Rattle.evaluation.proofs.Grounds.{limits, rows-hold}
 use Rattle.evaluation.proofs.Relations.{stored-kept, stored-step}
-use Rattle.chains.specs.Chain.{step-numbered, Held, Holds}
+use Rattle.chains.specs.Chain.{step-numbered, Held, StillHeld}
 
 -- the place of what is held lies past a stack, and before the end
 pub past : (k z : ℕ) → 24 * z ≤ (24 + k) * z
@@ -73,8 +73,8 @@ module _ {s : List ℕ} {n w : ℕ} (ground : Ground s n w) where
   held-none xs = record { few = refl; stored = λ k c hk e hc. absurd (omega (arith, sym (getD-replicate 4 k 255 0 hk) ∙ e)) }
 
 -- what is held stays so
-pub holds-same : (held : List ℕ) → Holds held held
+pub holds-same : (held : List ℕ) → StillHeld held held
 holds-same held = record { more = λ k h l. refl }
 
-pub holds-more : (held : List ℕ) (f c : ℕ) → getD held f 0 ≡ 255 → Holds held (set held f c)
+pub holds-more : (held : List ℕ) (f c : ℕ) → getD held f 0 ≡ 255 → StillHeld held (set held f c)
 holds-more held f c e = record { more = λ k h l. getD-set-other held f k c 0 (λ q. absurd (omega (arith, ap (λ (j : ℕ). getD held j 0) q ∙ e))) }

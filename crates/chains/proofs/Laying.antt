@@ -31,14 +31,14 @@ use Rattle.evaluation.proofs.Grounds.{limits, rows-hold, narrow}
 use Rattle.evaluation.proofs.Tables.{evaluate-past}
 use Rattle.kind_rows.specs.Kinds.{KindRows}
 use Rattle.kind_rows.proofs.Tables.{set-has}
-use Rattle.chains.specs.Chain.{step-numbered, Chained, chain-path, Held, Holds, Leg, Joint, Linked, Laid}
+use Rattle.chains.specs.Chain.{step-numbered, Chained, chain-path, Held, StillHeld, Leg, Joint, LinkLaid, Laid}
 use Rattle.chains.specs.Route.{routed, Routed, Leads}
 use Rattle.chains.proofs.Holding.{before-end}
 use Rattle.chains.proofs.Symbols.{chain-reads}
 
 -- ---- link by link
 -- a step that is held stays so, and so does where it lies
-leg-kept : {lo hi : ℕ} {held held′ bases bases′ : List ℕ} (n w j c : ℕ) → Leg n w held bases j c → Holds held held′ → Kept lo hi bases bases′ → j < lo → c < 128 → Leg n w held′ bases′ j c
+leg-kept : {lo hi : ℕ} {held held′ bases bases′ : List ℕ} (n w j c : ℕ) → Leg n w held bases j c → StillHeld held held′ → Kept lo hi bases bases′ → j < lo → c < 128 → Leg n w held′ bases′ j c
 leg-kept n w j c l h k o hc = (l .0, l .1, h .more (l .0) (l .1) (omega (arith, l .2)) ∙ l .2, k .below j o ∙ l .3)
 
 -- the first step
@@ -46,7 +46,7 @@ pub laid-none : (n w : ℕ) (kinds numbers sets : List ℕ) (first : ℕ) (held 
 laid-none n w kinds numbers sets first held bases masks l = record { start = l; leg = λ j h. absurd (omega arith); joint = λ j h. absurd (omega arith) }
 
 pub laid-more : {n w first m : ℕ} {kinds numbers sets held held′ bases bases′ masks masks′ : List ℕ} (j : ℕ) → Laid n w kinds numbers sets first j held bases masks
-    → Linked n w kinds (getD numbers (first + 2 * j + 1) 0) (getD sets (first + 2 * j + 2) 0) j held′ bases bases′ masks masks′ → Holds held held′ → Chained numbers first m → j < m → w ≤ 16
+    → LinkLaid n w kinds (getD numbers (first + 2 * j + 1) 0) (getD sets (first + 2 * j + 2) 0) j held′ bases bases′ masks masks′ → StillHeld held held′ → Chained numbers first m → j < m → w ≤ 16
     → Laid n w kinds numbers sets first (j + 1) held′ bases′ masks′
 laid-more {n} {w} {first} {m} {kinds} {numbers} {sets} {held} {held′} {bases} {bases′} {masks} {masks′} j l k h c hj hw = record {
   start = leg-kept n w 0 (getD numbers first 0) (l .start) h (k .bases-kept) (omega arith) (c .start);

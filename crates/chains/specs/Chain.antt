@@ -37,7 +37,7 @@ pub record Held (r : Register) (n w : ℕ) (held xs : List ℕ) : Type 0 where
   pub stored : (k c : ℕ) → k < 4 → getD held k 0 ≡ c → c < 128 → Stored xs ((24 + k) * (n * w)) n w (look (evaluate r (step-numbered c)))
 
 -- what is held stays so
-pub record Holds (held held′ : List ℕ) : Type 0 where
+pub record StillHeld (held held′ : List ℕ) : Type 0 where
   pub more : (k : ℕ) → k < 4 → getD held k 0 < 128 → getD held′ k 0 ≡ getD held k 0
 
 -- the j-th relation of a route is the step of number c, which is held
@@ -49,7 +49,7 @@ abbrev pub Joint : ℕ → List ℕ → List ℕ → ℕ → ℕ → Type 0
 Joint w kinds masks j set = (z : ℕ) → z / 64 < w → row-bit masks (16 * j) z ≡ in-set kinds w set z
 
 -- link j has come to a route, and nothing else of it changed
-pub record Linked (n w : ℕ) (kinds : List ℕ) (number set j : ℕ) (held bases bases′ masks masks′ : List ℕ) : Type 0 where
+pub record LinkLaid (n w : ℕ) (kinds : List ℕ) (number set j : ℕ) (held bases bases′ masks masks′ : List ℕ) : Type 0 where
   pub leg : Leg n w held bases′ (j + 1) number
   pub joint : Joint w kinds masks′ j set
   pub bases-kept : Kept (j + 1) (j + 1 + 1) bases bases′

@@ -14,7 +14,7 @@ ghost use Rattle.rows.specs.Row.{row-bit, Row};
 ghost use Rattle.relation.specs.Pairs.{pair-at, Made, CleanRow};
 ghost use Rattle.evaluation.specs.Ground.{Ground, symbols-in};
 ghost use Rattle.kind_rows.specs.Kinds.{KindRows, in-set, OfRecords};
-ghost use Rattle.chains.specs.Chain.{Chained, Held, Holds, Linked, Laid};
+ghost use Rattle.chains.specs.Chain.{Chained, Held, StillHeld, LinkLaid, Laid};
 ghost use Rattle.chains.specs.Route.{routed, Routed, Leads, between, Gained};
 
 // How many steps are held: as many relations as the work words have past those of a stack.
@@ -73,7 +73,7 @@ fn place(held: &[u8], number: u8) -> usize
 fn hold(work: &mut [u64], register: &[u8], n: usize, w: usize, held: &mut [u8], number: u8) -> usize
     requires { ⌜ Ground (now register) n w × (28 * (n * w) ≤ length (now work)) × Held (register-in (now register)) n w (now held) (now work) × (number < 128) ⌝ }
     ensures { λ k. ⌜ (k ≤ 4) × (k < 4 → getD (now (held .exit)) k 0 ≡ number) × Held (register-in (now (register .entry))) n w (now (held .exit)) (now (work .exit))
-        × Holds (now (held .entry)) (now (held .exit)) × Kept (24 * (n * w)) (28 * (n * w)) (now (work .entry)) (now (work .exit)) ⌝ }
+        × StillHeld (now (held .entry)) (now (held .exit)) × Kept (24 * (n * w)) (28 * (n * w)) (now (work .entry)) (now (work .exit)) ⌝ }
 {
     let k = place(held, number);
     if k < HELD {
@@ -114,9 +114,9 @@ fn link(
     requires { ⌜ Ground (now register) n w × (28 * (n * w) ≤ length (now work)) × Held (register-in (now register)) n w (now held) (now work) × (number < 128)
         × KindRows (register-in (now register)) n w (now kinds) ⌝ }
     requires { ⌜ (j < 23) × (length (now bases) ≡ 24) × (length (now masks) ≡ 384) ⌝ }
-    ensures { λ r. ⌜ Held (register-in (now (register .entry))) n w (now (held .exit)) (now (work .exit)) × Holds (now (held .entry)) (now (held .exit))
+    ensures { λ r. ⌜ Held (register-in (now (register .entry))) n w (now (held .exit)) (now (work .exit)) × StillHeld (now (held .entry)) (now (held .exit))
         × Kept (24 * (n * w)) (28 * (n * w)) (now (work .entry)) (now (work .exit))
-        × (r ≡ true → Linked n w (now (kinds .entry)) number set j (now (held .exit)) (now (bases .entry)) (now (bases .exit)) (now (masks .entry)) (now (masks .exit))) ⌝ }
+        × (r ≡ true → LinkLaid n w (now (kinds .entry)) number set j (now (held .exit)) (now (bases .entry)) (now (bases .exit)) (now (masks .entry)) (now (masks .exit))) ⌝ }
 {
     let k = hold(work, register, n, w, held, number);
     if k == HELD {

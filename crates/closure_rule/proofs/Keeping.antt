@@ -22,7 +22,7 @@ use Rattle.symbols.proofs.Numbers.{length-codes}
 use Rattle.rules.specs.Outcome.{Done}
 use Rattle.rules.proofs.Grows.{grows-start, none-added, one-added}
 use Rattle.rules.proofs.Ranging.{Ranging, ranging-room}
-use Rattle.kind_graph.specs.Kinds.{Linked, TellsMeets, TellsMeetsAny}
+use Rattle.kind_graph.specs.Kinds.{KindGraph, TellsMeets, TellsMeetsAny}
 use Rattle.kind_graph.proofs.WiderGraph.{each-none}
 use Rattle.closure_rule.specs.Kept.{kept-at, kept-from, kept-all}
 use Rattle.closure_rule.specs.Requirements.{AddKept}
@@ -136,5 +136,5 @@ between-bits xs p K f e =
     rw z (range-same (λ a. concat-map (kept-at xs p a) (range K)) (λ a. concat-map (λ b. guard (f a b) (triple a (closure p) b ∷ [])) (range K)) 0 K
     (λ a l. range-same (kept-at xs p a) (λ b. guard (f a b) (triple a (closure p) b ∷ [])) 0 K (λ b m. ap (λ (t : Bool). guard t (triple a (closure p) b ∷ [])) (e a b (omega arith) (omega arith)))))
 
-pub kept-all-is : {ts : List Triple} {xs : List ℕ} → Linked ts xs → (p : PathExpr) → kept-all xs p 0 64 ≡ kept-closures 64 p ts
+pub kept-all-is : {ts : List Triple} {xs : List ℕ} → KindGraph ts xs → (p : PathExpr) → kept-all xs p 0 64 ≡ kept-closures 64 p ts
 kept-all-is {ts} {xs} l p = between-bits xs p 64 (meets-cyclic? 64 (reach 64 ts)) (l .met)

@@ -20,7 +20,7 @@ use Rattle.rules.specs.declared.Part.the-variants.{Made, Many, Long}
 use Rattle.rules.specs.Outcome.{Ruled, Done}
 use Rattle.rules.specs.Requirements.{part}
 use Rattle.rules.proofs.RuleOutcome.{ruled-long, ruled-many, ruled-made}
-use Rattle.kind_graph.specs.Kinds.{Linked}
+use Rattle.kind_graph.specs.Kinds.{KindGraph}
 use Rattle.kind_graph.specs.Sizes.{Part}
 use Rattle.closure_rule.specs.Kept.{kept-all}
 use Rattle.closure_rule.specs.Requirements.{Closing, CopyAcyclic, GrowWalks, AddKept}
@@ -39,7 +39,7 @@ module _ {qs ws₀ : List ℕ} {s p d o n : ℕ} (h : Closing qs ws₀ s p d o n
   abbrev all : List Triple
   all = distinct (of-closure 64 path ts)
 
-  pub rule-copies : {xs : List ℕ} → Linked (part qs ws₀ p d) xs → CopyAcyclic qs ws₀ xs s p d
+  pub rule-copies : {xs : List ℕ} → KindGraph (part qs ws₀ p d) xs → CopyAcyclic qs ws₀ xs s p d
   rule-copies l = record { room = h .room; lies = h .lies; few = h .few; linked = l }
 
   module _ {ws₁ : List ℕ} {f : ℕ} (c : Done qs ws₀ ws₁ s s f (distinct (free 64 (part qs ws₀ p d))) × (f ≤ 128)) where
@@ -95,7 +95,7 @@ module _ {qs ws₀ : List ℕ} {s p d o n : ℕ} (h : Closing qs ws₀ s p d o n
           pub rule-many : 128 < w → Ruled qs ws₀ ws₂ s (distinct (of-closure 64 (original qs o n) (part qs ws₀ p d))) Many
           rule-many m = ruled-many (all-short ∙ e) (too-many m) m
 
-          module _ {xs : List ℕ} (l : Linked (part qs ws₀ p d) xs) (m : w ≤ 128) where
+          module _ {xs : List ℕ} (l : KindGraph (part qs ws₀ p d) xs) (m : w ≤ 128) where
             pub rule-keeps : AddKept qs ws₂ xs s w o n
             rule-keeps =
                 record {

@@ -11,7 +11,7 @@ use Rattle.theory.specs.Narrowing.{short?}
 use Rattle.triples.specs.Paths.{Copied}
 use Rattle.triples.specs.Parts.{part-of}
 use Rattle.rules.specs.Requirements.{Lies, Room, part}
-use Rattle.kind_graph.specs.Kinds.{Linked}
+use Rattle.kind_graph.specs.Kinds.{KindGraph}
 
 -- a part of at most 128 triples, each once, whose original part is n symbols of the question from o on
 pub record Closing (qs ws : List ℕ) (s p d o n : ℕ) : Type 0 where
@@ -28,7 +28,7 @@ pub record CopyAcyclic (qs ws xs : List ℕ) (s p d : ℕ) : Type 0 where
   pub room : Room qs ws s 0
   pub lies : Lies s p d
   pub few : d ≤ p + 128
-  pub linked : Linked (part qs ws p d) xs
+  pub linked : KindGraph (part qs ws p d) xs
 
 -- the walks go over f triples, each once, and none is over 48 symbols long
 pub record GrowWalks (qs ws : List ℕ) (s f : ℕ) : Type 0 where
@@ -39,7 +39,7 @@ pub record GrowWalks (qs ws : List ℕ) (s f : ℕ) : Type 0 where
 -- xs is the graph of some triples
 pub record Graph (xs : List ℕ) : Type 0 where
   pub of : List Triple
-  pub linked : Linked of xs
+  pub linked : KindGraph of xs
 
 pub record AddKept (qs ws xs : List ℕ) (s count o n : ℕ) : Type 0 where
   pub room : Room qs ws s count

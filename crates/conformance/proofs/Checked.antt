@@ -16,7 +16,7 @@ use Rattle.sheet.specs.declared.Outcome as sheet·Outcome
 use Rattle.sheet.specs.declared.Outcome.the-variants as sheet·outcome
 use Rattle.sheet.specs.Form.{sheet-form}
 use Rattle.sheet.specs.Table.{tabled?, table-of}
-use Rattle.sheet.specs.Contract.{Reads}
+use Rattle.sheet.specs.Contract.{ReadsSheet}
 use Rattle.sheet.proofs.Ranges.{accepted-sheet}
 use Rattle.sheet.proofs.Tables.{table-permits}
 use Rattle.sheet.proofs.ReaderOutcome.{refused-sheet, told-sheet}
@@ -54,7 +54,7 @@ own-table : (S : Sheet) → T (sheet? S) → (a l b : ℕ) → a < 64 → tabled
 unfolding tabled?
 own-table S ok = table-permits S ok
 
-module _ (s g : List ℕ) (o : sheet·Outcome.Outcome) (t : List ℕ) (h : Reads (read sheet-form s) o t) where
+module _ (s g : List ℕ) (o : sheet·Outcome.Outcome) (t : List ℕ) (h : ReadsSheet (read sheet-form s) o t) where
   pub sheet-refused : (x : Refusal) → o ≡ sheet·outcome.Refused x → refuses source.Sheet (number-of x) (place-of x) ≡ check-of s g
   unfolding check-of
   sheet-refused x w = rw (refused-sheet s o t h x w)

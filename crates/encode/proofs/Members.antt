@@ -11,7 +11,7 @@ use Rattle.narrowed_question.specs.declared.Members.{Members}
 use Rattle.fields.specs.Writing.{two-bytes, field-bytes}
 use Rattle.narrowed_question.specs.Writing.{member-bytes, members-bytes, encode}
 use Rattle.narrowed_question.specs.ArrayMembers.{members-given, given}
-use Rattle.encode.specs.Wrote.{Wrote, Few}
+use Rattle.encode.specs.BytesWritten.{BytesWritten, Few}
 use Rattle.encode.proofs.Along.{wrote-length, wrote-more, Along, along-start, along-more, along-end, along-room}
 use Rattle.encode.proofs.Parts.{member-at, members-more, encode-parts}
 
@@ -37,7 +37,7 @@ pub record Placed (o : List ℕ) (s : ℕ) (q : Members) (out : List ℕ) (a i k
   pub used : k ≤ 48 * i
   pub along : Along o out s a (members-all q) (members-bytes (members-given q (q .count - i) i k))
 
-pub placed-start : {e o : List ℕ} {s : ℕ} (q : Members) → Few q → length (encode (given q)) ≤ length e → Wrote e o 0 s (opening q) → Placed o s q o s 0 0
+pub placed-start : {e o : List ℕ} {s : ℕ} (q : Members) → Few q → length (encode (given q)) ≤ length e → BytesWritten e o 0 s (opening q) → Placed o s q o s 0 0
 placed-start {e} {o} {s} q f h w = record {
   few = f;
   room = omega (arith, h, encode-length q, wrote-length w, w .next-is);
@@ -58,7 +58,7 @@ module _ {o : List ℕ} {s : ℕ} {q : Members} {out : List ℕ} {a i k : ℕ} (
   placed-room h =
       along-room (member-bytes (member-at q i k)) (members-bytes (members-given q (q .count - (i + 1)) (i + 1) (k + getD (q .sizes) i 0))) (p .along) (members-more q i k h) (p .room)
 
-  pub placed-next : {b : List ℕ} {y : ℕ} → i < q .count → Wrote out b a y (member-bytes (member-at q i k)) → Placed o s q b y (i + 1) (k + getD (q .sizes) i 0)
+  pub placed-next : {b : List ℕ} {y : ℕ} → i < q .count → BytesWritten out b a y (member-bytes (member-at q i k)) → Placed o s q b y (i + 1) (k + getD (q .sizes) i 0)
   placed-next h w = record {
     few = p .few;
     room = p .room;
@@ -67,8 +67,8 @@ module _ {o : List ℕ} {s : ℕ} {q : Members} {out : List ℕ} {a i k : ℕ} (
     along = along-more (member-bytes (member-at q i k)) (members-bytes (members-given q (q .count - (i + 1)) (i + 1) (k + getD (q .sizes) i 0))) (p .along) (members-more q i k h) w;
   }
 
-  pub placed-end : {e : List ℕ} → Wrote e o 0 s (opening q) → q .count ≤ i → (out ≡ sets e 0 (encode (given q))) × (a ≡ length (encode (given q)))
+  pub placed-end : {e : List ℕ} → BytesWritten e o 0 s (opening q) → q .count ≤ i → (out ≡ sets e 0 (encode (given q))) × (a ≡ length (encode (given q)))
   placed-end {e} u h =
       let v = along-end (p .along) (ap (λ (n : ℕ). members-bytes (members-given q n i k)) (let z : q .count - i ≡ 0 = omega arith in z)) in
-      let w = subst (λ (l : List ℕ). Wrote e out 0 a l) (sym (encode-parts q)) (wrote-more u v) in
+      let w = subst (λ (l : List ℕ). BytesWritten e out 0 a l) (sym (encode-parts q)) (wrote-more u v) in
       (w .area, omega (arith, w .next-is))

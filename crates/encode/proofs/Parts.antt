@@ -17,7 +17,7 @@ use Rattle.narrowed_question.specs.Writing.{member-bytes, members-bytes, encode
 use Rattle.symbols.specs.Symbols.{symbol-given, symbols-given}
 use Rattle.narrowed_question.specs.ArrayMembers.{members-given, given}
 use Rattle.encode.specs.Size.{symbol-size}
-use Rattle.encode.specs.Wrote.{Wrote}
+use Rattle.encode.specs.BytesWritten.{BytesWritten}
 use Rattle.encode.proofs.Along.{wrote-more}
 
 -- ---- a symbol, by its number
@@ -69,9 +69,9 @@ pub member-parts : (a b : List ℕ) (n k f t : ℕ)
 member-parts a b n k f t =
     ap (λ (c : ℕ). field-bytes 0x42 (c ∷ (eight-bytes f ++ eight-bytes t)) ++ symbols-bytes (symbols-given a b n k)) (symbols-many a b n k)
 
-pub member-wrote : {o p q : List ℕ} {at x y : ℕ} (a b : List ℕ) (n k f t : ℕ) → Wrote o p at x (field-bytes 0x42 (n ∷ (eight-bytes f ++ eight-bytes t)))
-    → Wrote p q x y (symbols-bytes (symbols-given a b n k)) → Wrote o q at y (member-bytes (flat f t (symbols-given a b n k)))
-member-wrote {o} {p} {q} {at} {x} {y} a b n k f t u v = subst (λ (l : List ℕ). Wrote o q at y l) (sym (member-parts a b n k f t)) (wrote-more u v)
+pub member-wrote : {o p q : List ℕ} {at x y : ℕ} (a b : List ℕ) (n k f t : ℕ) → BytesWritten o p at x (field-bytes 0x42 (n ∷ (eight-bytes f ++ eight-bytes t)))
+    → BytesWritten p q x y (symbols-bytes (symbols-given a b n k)) → BytesWritten o q at y (member-bytes (flat f t (symbols-given a b n k)))
+member-wrote {o} {p} {q} {at} {x} {y} a b n k f t u v = subst (λ (l : List ℕ). BytesWritten o q at y l) (sym (member-parts a b n k f t)) (wrote-more u v)
 
 -- ---- members, one more
 pub members-many : (q : Members) (n i k : ℕ) → length (members-given q n i k) ≡ n

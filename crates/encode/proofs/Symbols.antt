@@ -7,7 +7,7 @@ use lib.ListN.{length, getD}
 use native.Mathlib.Omega.{arith}
 use Rattle.symbols.specs.Writing.{symbol-bytes, symbols-bytes}
 use Rattle.symbols.specs.Symbols.{symbol-given, symbols-given}
-use Rattle.encode.specs.Wrote.{Wrote}
+use Rattle.encode.specs.BytesWritten.{BytesWritten}
 use Rattle.encode.proofs.Along.{Along, along-start, along-more, along-end, along-room}
 use Rattle.encode.proofs.Parts.{symbols-more}
 
@@ -26,7 +26,7 @@ module _ {o : List ℕ} {at : ℕ} {numbers masks : List ℕ} {k n : ℕ} {out :
   pub symbols-room : 0 < left → a + length (symbol-bytes (symbol-given (getD numbers j 0) (getD masks j 0))) ≤ length out
   symbols-room h = along-room (symbol-bytes (symbol-given (getD numbers j 0) (getD masks j 0))) (symbols-bytes (symbols-given numbers masks (left - 1) (j + 1))) (s .along) (symbols-more numbers masks left j h) (s .room)
 
-  pub symbols-next : {b : List ℕ} {y : ℕ} → 0 < left → Wrote out b a y (symbol-bytes (symbol-given (getD numbers j 0) (getD masks j 0)))
+  pub symbols-next : {b : List ℕ} {y : ℕ} → 0 < left → BytesWritten out b a y (symbol-bytes (symbol-given (getD numbers j 0) (getD masks j 0)))
       → Symbols o at numbers masks k n b y (j + 1) (left - 1)
   symbols-next h w = record {
     in-numbers = omega (arith, s .in-numbers);
@@ -35,5 +35,5 @@ module _ {o : List ℕ} {at : ℕ} {numbers masks : List ℕ} {k n : ℕ} {out :
     along = along-more (symbol-bytes (symbol-given (getD numbers j 0) (getD masks j 0))) (symbols-bytes (symbols-given numbers masks (left - 1) (j + 1))) (s .along) (symbols-more numbers masks left j h) w;
   }
 
-  pub symbols-end : left ≤ 0 → Wrote o out at a (symbols-bytes (symbols-given numbers masks n k))
+  pub symbols-end : left ≤ 0 → BytesWritten o out at a (symbols-bytes (symbols-given numbers masks n k))
   symbols-end h = along-end (s .along) (ap (λ (i : ℕ). symbols-bytes (symbols-given numbers masks i j)) (let z : left ≡ 0 = omega arith in z))

@@ -1,2 +1,2 @@
 pub mod Size
-pub mod Wrote
+pub mod BytesWritten

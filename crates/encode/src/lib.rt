@@ -14,7 +14,7 @@ ghost use Rattle.narrowed_question.specs.Writing.{member-bytes, encode};
 ghost use Rattle.symbols.specs.Symbols.{symbol-given, symbols-given};
 ghost use Rattle.narrowed_question.specs.ArrayMembers.{given};
 ghost use Rattle.encode.specs.Size.{symbol-size};
-ghost use Rattle.encode.specs.Wrote.{Wrote, Few};
+ghost use Rattle.encode.specs.BytesWritten.{BytesWritten, Few};
 
 // The bytes of a narrowed question's head, and of a member's.
 pub const NARROWED_BYTES: usize = fields::HEAD + fields::NARROWED_LENGTH as usize;
@@ -43,7 +43,7 @@ pub fn symbol_size(number: u8) -> usize
 
 pub fn put_byte(out: &mut [u8], at: usize, b: u8) -> usize
     requires { ⌜ at + 1 ≤ length (now out) ⌝ }
-    ensures { λ r. ⌜ Wrote (now (out .entry)) (now (out .exit)) at r (b ∷ []) ⌝ }
+    ensures { λ r. ⌜ BytesWritten (now (out .entry)) (now (out .exit)) at r (b ∷ []) ⌝ }
 {
     out[at] = b;
     at + 1
@@ -66,7 +66,7 @@ fn short(n: u64) -> u16
 // Two bytes, the high one first.
 fn put_two(out: &mut [u8], at: usize, n: u16) -> usize
     requires { ⌜ at + 2 ≤ length (now out) ⌝ }
-    ensures { λ r. ⌜ Wrote (now (out .entry)) (now (out .exit)) at r (two-bytes n) ⌝ }
+    ensures { λ r. ⌜ BytesWritten (now (out .entry)) (now (out .exit)) at r (two-bytes n) ⌝ }
 {
     let a = put_byte(out, at, low(n / 256));
     put_byte(out, a, low(n % 256))
@@ -74,7 +74,7 @@ fn put_two(out: &mut [u8], at: usize, n: u16) -> usize
 
 fn put_eight(out: &mut [u8], at: usize, n: u64) -> usize
     requires { ⌜ at + 8 ≤ length (now out) ⌝ }
-    ensures { λ r. ⌜ Wrote (now (out .entry)) (now (out .exit)) at r (eight-bytes n) ⌝ }
+    ensures { λ r. ⌜ BytesWritten (now (out .entry)) (now (out .exit)) at r (eight-bytes n) ⌝ }
 {
     let a = put_two(out, at, short(n / 281474976710656));
     let b = put_two(out, a, short(n / 4294967296 % 65536));
@@ -85,7 +85,7 @@ fn put_eight(out: &mut [u8], at: usize, n: u64) -> usize
 // A field's tag and the length of its body.
 pub fn put_head(out: &mut [u8], at: usize, tag: u8, len: u16) -> usize
     requires { ⌜ at + 3 ≤ length (now out) ⌝ }
-    ensures { λ r. ⌜ Wrote (now (out .entry)) (now (out .exit)) at r (tag ∷ two-bytes len) ⌝ }
+    ensures { λ r. ⌜ BytesWritten (now (out .entry)) (now (out .exit)) at r (tag ∷ two-bytes len) ⌝ }
 {
     let a = put_byte(out, at, tag);
     put_two(out, a, len)
@@ -94,7 +94,7 @@ pub fn put_head(out: &mut [u8], at: usize, tag: u8, len: u16) -> usize
 // 41: the number of members.
 pub fn put_count(out: &mut [u8], at: usize, n: u16) -> usize
     requires { ⌜ at + field-size 0x41 ≤ length (now out) ⌝ }
-    ensures { λ r. ⌜ Wrote (now (out .entry)) (now (out .exit)) at r (field-bytes 0x41 (two-bytes n)) ⌝ }
+    ensures { λ r. ⌜ BytesWritten (now (out .entry)) (now (out .exit)) at r (field-bytes 0x41 (two-bytes n)) ⌝ }
 {
     let a = put_head(out, at, fields::NARROWED_TAG, fields::NARROWED_LENGTH);
     put_two(out, a, n)
@@ -103,7 +103,7 @@ pub fn put_count(out: &mut [u8], at: usize, n: u16) -> usize
 // 42: the number of symbols and the two sets.
 fn put_open(out: &mut [u8], at: usize, n: u8, from: u64, to: u64) -> usize
     requires { ⌜ at + field-size 0x42 ≤ length (now out) ⌝ }
-    ensures { λ r. ⌜ Wrote (now (out .entry)) (now (out .exit)) at r (field-bytes 0x42 (n ∷ (eight-bytes from ++ eight-bytes to))) ⌝ }
+    ensures { λ r. ⌜ BytesWritten (now (out .entry)) (now (out .exit)) at r (field-bytes 0x42 (n ∷ (eight-bytes from ++ eight-bytes to))) ⌝ }
 {
     let a = put_head(out, at, fields::MEMBER_TAG, fields::MEMBER_LENGTH);
     let b = put_byte(out, a, n);
@@ -114,7 +114,7 @@ fn put_open(out: &mut [u8], at: usize, n: u8, from: u64, to: u64) -> usize
 // 43: direction and link.
 fn put_step(out: &mut [u8], at: usize, direction: u8, link: Link) -> usize
     requires { ⌜ at + field-size 0x43 ≤ length (now out) ⌝ }
-    ensures { λ r. ⌜ Wrote (now (out .entry)) (now (out .exit)) at r (field-bytes 0x43 (direction ∷ link .0 ∷ [])) ⌝ }
+    ensures { λ r. ⌜ BytesWritten (now (out .entry)) (now (out .exit)) at r (field-bytes 0x43 (direction ∷ link .0 ∷ [])) ⌝ }
 {
     let a = put_head(out, at, fields::STEP_TAG, fields::STEP_LENGTH);
     let b = put_byte(out, a, direction);
@@ -124,7 +124,7 @@ fn put_step(out: &mut [u8], at: usize, direction: u8, link: Link) -> usize
 // 44: an operator.
 fn put_operator(out: &mut [u8], at: usize, o: u8) -> usize
     requires { ⌜ at + field-size 0x44 ≤ length (now out) ⌝ }
-    ensures { λ r. ⌜ Wrote (now (out .entry)) (now (out .exit)) at r (field-bytes 0x44 (o ∷ [])) ⌝ }
+    ensures { λ r. ⌜ BytesWritten (now (out .entry)) (now (out .exit)) at r (field-bytes 0x44 (o ∷ [])) ⌝ }
 {
     let a = put_head(out, at, fields::OPERATOR_TAG, fields::OPERATOR_LENGTH);
     put_byte(out, a, o)
@@ -133,7 +133,7 @@ fn put_operator(out: &mut [u8], at: usize, o: u8) -> usize
 // 45: a join through a set.
 fn put_through(out: &mut [u8], at: usize, set: u64) -> usize
     requires { ⌜ at + field-size 0x45 ≤ length (now out) ⌝ }
-    ensures { λ r. ⌜ Wrote (now (out .entry)) (now (out .exit)) at r (field-bytes 0x45 (eight-bytes set)) ⌝ }
+    ensures { λ r. ⌜ BytesWritten (now (out .entry)) (now (out .exit)) at r (field-bytes 0x45 (eight-bytes set)) ⌝ }
 {
     let a = put_head(out, at, fields::THROUGH_TAG, fields::THROUGH_LENGTH);
     put_eight(out, a, set)
@@ -142,7 +142,7 @@ fn put_through(out: &mut [u8], at: usize, set: u64) -> usize
 // A symbol, by its number.
 fn put_symbol(out: &mut [u8], at: usize, number: u8, set: u64) -> usize
     requires { ⌜ at + length (symbol-bytes (symbol-given number set)) ≤ length (now out) ⌝ }
-    ensures { λ r. ⌜ Wrote (now (out .entry)) (now (out .exit)) at r (symbol-bytes (symbol-given number set)) ⌝ }
+    ensures { λ r. ⌜ BytesWritten (now (out .entry)) (now (out .exit)) at r (symbol-bytes (symbol-given number set)) ⌝ }
 {
     if number < 128 {
         return put_step(out, at, number / 64, symbols::step_link(number));
@@ -163,7 +163,7 @@ pub fn put_symbols(
     n: u8,
 ) -> usize
     requires { ⌜ (k + n ≤ length (now numbers)) × ((k + n ≤ length (now sets)) × (at + length (symbols-bytes (symbols-given (now numbers) (now sets) n k)) ≤ length (now out))) ⌝ }
-    ensures { λ r. ⌜ Wrote (now (out .entry)) (now (out .exit)) at r (symbols-bytes (symbols-given (now (numbers .entry)) (now (sets .entry)) n k)) ⌝ }
+    ensures { λ r. ⌜ BytesWritten (now (out .entry)) (now (out .exit)) at r (symbols-bytes (symbols-given (now (numbers .entry)) (now (sets .entry)) n k)) ⌝ }
 {
     let mut a = at;
     let mut j = k;
@@ -188,7 +188,7 @@ pub fn put_member(
     to: u64,
 ) -> usize
     requires { ⌜ (k + n ≤ length (now numbers)) × ((k + n ≤ length (now sets)) × (at + length (member-bytes (flat from to (symbols-given (now numbers) (now sets) n k))) ≤ length (now out))) ⌝ }
-    ensures { λ r. ⌜ Wrote (now (out .entry)) (now (out .exit)) at r (member-bytes (flat from to (symbols-given (now (numbers .entry)) (now (sets .entry)) n k))) ⌝ }
+    ensures { λ r. ⌜ BytesWritten (now (out .entry)) (now (out .exit)) at r (member-bytes (flat from to (symbols-given (now (numbers .entry)) (now (sets .entry)) n k))) ⌝ }
 {
     let a = put_open(out, at, n, from, to);
     put_symbols(out, a, numbers, sets, k, n)

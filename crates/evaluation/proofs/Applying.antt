@@ -18,7 +18,7 @@ use Rattle.register.specs.Form.{register-in}
 use Rattle.rows.proofs.Words.{kept-in}
 use Rattle.relation.specs.Pairs.{pair-at, Made, Clean}
 use Rattle.evaluation.specs.Ground.{Ground, closes?}
-use Rattle.evaluation.specs.Stack.{Stored, Stacked, binary?, Fits, Applied}
+use Rattle.evaluation.specs.Stack.{Stored, Stacked, binary?, Applicable, Applied}
 use Rattle.evaluation.proofs.Grounds.{limits, rows-hold}
 use Rattle.evaluation.proofs.Numbers.{Binary, closure-number, binary-number}
 use Rattle.evaluation.proofs.Relations.{stored-clean, stored-step, stored-closure, stored-join, stored-op, stacked-length, stacked-kept}
@@ -28,10 +28,10 @@ module _ {s : List ℕ} {n w : ℕ} (ground : Ground s n w) where
   clean : {xs : List ℕ} {b : ℕ} (p : PathExpr) → Stored xs b n w (look (evaluate (register-in s) p)) → Clean xs b n w
   clean p h = stored-clean (register-in s) (limits ground .formed) n w (ground .count) (rows-hold ground) p h
 
-  fits-end : {xs : List ℕ} {b : ℕ} {x : Symbol} → Fits (register-in s) xs n w b x → b ≤ length xs
+  fits-end : {xs : List ℕ} {b : ℕ} {x : Symbol} → Applicable (register-in s) xs n w b x → b ≤ length xs
   fits-end {xs} {b} f = omega (arith, f .room, stacked-length (register-in s) n w xs b (f .before) (f .stacked))
 
-  pub fits-step : {xs : List ℕ} {b : ℕ} {x : Symbol} (d : Direction) (l : ℕ) → x ≡ s-step d l → Fits (register-in s) xs n w b x → b + n * w ≤ length xs
+  pub fits-step : {xs : List ℕ} {b : ℕ} {x : Symbol} (d : Direction) (l : ℕ) → x ≡ s-step d l → Applicable (register-in s) xs n w b x → b + n * w ≤ length xs
   fits-step {xs} {b} d l e f =
       let z : some (step d l ∷ f .before) ≡ some (f .after) = sym (ap (λ y. push y (f .before)) e) ∙ f .pushes in
       let k : step d l ∷ f .before ≡ f .after = cc in
@@ -45,7 +45,7 @@ module _ {s : List ℕ} {n w : ℕ} (ground : Ground s n w) where
     pub below : n * w ≤ b
     pub top : Clean xs (b - n * w) n w
 
-  pub fits-one : {xs : List ℕ} {b : ℕ} {x : Symbol} → x ≡ s-closure → Fits (register-in s) xs n w b x → One xs b
+  pub fits-one : {xs : List ℕ} {b : ℕ} {x : Symbol} → x ≡ s-closure → Applicable (register-in s) xs n w b x → One xs b
   fits-one {xs} {b} {x} e f = go (f .before) (f .stacked) (sym (ap (λ y. push y (f .before)) e) ∙ f .pushes)
     where
       go : (st : Stack) → Stacked (register-in s) xs n w b st → push s-closure st ≡ some (f .after) → One xs b
@@ -60,7 +60,7 @@ module _ {s : List ℕ} {n w : ℕ} (ground : Ground s n w) where
     pub top : Clean xs (b - n * w) n w
     pub next : Clean xs (b - n * w - n * w) n w
 
-  pub fits-two : {xs : List ℕ} {b : ℕ} (x : Symbol) → Binary x → Fits (register-in s) xs n w b x → Two xs b
+  pub fits-two : {xs : List ℕ} {b : ℕ} (x : Symbol) → Binary x → Applicable (register-in s) xs n w b x → Two xs b
   fits-two {xs} {b} x k f = go x k (f .before) (f .stacked) (f .pushes)
     where
       two : (p q : PathExpr) (st : Stack) → Stacked (register-in s) xs n w b (q ∷ p ∷ st) → Two xs b
@@ -76,7 +76,7 @@ module _ {s : List ℕ} {n w : ℕ} (ground : Ground s n w) where
       go (s-op o) k (q ∷ p ∷ st) h e = two p q st h
       go s-closure k st h e = absurd k
 
-  pub fits-operator : {xs : List ℕ} {b : ℕ} (c m : ℕ) → 128 ≤ c → Fits (register-in s) xs n w b (symbol-numbered c m) → n * w ≤ b
+  pub fits-operator : {xs : List ℕ} {b : ℕ} (c m : ℕ) → 128 ≤ c → Applicable (register-in s) xs n w b (symbol-numbered c m) → n * w ≤ b
   fits-operator {b = b} c m l f = go (closes? c) refl
     where
       go : (k : Bool) → closes? c ≡ k → n * w ≤ b

@@ -17,7 +17,7 @@ use Rattle.rows.specs.Kept.{Kept}
 use Rattle.rows.proofs.Words.{kept-refl, kept-trans, kept-in}
 use Rattle.evaluation.specs.Ground.{symbols-in}
 use Rattle.theory.specs.Register.{Register}
-use Rattle.evaluation.specs.Stack.{Stored, Stacked, Fits, Applied, Evaluated}
+use Rattle.evaluation.specs.Stack.{Stored, Stacked, Applicable, Applied, Evaluated}
 use Rattle.evaluation.proofs.Numbers.{set-ignored}
 use Rattle.evaluation.proofs.Relations.{stacked-length}
 
@@ -111,7 +111,7 @@ module _ (r : Register) (n w : ℕ) (ns ms : List ℕ) (first count : ℕ) where
         let l = symbols-length ns ms (count - (i + 1)) (first + (i + 1)) in
         omega (arith, a .height, e, l, near .up)
 
-    pub fits : 24 * (n * w) ≤ length ys → Fits r ys n w b x
+    pub fits : 24 * (n * w) ≤ length ys → Applicable r ys n w b x
     fits room = record {
       before = a .stack;
       after = one .next;

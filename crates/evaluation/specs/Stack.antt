@@ -31,7 +31,7 @@ binary? r (s-op o) f g s t = op? (records r) o f g s t
 binary? r s-closure f g s t = false
 
 -- the symbol finds its operands on the stack that ends at b, and there is room for what it leaves
-pub record Fits (r : Register) (xs : List ℕ) (n w b : ℕ) (x : Symbol) : Type 0 where
+pub record Applicable (r : Register) (xs : List ℕ) (n w b : ℕ) (x : Symbol) : Type 0 where
   pub before : Stack
   pub after : Stack
   pub stacked : Stacked r xs n w b before

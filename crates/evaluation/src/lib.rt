@@ -19,7 +19,7 @@ ghost use Rattle.register.specs.Form.{register-in};
 ghost use Rattle.rows.specs.Row.{Row, mask-of, Word};
 ghost use Rattle.relation.specs.Pairs.{pair-at, Made, Clean};
 ghost use Rattle.evaluation.specs.Ground.{Ground, direction, leads?, closes?, symbols-in, MakePath};
-ghost use Rattle.evaluation.specs.Stack.{binary?, Fits, Applied, Evaluated};
+ghost use Rattle.evaluation.specs.Stack.{binary?, Applicable, Applied, Evaluated};
 
 // The number of a kind.
 pub fn wide(k: Kind) -> usize
@@ -177,7 +177,7 @@ fn apply(
     number: u8,
     set: u64,
 ) -> usize
-    requires { ⌜ Ground (now register) n w × Fits (register-in (now register)) (now work) n w b (symbol-numbered number set) ⌝ }
+    requires { ⌜ Ground (now register) n w × Applicable (register-in (now register)) (now work) n w b (symbol-numbered number set) ⌝ }
     ensures { λ c. ⌜ Applied (register-in (now (register .entry))) n w b (symbol-numbered number set) c (now (work .entry)) (now (work .exit)) ⌝ }
 {
     let z = n * w;

@@ -24,7 +24,7 @@ use Rattle.triples.proofs.Codes.{step-numbered, closure-numbered}
 use Rattle.rules.specs.PairRules.{of-two}
 use Rattle.rules.specs.Requirements.{Room}
 use Rattle.inference.specs.declared.Span.{Span}
-use Rattle.inference.specs.Turns.{made-of, origin-of, Turned}
+use Rattle.inference.specs.Turns.{made-of, origin-of, TurnAsks}
 use Rattle.inference.specs.Questions.{symbols-of, Asking, Sheeted}
 use Rattle.inference.proofs.Codes.{arity-step, arity-closure, arity-two, origin-step, origin-operator, of-step-code, of-closure-code, of-two-code, binary, step-triples, closure-triples}
 use Rattle.inference.proofs.Originals.{symbols-length, top-back, top-original, top-copied}
@@ -65,7 +65,7 @@ pub record Turn (qs ws t : List ℕ) (K : ℕ) (xs : List Span) (st : Stack) (c 
   pub deep : b ≡ length below
   pub stacked : Stacked qs ws t K used xs below
   pub origin : origin-of c i (getD xs b no-span) ≡ length (symbols below)
-  pub asks : Turned qs ws K c used i (getD xs b no-span) (getD xs (b + 1) no-span)
+  pub asks : TurnAsks qs ws K c used i (getD xs b no-span) (getD xs (b + 1) no-span)
   pub is : (S : Sheet) → Sheeted t K S → made-of qs ws t K c i (getD xs b no-span) (getD xs (b + 1) no-span) ≡ triples S top
 
 module _ {qs ws₀ ws t : List ℕ} {count K depth used i : ℕ} {xs : List Span} (h : Asking qs ws₀ count K) (g : Running qs ws₀ ws t count K (h .path) xs depth used i) (l : i < count) where

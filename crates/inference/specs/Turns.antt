@@ -32,7 +32,7 @@ unfoldable pub origin-of : ℕ → ℕ → Span → ℕ
 origin-of c i x = cond (ltb c 128) i (x .from)
 
 -- what its rule asks
-pub record Turned (qs ws : List ℕ) (K c used i : ℕ) (x y : Span) : Type 0 where
+pub record TurnAsks (qs ws : List ℕ) (K c used i : ℕ) (x y : Span) : Type 0 where
   pub code : c < 134
   pub kinds : K ≤ 64
   pub room : Room qs ws used 0

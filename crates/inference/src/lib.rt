@@ -3,7 +3,7 @@ use fields::Refusal;
 use rules::Part;
 ghost use mathlib.Core.Path.{_≡_};
 ghost use Rattle.rules.specs.Outcome.{Ruled};
-ghost use Rattle.inference.specs.Turns.{Turned, origin-of, made-of};
+ghost use Rattle.inference.specs.Turns.{TurnAsks, origin-of, made-of};
 ghost use Rattle.inference.specs.Questions.{Asking, Infers};
 
 // The triples of the question, as nodes from the one number up to the other; or 12 or 13 at the first symbol that has
@@ -42,7 +42,7 @@ fn rule(
     x: Span,
     y: Span,
 ) -> Part
-    requires { ⌜ Turned (now question) (now words) kinds c used i x y ⌝ }
+    requires { ⌜ TurnAsks (now question) (now words) kinds c used i x y ⌝ }
     ensures { λ r. ⌜ Ruled (now (question .entry)) (now (words .entry)) (now (words .exit)) used (made-of (now (question .entry)) (now (words .entry)) (now (table .entry)) kinds c i x y) r ⌝ }
 {
     if c < symbols::STEPS {

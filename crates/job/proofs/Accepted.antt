@@ -39,7 +39,7 @@ use Rattle.narrowing.proofs.Accepted as narrow·Accepted
 use Rattle.answer.specs.Calls.{answer-need, work-need, plain-call}
 use Rattle.answer.proofs.Meaning.{same, answered-enough}
 use Rattle.job.specs.Call.{result, job-need, with-answer, completed, with-breach, filled, settled, job-call}
-use Rattle.job.specs.Contract.{Jobs, Plain}
+use Rattle.job.specs.Contract.{Jobs, AnswersPlain}
 use Rattle.job.proofs.Needs.{larger-both}
 
 pub record Accepted (s q g work answer answer′ file file′ : List ℕ) (z : Size) : Type 0 where
@@ -159,7 +159,7 @@ module _ {s q g work answer answer′ file file′ : List ℕ} {z : Size} (a : A
 
 -- with what the code says
 pub with-plain : (s q g work answer file : List ℕ) {work′ answer′ file′ : List ℕ} {o : Written} → Jobs (job-call s q g work answer file) o work′ answer′ file′
-    → Jobs (job-call s q g work answer file) o work′ answer′ file′ × Plain (plain-call q g work answer) o answer′
+    → Jobs (job-call s q g work answer file) o work′ answer′ file′ × AnswersPlain (plain-call q g work answer) o answer′
 with-plain s q g work answer file j = (
   j,
   record {

@@ -54,7 +54,7 @@ use Rattle.answer.specs.Contract as answer·contract
 use Rattle.answer.proofs.TwoAnswers.{members-back}
 use Rattle.job.specs.Call.{larger, with-breach, completed}
 use Rattle.job.specs.Contract.{due}
-use Rattle.job.specs.Internal.{Gives, HasMembers, Answers-file, Tells, Asked, Completes}
+use Rattle.job.specs.Internal.{Gives, HasMembers, Answers-file, TellsSheet, Asked, Completes}
 use Rattle.job.proofs.Needs.{larger-both}
 
 -- ---- 16
@@ -109,7 +109,7 @@ module _ {qs t : List ℕ} {count K E : ℕ} (a : Asked qs t count K E) {registe
       }
 
   module _ (l : count ≤ i) (u : Failing) (b : failing-said u ≡ first-breach K t r) where
-    left : (S : Sheet) → Tells t K E S → due S qs count register ≡ with-breach (failing-said u) (rest (a .ready) S)
+    left : (S : Sheet) → TellsSheet t K E S → due S qs count register ≡ with-breach (failing-said u) (rest (a .ready) S)
     left S d =
         let e : failing-said u ≡ breach S r = b ∙ ap (λ (k : ℕ). first-breach k t r) (sym (d .handed .sheeted .kinds)) ∙ breach-is S t r (d .handed .sheeted .tabled .bits) (limits ground) in
         rw (← e) (ap (with-breach (failing-said u)) (symbols-named (a .ready) f l S (d .handed .named)))
@@ -124,10 +124,10 @@ module _ {qs t : List ℕ} {count K E : ℕ} (a : Asked qs t count K E) {registe
         }
 
     module _ (e : u ≡ Nowhere) {work work₁ file file₁ : List ℕ} {o : Written} (g : Infers-file qs work work₁ t count K file file₁ o) where
-      is-rest : (S : Sheet) → Tells t K E S → due S qs count register ≡ rest (a .ready) S
+      is-rest : (S : Sheet) → TellsSheet t K E S → due S qs count register ≡ rest (a .ready) S
       is-rest S d = left S d ∙ ap (λ (x : Failing). with-breach (failing-said x) (rest (a .ready) S)) e
 
-      files : (S : Sheet) → Tells t K E S → {p : Written} → o ≡ p → Files (narrow·Call.written (due S qs count register) file) p file₁
+      files : (S : Sheet) → TellsSheet t K E S → {p : Written} → o ≡ p → Files (narrow·Call.written (due S qs count register) file) p file₁
       files S d {p} z =
           subst (λ (x : Written). Files (narrow·Call.written (due S qs count register) file) x file₁) z
           (subst (λ (x : Narrowing). Files (narrow·Call.written x file) o file₁) (sym (is-rest S d)) (g .files S (d .handed .sheeted) (a .ready .path) (a .ready .is)))
@@ -140,7 +140,7 @@ module _ {qs t : List ℕ} {count K E : ℕ} (a : Asked qs t count K E) {registe
           }
 
       module _ (m bytes : ℕ) (z : o ≡ written.File m bytes) where
-        module _ (S : Sheet) (d : Tells t K E S) where
+        module _ (S : Sheet) (d : TellsSheet t K E S) where
           abbrev told : (ms : List Member) × (due S qs count register ≡ got ms) × Filed ms file file₁ (size m bytes)
           told = told-file file (due S qs count register) m bytes (files S d z)
 

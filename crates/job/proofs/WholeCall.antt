@@ -33,7 +33,7 @@ use Rattle.narrowing.proofs.FromReaders.{handed, ready}
 use Rattle.answer.specs.Calls.{answer-need}
 use Rattle.job.specs.Call.{larger, job-need, filled, settled, job-call}
 use Rattle.job.specs.Contract.{Jobs}
-use Rattle.job.specs.Internal.{Tells, Asked, Roomy, Completes, Fills, Settles}
+use Rattle.job.specs.Internal.{TellsSheet, Asked, Roomy, Completes, JobFills, Settles}
 use Rattle.job.proofs.Needs.{larger-both}
 
 -- the need is enough for both halves
@@ -54,14 +54,14 @@ module _ {register : List ℕ} {n w : ℕ} (ground : Ground register n w) where
 
   module _ {qs t : List ℕ} {count K E : ℕ} {work answer file : List ℕ} where
     -- ---- 14
-    pub fills-14 : length answer < n * w → Fills qs t count K E register n w work work answer answer file file (written.Refused source.Work (AreaShort (n * w)))
+    pub fills-14 : length answer < n * w → JobFills qs t count K E register n w work work answer answer file file (written.Refused source.Work (AreaShort (n * w)))
     unfolding filled
     fills-14 l =
         let e = lt-ltb (length answer) (answer-need r) (omega (arith, room-is)) in
         record { kept = kept-refl 0 (larger narrow-need (28 * (n * w))) work; gives = λ S d. record { outcome = rw (e, room-is); answer = rw e; file = rw e } }
 
     module _ {work₁ answer₁ file₁ : List ℕ} {o : Written} where
-      pub fills-rest : n * w ≤ length answer → Completes qs t count K E register n w work work₁ answer answer₁ file file₁ o → Fills qs t count K E register n w work work₁ answer answer₁ file file₁ o
+      pub fills-rest : n * w ≤ length answer → Completes qs t count K E register n w work work₁ answer answer₁ file file₁ o → JobFills qs t count K E register n w work work₁ answer answer₁ file file₁ o
       unfolding filled
       fills-rest l g =
           let e = le-ltb (length answer) (answer-need r) (omega (arith, room-is)) in
@@ -76,7 +76,7 @@ module _ {register : List ℕ} {n w : ℕ} (ground : Ground register n w) where
           let e = lt-ltb (length work) (job-need r) (rw m at l) in
           record { jobs = λ S d. record { outcome = rw (e, m); work = rw e; answer = rw e; file = rw e } }
 
-      pub settles-rest : {work₁ work₂ answer₁ file₁ : List ℕ} {o : Written} → need ≤ length work → Fills qs t count K E register n w work work₁ answer answer₁ file file₁ o → Wrote 0 need (λ j. 0) work₁ work₂
+      pub settles-rest : {work₁ work₂ answer₁ file₁ : List ℕ} {o : Written} → need ≤ length work → JobFills qs t count K E register n w work work₁ answer answer₁ file file₁ o → Wrote 0 need (λ j. 0) work₁ work₂
           → Settles qs t count K E register work work₂ answer answer₁ file file₁ o
       unfolding settled
       settles-rest l g c =
@@ -101,7 +101,7 @@ module _ (s q g work answer file : List ℕ) where
       unfolding job-call
       register-refused x h = record { outcome = rw (e, f, h); work = rw (e, f, h); answer = rw (e, f, h); file = rw (e, f, h) }
 
-      pub files-read : (codes t : List ℕ) (count K E : ℕ) → Accepted g → take count codes ≡ cs → Tells t K E S → {o : Written} {work′ answer′ file′ : List ℕ}
+      pub files-read : (codes t : List ℕ) (count K E : ℕ) → Accepted g → take count codes ≡ cs → TellsSheet t K E S → {o : Written} {work′ answer′ file′ : List ℕ}
           → Settles codes t count K E g work work′ answer answer′ file file′ o → Jobs (job-call s q g work answer file) o work′ answer′ file′
       unfolding job-call
       files-read codes t count K E h k d y =
@@ -110,7 +110,7 @@ module _ (s q g work answer file : List ℕ) where
 
 -- what the readers hand on is what the job asks
 module _ {s t : List ℕ} {k e : ℕ} {S : Sheet} (h : sheet.Told s t k e S) where
-  pub tells : Tells t k e S
+  pub tells : TellsSheet t k e S
   tells = record { handed = handed h; valid = accepted-sheet s S (h .reads) }
 
   pub asked : {q codes : List ℕ} {count : ℕ} {cs : List ℕ} → question.Told q codes count cs → Asked codes t count k e

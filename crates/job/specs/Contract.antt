@@ -22,7 +22,7 @@ pub record Jobs (due : JobYield) (o : Written) (xs ys zs : List ℕ) : Type 0 wh
   pub file : zs ≡ due .file
 
 -- demand 3 in one line: where the job is accepted so is the plain answer of the question, and its words are these
-pub record Plain (due : answer·Calls.AnswerYield) (o : Written) (ys : List ℕ) : Type 0 where
+pub record AnswersPlain (due : answer·Calls.AnswerYield) (o : Written) (ys : List ℕ) : Type 0 where
   pub accepted : (z : Size) → written-said o ≡ accepts z → due .outcome ≡ accepts tt
   pub answer : (z : Size) → written-said o ≡ accepts z → ys ≡ due .answer
 

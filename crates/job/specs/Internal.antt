@@ -18,7 +18,7 @@ use Rattle.narrowed_question.specs.Form.{Flat, narrowed-form}
 use Rattle.narrowed_question.specs.Formed.{WellFormed}
 use Rattle.rows.specs.Kept.{Kept}
 use Rattle.narrowing.specs.Call.{narrow-need}
-use Rattle.narrowing.specs.Contract.{Handed, Ready}
+use Rattle.narrowing.specs.Contract.{Handed, Narrowable}
 use Rattle.answer.specs.Calls.{members-of}
 use Rattle.answer.specs.Contract as answer·contract
 use Rattle.job.specs.Call.{Output, larger, completed, filled, settled}
@@ -42,15 +42,15 @@ pub record Answers-file (file : List ℕ) (r : Register) (n w : ℕ) (work work�
   pub fills : (ms : List Flat) → read narrowed-form file ≡ got ms → WellFormed ms → answer·contract.Fills n w (narrowed-answer r (members-of ms)) outcome.Accepted work work′ answer answer′
 
 -- the table and the numbers are those of a sheet that was read
-pub record Tells (t : List ℕ) (K E : ℕ) (S : Sheet) : Type 0 where
+pub record TellsSheet (t : List ℕ) (K E : ℕ) (S : Sheet) : Type 0 where
   pub handed : Handed t K E S
   pub valid : T (sheet? S)
 
 -- the first codes are a question's, and the table is a sheet's
 pub record Asked (qs t : List ℕ) (count K E : ℕ) : Type 0 where
-  pub ready : Ready qs t count K
+  pub ready : Narrowable qs t count K
   pub sheet : Sheet
-  pub tells : Tells t K E sheet
+  pub tells : TellsSheet t K E sheet
 
 -- work words for both halves of the job
 pub record Roomy (n w : ℕ) (work : List ℕ) : Type 0 where
@@ -60,13 +60,13 @@ pub record Roomy (n w : ℕ) (work : List ℕ) : Type 0 where
 -- 11, 16, 12 or 13, 14 for the file, or the file and its answer; of the work words only those up to the need changed
 pub record Completes (qs t : List ℕ) (count K E : ℕ) (register : List ℕ) (n w : ℕ) (work work′ answer answer′ file file′ : List ℕ) (o : Written) : Type 0 where
   pub kept : Kept 0 (larger narrow-need (28 * (n * w))) work work′
-  pub gives : (S : Sheet) → Tells t K E S → Gives (completed (register-in register) (due S qs count register) answer file) o answer′ file′
+  pub gives : (S : Sheet) → TellsSheet t K E S → Gives (completed (register-in register) (due S qs count register) answer file) o answer′ file′
 
 -- the same with 14 for the answer before it
-pub record Fills (qs t : List ℕ) (count K E : ℕ) (register : List ℕ) (n w : ℕ) (work work′ answer answer′ file file′ : List ℕ) (o : Written) : Type 0 where
+pub record JobFills (qs t : List ℕ) (count K E : ℕ) (register : List ℕ) (n w : ℕ) (work work′ answer answer′ file file′ : List ℕ) (o : Written) : Type 0 where
   pub kept : Kept 0 (larger narrow-need (28 * (n * w))) work work′
-  pub gives : (S : Sheet) → Tells t K E S → Gives (filled (register-in register) (due S qs count register) answer file) o answer′ file′
+  pub gives : (S : Sheet) → TellsSheet t K E S → Gives (filled (register-in register) (due S qs count register) answer file) o answer′ file′
 
 -- with 15 before that, and the work words zero after it
 pub record Settles (qs t : List ℕ) (count K E : ℕ) (register work work′ answer answer′ file file′ : List ℕ) (o : Written) : Type 0 where
-  pub jobs : (S : Sheet) → Tells t K E S → Jobs (settled (register-in register) (due S qs count register) work answer file) o work′ answer′ file′
+  pub jobs : (S : Sheet) → TellsSheet t K E S → Jobs (settled (register-in register) (due S qs count register) work answer file) o work′ answer′ file′

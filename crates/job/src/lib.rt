@@ -13,8 +13,8 @@ ghost use Rattle.evaluation.specs.Ground.{Ground};
 ghost use Rattle.narrowing.specs.Call.{narrow-need};
 ghost use Rattle.answer.specs.Calls.{plain-call};
 ghost use Rattle.job.specs.Call.{larger, job-call};
-ghost use Rattle.job.specs.Contract.{Jobs, Plain};
-ghost use Rattle.job.specs.Internal.{HasMembers, Answers-file, Asked, Roomy, Completes, Fills, Settles};
+ghost use Rattle.job.specs.Contract.{Jobs, AnswersPlain};
+ghost use Rattle.job.specs.Internal.{HasMembers, Answers-file, Asked, Roomy, Completes, JobFills, Settles};
 
 // The work words of the job on n records in rows of w words.
 fn work_need(n: usize, w: usize) -> usize
@@ -133,7 +133,7 @@ fn job_words(
     file: &mut [u8],
 ) -> Written
     requires { ⌜ Asked (now codes) (now table) count kinds links × Ground (now register) n w × Roomy n w (now work) ⌝ }
-    ensures { λ o. ⌜ Fills (now (codes .entry)) (now (table .entry)) count kinds links (now (register .entry)) n w (now (work .entry)) (now (work .exit)) (now (answer .entry)) (now (answer .exit)) (now (file .entry)) (now (file .exit)) o ⌝ }
+    ensures { λ o. ⌜ JobFills (now (codes .entry)) (now (table .entry)) count kinds links (now (register .entry)) n w (now (work .entry)) (now (work .exit)) (now (answer .entry)) (now (answer .exit)) (now (file .entry)) (now (file .exit)) o ⌝ }
 {
     let need = n * w;
     if answer.len() < need {
@@ -202,7 +202,7 @@ pub fn whole_job(
     file: &mut [u8],
 ) -> Written
     ensures { λ o. ⌜ Jobs (job-call (now (sheet .entry)) (now (question .entry)) (now (register .entry)) (now (work .entry)) (now (answer .entry)) (now (file .entry))) o (now (work .exit)) (now (answer .exit)) (now (file .exit)) ⌝ }
-    ensures { λ o. ⌜ Plain (plain-call (now (question .entry)) (now (register .entry)) (now (work .entry)) (now (answer .entry))) o (now (answer .exit)) ⌝ }
+    ensures { λ o. ⌜ AnswersPlain (plain-call (now (question .entry)) (now (register .entry)) (now (work .entry)) (now (answer .entry))) o (now (answer .exit)) ⌝ }
 {
     let s = sheet::read(sheet);
     let outcome = s.outcome;

@@ -27,7 +27,7 @@ use Rattle.triples.specs.Table.{Loaded}
 use Rattle.triples.specs.Parts.{part-of}
 use Rattle.triples.proofs.Triples.{triple-from, triple-to}
 use Rattle.triples.proofs.Growing.{part-next, part-over}
-use Rattle.kind_graph.specs.Kinds.{Edges, Linked, TellsAcyclic}
+use Rattle.kind_graph.specs.Kinds.{Edges, KindGraph, TellsAcyclic}
 
 eqb-sym : (a b : ℕ) → eqb a b ≡ eqb b a
 eqb-sym a b = go (ℕ-discrete a b)
@@ -137,7 +137,7 @@ module _ {ts : List Triple} {xs ys zs us ms ns : List ℕ} (h : Edges ts xs) (cl
       let k : 64 + z * 1 ≡ 64 + z = omega arith in
       ap₂ _&&_ (low a z ha hz) (ap₂ _&&_ (ap (λ (i : ℕ). row-bit zs i b) k ∙ high z b hz hb) (ringed z hz)) ∙ crosses (reach 64 ts) a b z
 
-  pub linked : Linked ts us
+  pub linked : KindGraph ts us
   unfolding meets-cyclic?
   linked =
       record {

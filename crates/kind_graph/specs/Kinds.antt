@@ -19,19 +19,19 @@ pub record Edges (ts : List Triple) (xs : List ℕ) : Type 0 where
   pub pair : (a b : ℕ) → a < 64 → b / 64 < 1 → pair-at xs 0 1 a b ≡ adjacent? ts a b
 
 -- bit b of word 64 + a: a walk leads from kind a to kind b; of word a: one that meets a cyclic kind does
-pub record Linked (ts : List Triple) (xs : List ℕ) : Type 0 where
+pub record KindGraph (ts : List Triple) (xs : List ℕ) : Type 0 where
   pub long : length xs ≡ 128
   pub reached : (a b : ℕ) → a < 64 → b < 64 → row-bit xs (64 + a) b ≡ look (reach 64 ts) a b
   pub met : (a b : ℕ) → a < 64 → b < 64 → row-bit xs a b ≡ meets-cyclic? 64 (reach 64 ts) a b
 
 -- r tells of any triples whose graph stands in xs whether one from a to b meets no cyclic kind
 abbrev pub TellsAcyclic : List ℕ → ℕ → ℕ → Bool → Type 0
-TellsAcyclic xs a b r = (ts : List Triple) → Linked ts xs → (p : PathExpr) → r ≡ acyclic? (reach 64 ts) (triple a p b)
+TellsAcyclic xs a b r = (ts : List Triple) → KindGraph ts xs → (p : PathExpr) → r ≡ acyclic? (reach 64 ts) (triple a p b)
 
 -- .. whether a walk from a to b meets one
 abbrev pub TellsMeets : List ℕ → ℕ → ℕ → Bool → Type 0
-TellsMeets xs a b r = (ts : List Triple) → Linked ts xs → r ≡ meets-cyclic? 64 (reach 64 ts) a b
+TellsMeets xs a b r = (ts : List Triple) → KindGraph ts xs → r ≡ meets-cyclic? 64 (reach 64 ts) a b
 
 -- .. whether one from a to any kind does
 abbrev pub TellsMeetsAny : List ℕ → ℕ → Bool → Type 0
-TellsMeetsAny xs a r = (ts : List Triple) → Linked ts xs → r ≡ some? (meets-cyclic? 64 (reach 64 ts) a) (range 64)
+TellsMeetsAny xs a r = (ts : List Triple) → KindGraph ts xs → r ≡ some? (meets-cyclic? 64 (reach 64 ts) a) (range 64)

@@ -8,7 +8,7 @@ ghost use Rattle.theory.specs.Narrowing.{short?};
 ghost use Rattle.rows.specs.Row.{row-bit, Row, mask-of};
 ghost use Rattle.triples.specs.Tests.{Decides};
 ghost use Rattle.triples.specs.Parts.{part-of};
-ghost use Rattle.kind_graph.specs.Kinds.{Edges, Linked, TellsAcyclic, TellsMeets, TellsMeetsAny};
+ghost use Rattle.kind_graph.specs.Kinds.{Edges, KindGraph, TellsAcyclic, TellsMeets, TellsMeetsAny};
 ghost use Rattle.kind_graph.specs.Sizes.{Part, extended, size-of, weight, Raised, Raising, AtMost, Small};
 
 // How many kinds there are: a graph of them has a word for each.
@@ -60,7 +60,7 @@ fn double(work: &mut [u64])
 // Word a: those to which one leads that meets a cyclic kind.
 pub fn graph(words: &[u64], question: &[u8], s: usize, e: usize, work: &mut [u64])
     requires { ⌜ (s ≤ e) × (e ≤ length (now words)) × (length (now work) ≡ 128) ⌝ }
-    ensures { λ _. ⌜ Linked (part-of (now (question .entry)) (now (words .entry)) s (e - s)) (now (work .exit)) ⌝ }
+    ensures { λ _. ⌜ KindGraph (part-of (now (question .entry)) (now (words .entry)) s (e - s)) (now (work .exit)) ⌝ }
 {
     let mut mask = [0u64; 1];
     edges(words, question, s, e, work);

@@ -13,7 +13,7 @@ use Rattle.narrowed_question.specs.Form.{Flat, flat}
 use Rattle.fields.specs.Writing.{two-bytes, field-bytes}
 use Rattle.narrowed_question.specs.Writing.{member-bytes, members-bytes, encode}
 use Rattle.narrowed_question.specs.Members.{flat-of, narrowed-file}
-use Rattle.encode.specs.Wrote.{Wrote}
+use Rattle.encode.specs.BytesWritten.{BytesWritten}
 use Rattle.fields.specs.Table.{rows, tag-length, field-size}
 use Rattle.encode.proofs.Along.{wrote-length, wrote-more, Along, along-start, along-more, along-end, along-room}
 use Rattle.merge.specs.Runs.{nodes-at, Running}
@@ -46,7 +46,7 @@ module _ {qs ws xs : List ℕ} {used n members : ℕ} {out₀ : List ℕ} (h : F
   unfolding field-size tag-length rows
   count-room = omega (arith, h .room, file-length ms)
 
-  pub fill-start : {o cs ss : List ℕ} {s : ℕ} → length cs ≡ 48 → length ss ≡ 48 → Wrote out₀ o 0 s opening → Filling qs ws xs n o s o cs ss s 0
+  pub fill-start : {o cs ss : List ℕ} {s : ℕ} → length cs ≡ 48 → length ss ≡ 48 → BytesWritten out₀ o 0 s opening → Filling qs ws xs n o s o cs ss s 0
   fill-start {o} {s = s} ec es w =
       let z : s ≡ 0 + 5 = w .next-is in
       record {
@@ -62,10 +62,10 @@ module _ {qs ws xs : List ℕ} {used n members : ℕ} {out₀ : List ℕ} (h : F
     pub fill-asks : k < n → Running qs ws xs used n k cs ss
     fill-asks l = running (h .nodes) l (g .codes-room) (g .sets-room)
 
-    pub fill-over : Wrote out₀ o 0 s opening → n ≤ k → Filed qs ws xs n out₀ out at
+    pub fill-over : BytesWritten out₀ o 0 s opening → n ≤ k → Filed qs ws xs n out₀ out at
     fill-over u l =
         let e : bytes-left qs ws xs k n ≡ [] = rw (segment-end xs k n l) in
-        let w = subst (λ (b : List ℕ). Wrote out₀ out 0 at b) file-parts (wrote-more u (along-end (g .along) e)) in
+        let w = subst (λ (b : List ℕ). BytesWritten out₀ out 0 at b) file-parts (wrote-more u (along-end (g .along) e)) in
         record { area = w .area; bytes-are = w .next-is ∙ zero-add (length (narrowed-file ms)); same-length = g .same-length ∙ wrote-length u }
 
     module _ {cs′ ss′ : List ℕ} {r : Entry} (e : Next qs ws xs n k cs′ ss′ r) where
@@ -84,7 +84,7 @@ module _ {qs ws xs : List ℕ} {used n members : ℕ} {out₀ : List ℕ} (h : F
         ),
       )
 
-      pub fill-turn : {out′ : List ℕ} {at′ : ℕ} → Wrote out out′ at at′ (member-bytes (flat (r .from) (r .to) (symbols-given cs′ ss′ (r .size) 0)))
+      pub fill-turn : {out′ : List ℕ} {at′ : ℕ} → BytesWritten out out′ at at′ (member-bytes (flat (r .from) (r .to) (symbols-given cs′ ss′ (r .size) 0)))
           → Filling qs ws xs n o s out′ cs′ ss′ at′ (r .next)
       fill-turn w =
           record {

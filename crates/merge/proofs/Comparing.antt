@@ -10,7 +10,7 @@ use borrow.Author.Tests.{lt-ltb, le-ltb, eq-eqb, ne-eqb}
 use Rattle.theory.specs.PathExpr.{codes, before?}
 use Rattle.theory.specs.JoinSets.{sets-of}
 use Rattle.triples.specs.Paths.{triple-of}
-use Rattle.triples.specs.Expansion.{Expanded, Ready}
+use Rattle.triples.specs.Expansion.{Expanded, Expandable}
 use Rattle.symbols.proofs.Numbers.{length-codes}
 use Rattle.merge.specs.Arrays.{segment}
 use Rattle.merge.specs.Arranging.{Usable}
@@ -43,7 +43,7 @@ module _ {qs ws : List ℕ} {used i : ℕ} (h : Usable qs ws used i) where
   fits : length (codes (triple-of qs ws i .path)) ≤ 48
   fits = let z = length-codes (triple-of qs ws i .path) in omega (arith, h .suits .short)
 
-  pub ready : (xs ys : List ℕ) → length xs ≡ 48 → length ys ≡ 48 → Ready qs ws used i 0 xs ys
+  pub ready : (xs ys : List ℕ) → length xs ≡ 48 → length ys ≡ 48 → Expandable qs ws used i 0 xs ys
   ready xs ys ex ey =
       let z = h .has .sound .good i (h .has .in-use) .sized in
       record { has = h .has; codes-room = omega (arith, h .suits .short); sets-room = omega (arith, h .suits .short) }

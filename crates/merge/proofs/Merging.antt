@@ -22,14 +22,14 @@ use Rattle.theory.proofs.Order.{trichotomy, codes-merge, merged-linked}
 use Rattle.algorithms.proofs.Sorting.{ahead-unlike, ahead-unlike′, codes-alike, group-takes, group-ends}
 use Rattle.theory.proofs.JoinSets.{merge-inferred, merged-sets}
 use Rattle.triples.specs.Paths.{triple-of}
-use Rattle.triples.specs.Expansion.{Expanded, Ready}
+use Rattle.triples.specs.Expansion.{Expanded, Expandable}
 use Rattle.triples.proofs.Triples.{triple-from, triple-to}
 use Rattle.symbols.proofs.Numbers.{length-codes}
 use Rattle.theory.proofs.Lists.{tabulate-same}
 use Rattle.merge.specs.declared.Ends.{Ends}
 use Rattle.merge.specs.Arrays.{segment}
 use Rattle.merge.specs.Arranging.{member-at, Usable}
-use Rattle.merge.specs.Runs.{Singles, Ored, Taking, Differ, Taken, Holds, nodes-at, Running, Ran}
+use Rattle.merge.specs.Runs.{Singles, Ored, Taking, Differ, Taken, HoldsMember, nodes-at, Running, Ran}
 use Rattle.merge.proofs.Segments.{segment-next, segment-end, length-segment}
 use Rattle.merge.proofs.Comparing.{ready, expanded-codes, expanded-sets}
 
@@ -116,7 +116,7 @@ module _ {qs ws : List ℕ} {used i : ℕ} {cs ss : List ℕ} {n : ℕ} (h : Tak
 -- ---- the loop over a run: the member so far, and the nodes behind it
 pub record Gathering (qs ws xs : List ℕ) (n k : ℕ) (cs ss : List ℕ) (count from to j : ℕ) : Type 0 where
   pub sofar : Member
-  pub holds : Holds cs ss count from to sofar
+  pub holds : HoldsMember cs ss count from to sofar
   pub left : grouped (nodes-at qs ws xs k n) ≡ grouped (sofar ∷ nodes-at qs ws xs j n)
   pub onward : k < j
   pub within : j ≤ n
@@ -136,7 +136,7 @@ module _ {qs ws xs : List ℕ} {used n k : ℕ} {cs₀ ss₀ : List ℕ} (h : Ru
   pub first-in : getD xs k 0 < length ws
   first-in = in-words k (omega arith) (h .in-run)
 
-  pub first-ready : Ready qs ws used (getD xs k 0) 0 cs₀ ss₀
+  pub first-ready : Expandable qs ws used (getD xs k 0) 0 cs₀ ss₀
   first-ready = ready (h .items k (omega arith) (h .in-run)) cs₀ ss₀ (h .codes-room) (h .sets-room)
 
   pub run-start : {cs ss : List ℕ} {count : ℕ} {e : Ends} → Expanded (triple-of qs ws (getD xs k 0) .path) 0 cs₀ ss₀ cs ss count → Singles ws (getD xs k 0) e

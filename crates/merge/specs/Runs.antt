@@ -51,7 +51,7 @@ pub record Taken (qs ws : List ℕ) (i : ℕ) (cs ss ss′ : List ℕ) (n : ℕ)
   pub same : r ≡ false → ss′ ≡ ss
 
 -- ---- a member in arrays: n codes, n join sets, from set and to set
-pub record Holds (cs ss : List ℕ) (n from to : ℕ) (m : Member) : Type 0 where
+pub record HoldsMember (cs ss : List ℕ) (n from to : ℕ) (m : Member) : Type 0 where
   pub sized : n ≡ size (m .path)
   pub few : n ≤ 48
   pub codes-are : segment cs 0 n ≡ codes (m .path)
@@ -76,7 +76,7 @@ pub record Running (qs ws xs : List ℕ) (used n k : ℕ) (cs ss : List ℕ) : T
 -- the first member of those from k on is in the arrays, and what is left are those of the nodes behind its run
 pub record Ran (qs ws xs : List ℕ) (n k : ℕ) (cs ss : List ℕ) (g : Group) : Type 0 where
   pub first : Member
-  pub holds : Holds cs ss (g .size) (g .from) (g .to) first
+  pub holds : HoldsMember cs ss (g .size) (g .from) (g .to) first
   pub is : grouped (nodes-at qs ws xs k n) ≡ first ∷ grouped (nodes-at qs ws xs (g .next) n)
   pub onward : k < g .next
   pub within : g .next ≤ n

@@ -16,7 +16,7 @@ use Rattle.symbols.specs.Symbols.{Numbered, numbered}
 use Rattle.narrowed_question.specs.Form.{Flat, narrowed-form, order-codes}
 use Rattle.narrowed_question.specs.declared.Standing.{Standing}
 use Rattle.narrowed_question.specs.declared.Standing.the-variants.{Head, Between, Within}
-use Rattle.narrowed_question.specs.Contract.{arrays, counted, members-in, Packed, Reads, Blank, ReadsInto, outcome-said, segment-codes}
+use Rattle.narrowed_question.specs.Contract.{arrays, counted, members-in, Packed, ReadsNarrowed, Blank, ReadsInto, outcome-said, segment-codes}
 use Rattle.narrowed_question.specs.Internal.{go, more, last, marked, due-of, judged, turned, turned-by, Able, Move}
 use Rattle.narrowed_question.specs.declared.Outcome.{Outcome}
 use Rattle.narrowed_question.specs.declared.Outcome.the-variants as outcome
@@ -50,12 +50,12 @@ into-refused e = record { outcome = ap counted (sym e); members = λ n h. let z 
 -- ---- the arrays by value
 module _ {a : Result (List Flat)} {o : Outcome} {sizes from to numbers sets : List ℕ} (h : ReadsInto a o sizes from to numbers sets) {x : Outcome} {q : Members} where
   -- a refusal hands out no member
-  pub reads-refused : {r : Refusal} → o ≡ outcome.Refused r → (x ≡ outcome.Refused r) × Packed [] q → Reads a x q
+  pub reads-refused : {r : Refusal} → o ≡ outcome.Refused r → (x ≡ outcome.Refused r) × Packed [] q → ReadsNarrowed a x q
   reads-refused {r} e f =
       let g = told-refused _ a (number-of r) (place-of r) (sym (ap outcome-said e) ∙ h .outcome) in
       record { outcome = ap outcome-said (f .0) ∙ ap counted (sym g); members = subst (λ b. Packed (members-in b) q) (sym g) (f .1) }
 
-  pub reads-accepted : {n : ℕ} → o ≡ outcome.Accepted n → (x ≡ outcome.Accepted n) × (q ≡ arrays n sizes from to numbers sets) → Reads a x q
+  pub reads-accepted : {n : ℕ} → o ≡ outcome.Accepted n → (x ≡ outcome.Accepted n) × (q ≡ arrays n sizes from to numbers sets) → ReadsNarrowed a x q
   reads-accepted e f = rw (f .0, f .1) (record { outcome = sym (ap outcome-said e) ∙ h .outcome; members = h .members _ e })
 
 module _ {s : List ℕ} {st : Standing} {at done prev first used : ℕ} {sizes from to numbers sets : List ℕ} (r : Reading s st at done prev first used sizes from to numbers sets) where

@@ -23,7 +23,7 @@ use Rattle.fields.proofs.ReaderLoop.{Going, going-start, going-ends, going-wron
 use Rattle.narrowed_question.specs.Form.{Flat, flat, open-as, State, head, between, within, due, judge as judge-of, narrowed-form, order-codes}
 use Rattle.narrowed_question.specs.declared.Standing.{Standing}
 use Rattle.narrowed_question.specs.declared.Standing.the-variants.{Head, Between, Within}
-use Rattle.narrowed_question.specs.Internal.{go, more, last, due-of, judged, Ready, Able}
+use Rattle.narrowed_question.specs.Internal.{go, more, last, due-of, judged, BodyReady, Able}
 use Rattle.narrowed_question.specs.Internal as internal
 use Rattle.narrowed_question.proofs.Moves.{moves, judge-sym, judge-stop, more-is, last-is, go-not, open-not, count-go, count-stop, open-go, open-stop}
 
@@ -69,7 +69,7 @@ abbrev pub Opened : Standing → Type 0
 Opened st = (v : ℕ) → open-list st v ≡ v ∷ []
 
 -- a field that was found is ready to be judged
-pub field-ready : (s : List ℕ) (at u m : ℕ) (st : Standing) → Able st → field-at (due-of st) s at ≡ body u m → Ready st u (length (take m (drop (at + 3) s)))
+pub field-ready : (s : List ℕ) (at u m : ℕ) (st : Standing) → Able st → field-at (due-of st) s at ≡ body u m → BodyReady st u (length (take m (drop (at + 3) s)))
 unfolding tag-length rows
 field-ready s at u m Head r e = let g = found (due-of Head) s at u m e in body-length g ∙ one-due (due-of Head) u m refl (g .fit) .1
 field-ready s at u m (Between l) r e =

@@ -52,7 +52,7 @@ abbrev pub members-in : Result (List Flat) → List Flat
 members-in (got ms) = ms
 members-in (refused n p) = []
 
-pub record Reads (a : Result (List Flat)) (o : Outcome) (q : Members) : Type 0 where
+pub record ReadsNarrowed (a : Result (List Flat)) (o : Outcome) (q : Members) : Type 0 where
   pub outcome : outcome-said o ≡ counted a
   pub members : Packed (members-in a) q
 

@@ -57,10 +57,10 @@ judged (Between l) at next t b = open-move l at b
 judged (Within l p q) at next t b = symbol-move l p q at next t b
 
 -- what the code needs of a body before it looks
-abbrev pub Ready : Standing → ℕ → ℕ → Type 0
-Ready Head t n = n ≡ tag-length 0x41
-Ready (Between l) t n = (n ≡ tag-length 0x42) × (0 < l)
-Ready (Within l p q) t n = (n ≡ symbol-length t) × ((0 < q .left) × (q .depth < 255))
+abbrev pub BodyReady : Standing → ℕ → ℕ → Type 0
+BodyReady Head t n = n ≡ tag-length 0x41
+BodyReady (Between l) t n = (n ≡ tag-length 0x42) × (0 < l)
+BodyReady (Within l p q) t n = (n ≡ symbol-length t) × ((0 < q .left) × (q .depth < 255))
 
 abbrev pub turn-said : Turn → Result Move
 turn-said turn.Ends = got ends

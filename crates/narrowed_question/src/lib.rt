@@ -15,8 +15,8 @@ ghost use Rattle.fields.specs.Table.{tag-length};
 ghost use Rattle.fields.specs.Reading.{read as read-file, word};
 ghost use Rattle.symbols.specs.Symbols.{order-code, symbol-length};
 ghost use Rattle.narrowed_question.specs.Form.{narrowed-form};
-ghost use Rattle.narrowed_question.specs.Contract.{Reads, Blank, ReadsInto, segment-codes, Packed, arrays};
-ghost use Rattle.narrowed_question.specs.Internal.{due-of, count-of, open-move, symbol-move, judged, Ready, turn-said, Able, turned, marked};
+ghost use Rattle.narrowed_question.specs.Contract.{ReadsNarrowed, Blank, ReadsInto, segment-codes, Packed, arrays};
+ghost use Rattle.narrowed_question.specs.Internal.{due-of, count-of, open-move, symbol-move, judged, BodyReady, turn-said, Able, turned, marked};
 
 // The number of members, or why the file is refused.
 pub enum Outcome {
@@ -156,7 +156,7 @@ fn grow(l: u8, p: usize, q: Stack, at: usize, next: usize, tag: u8, b: &[u8]) ->
 }
 
 fn judge(st: Standing, at: usize, next: usize, tag: u8, b: &[u8]) -> Turn
-    requires { ⌜ Ready st tag (length (now b)) ⌝ }
+    requires { ⌜ BodyReady st tag (length (now b)) ⌝ }
     ensures { λ r. ⌜ turn-said r ≡ judged st at next tag (now (b .entry)) ⌝ }
 {
     match st {
@@ -390,7 +390,7 @@ pub fn read_into(
 
 // The same, with the arrays by value.
 pub fn read(s: &[u8]) -> Narrowed
-    ensures { λ r. ⌜ Reads (read-file narrowed-form (now (s .entry))) (r .outcome) (r .members) ⌝ }
+    ensures { λ r. ⌜ ReadsNarrowed (read-file narrowed-form (now (s .entry))) (r .outcome) (r .members) ⌝ }
 {
     let mut sizes = [0u8; fields::MEMBERS];
     let mut from = [0u64; fields::MEMBERS];

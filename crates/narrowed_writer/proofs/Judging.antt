@@ -22,7 +22,7 @@ use Rattle.narrowed_question.specs.ArrayMembers.{members-given, given}
 use Rattle.narrowed_question.specs.Contract.{segment-codes}
 use Rattle.narrowed_question.proofs.ArraysFilled.{codes-numbers}
 use Rattle.encode.proofs.Parts.{symbols-many, members-many}
-use Rattle.encode.specs.Wrote.{Few}
+use Rattle.encode.specs.BytesWritten.{Few}
 use Rattle.encode.specs.Size.{symbol-size}
 use Rattle.narrowed_writer.specs.Verdict.{symbol?, offered, path-verdict, member-verdict, members-verdict, verdict}
 

@@ -18,7 +18,7 @@ use Rattle.question.proofs.ReaderOutcome as question
 use Rattle.rules.specs.StepTriples.{Tabled}
 use Rattle.rules.proofs.SheetSteps.{tabled-sheet}
 use Rattle.inference.proofs.Accepted.{taken-codes, asks}
-use Rattle.narrowing.specs.Contract.{Handed, Ready}
+use Rattle.narrowing.specs.Contract.{Handed, Narrowable}
 
 module _ {s t : List ℕ} {k e : ℕ} {S : Sheet} (h : sheet.Told s t k e S) where
   valid : T (sheet? S)
@@ -31,7 +31,7 @@ module _ {s t : List ℕ} {k e : ℕ} {S : Sheet} (h : sheet.Told s t k e S) whe
     pub taken : take count codes ≡ cs
     taken = rw (g .array, ← g .many) (taken-codes 32 cs)
 
-    pub ready : Ready codes t count k
+    pub ready : Narrowable codes t count k
     ready =
         let (p, a) = accepted-question q cs (g .reads) in
         let few : length cs ≤ 32 = omega (arith, a .few, a .count) in

@@ -32,11 +32,11 @@ use Rattle.inference.specs.declared.Inferred.the-variants.{Triples, Refused}
 use Rattle.inference.specs.Questions.{Asking, Sheeted, Infers, Found}
 use Rattle.narrowing.specs.declared.Counted.{Counted}
 use Rattle.narrowing.specs.Call.{outcome-of, narrow-need}
-use Rattle.narrowing.specs.Contract.{Ready, Infers-file}
+use Rattle.narrowing.specs.Contract.{Narrowable, Infers-file}
 use Rattle.narrowing.specs.Internal.{Listed, Counts, Known, Puts, Counts-named}
 use Rattle.narrowing.proofs.Filing.{uncounted}
 
-module _ {qs ws t : List ℕ} {count K : ℕ} (h : Ready qs t count K) (n : narrow-need ≤ length ws) where
+module _ {qs ws t : List ℕ} {count K : ℕ} (h : Narrowable qs t count K) (n : narrow-need ≤ length ws) where
   pub asking : Asking qs ws count K
   unfolding narrow-need
   asking = h .asking ws (omega (arith, n))
@@ -96,5 +96,5 @@ pub named-filed : {qs ws ws′ t : List ℕ} {count K : ℕ} {c : Counted} {file
 named-filed g p = record { kept = g .kept; files = λ S h q e. p .files _ (g .counts S h q e) }
 
 -- by the sheet that the table is of
-pub named-known : {qs ws ws′ t : List ℕ} {count K : ℕ} {c : Counted} → Ready qs t count K → Counts-named qs ws ws′ t count K c → Known qs ws′ c
+pub named-known : {qs ws ws′ t : List ℕ} {count K : ℕ} {c : Counted} → Narrowable qs t count K → Counts-named qs ws ws′ t count K c → Known qs ws′ c
 named-known h g = record { due = _; counts = g .counts (h .sheet) (h .sheeted) (h .path) (h .is) }

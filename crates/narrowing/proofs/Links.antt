@@ -17,20 +17,20 @@ use Rattle.symbols.specs.Symbols.{operator-numbered, symbol-numbered}
 use Rattle.question.specs.Form.{question-symbols}
 use Rattle.rows.proofs.Words.{le-or-lt}
 use Rattle.narrowing.specs.Contract.{FirstUnnamed}
-use Rattle.narrowing.specs.Internal.{Unnamed}
+use Rattle.narrowing.specs.Internal.{TellsUnnamed}
 
 -- ---- one symbol
 same-test : (E l : ℕ) → _≡_ {A = ℕ} (cond (ltb l E) 0 11) (cond (leb E l) 11 0)
 same-test E l = ⊎-elim (λ (h : E ≤ l). rw (le-ltb l E h, le-leb E l h)) (λ (h : l < E). rw (lt-ltb l E h, lt-leb E l h)) (le-or-lt E l)
 
-pub unnamed-step : (E c l : ℕ) → c < 128 → l ≡ c % 64 → Unnamed E c (leb E l)
+pub unnamed-step : (E c l : ℕ) → c < 128 → l ≡ c % 64 → TellsUnnamed E c (leb E l)
 unfolding symbol-numbered
 unnamed-step E c l h e =
     ⊎-elim (λ (g : 64 ≤ c). let m : c - 64 ≡ l = omega arith in record { is = rw (le-ltb c 64 g, lt-ltb c 128 h, m) (same-test E l) })
     (λ (g : c < 64). let m : l ≡ c = omega arith in record { is = rw (lt-ltb c 64 g, m) (same-test E c) })
     (le-or-lt 64 c)
 
-pub unnamed-never : (E c : ℕ) → 128 ≤ c → Unnamed E c false
+pub unnamed-never : (E c : ℕ) → 128 ≤ c → TellsUnnamed E c false
 unfolding symbol-numbered
 unnamed-never E c h = record { is = rw (le-ltb c 64 (omega arith), le-ltb c 128 h) (go (eqb c 255) (c - 128)) }
   where
@@ -67,7 +67,7 @@ module _ (E : ℕ) (codes : List ℕ) (count : ℕ) (room : count ≤ length cod
           nowhere = λ e o. sym (g .left o) ∙ ap (λ (l : List ℕ). refuse (link-fault E) i (question-symbols l) o) (drop-of-length-le cs {i = i} (omega (arith, many)));
         }
 
-    module _ (h : i < count) {c : ℕ} (e : c ≡ getD codes i 0) {r : Bool} (u : Unnamed E c r) where
+    module _ (h : i < count) {c : ℕ} (e : c ≡ getD codes i 0) {r : Bool} (u : TellsUnnamed E c r) where
       next : drop i cs ≡ c ∷ drop (suc i) cs
       next = drop-cons cs i 0 (omega (arith, many)) ∙ ap (λ (x : ℕ). x ∷ drop (suc i) cs) (getD-take count codes i 0 h ∙ sym e)
 

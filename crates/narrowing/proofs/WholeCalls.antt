@@ -28,12 +28,12 @@ use Rattle.rows.proofs.Areas.{zero-words}
 use Rattle.narrowing.specs.declared.Counted.{Counted}
 use Rattle.narrowing.specs.declared.Prepared.{Prepared}
 use Rattle.narrowing.specs.Call.{Found, found, outcome-of, narrow-need, settled, members-call, narrow-call, size-call}
-use Rattle.narrowing.specs.Contract.{Narrows, Sizes, FirstUnnamed, Handed, Ready, parted}
+use Rattle.narrowing.specs.Contract.{Narrows, Sizes, FirstUnnamed, Handed, Narrowable, parted}
 use Rattle.narrowing.specs.Internal.{Counts, Puts, Counts-named, Counts-codes, Unprepared, Prepares}
 use Rattle.narrowing.proofs.Filing.{uncounted}
 
 -- ---- 11
-module _ {qs t : List ℕ} {count K : ℕ} (h : Ready qs t count K) where
+module _ {qs t : List ℕ} {count K : ℕ} (h : Narrowable qs t count K) where
   many : length (take count qs) ≡ count
   many = length-take-le count qs (h .within)
 

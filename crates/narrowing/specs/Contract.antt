@@ -44,7 +44,7 @@ pub record Handed (t : List ℕ) (K E : ℕ) (S : Sheet) : Type 0 where
   pub named : S .link-names ≡ E
 
 -- the first codes are a question's, and the table is a sheet's
-pub record Ready (qs t : List ℕ) (count K : ℕ) : Type 0 where
+pub record Narrowable (qs t : List ℕ) (count K : ℕ) : Type 0 where
   pub asking : (ws : List ℕ) → 4097 ≤ length ws → Asking qs ws count K
   pub within : count ≤ length qs
   pub path : PathExpr

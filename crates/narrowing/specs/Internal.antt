@@ -35,7 +35,7 @@ use Rattle.narrowing.specs.Call.{outcome-of, sized, in-area, narrow-need
 use Rattle.narrowing.specs.Contract.{Handed, parted}
 
 -- r tells whether the code c is that of a step whose link is not one of E
-pub record Unnamed (E c : ℕ) (r : Bool) : Type 0 where
+pub record TellsUnnamed (E c : ℕ) (r : Bool) : Type 0 where
   pub is : link-fault E (symbol-numbered c 0) ≡ cond r 11 0
 
 -- nodes s to e are the triples of a question

@@ -11,8 +11,8 @@ ghost use Rattle.fields.specs.declared.Written.the-variants as written;
 ghost use Rattle.fields.specs.Call.{accepts};
 ghost use Rattle.rules.specs.Requirements.{part};
 ghost use Rattle.narrowing.specs.Call.{narrow-need, narrow-call, size-call};
-ghost use Rattle.narrowing.specs.Contract.{Narrows, Sizes, FirstUnnamed, Ready, Infers-file};
-ghost use Rattle.narrowing.specs.Internal.{Unnamed, Listed, Counts, Known, Puts, Counts-named, Counts-codes, Unprepared, Prepares};
+ghost use Rattle.narrowing.specs.Contract.{Narrows, Sizes, FirstUnnamed, Narrowable, Infers-file};
+ghost use Rattle.narrowing.specs.Internal.{TellsUnnamed, Listed, Counts, Known, Puts, Counts-named, Counts-codes, Unprepared, Prepares};
 
 // The work words that narrowing needs.
 pub const NEED: usize = 8192;
@@ -35,7 +35,7 @@ struct Prepared {
 
 // Is the code that of a step whose link is not below `links`?
 fn unnamed(code: u8, links: u8) -> bool
-    ensures { λ r. ⌜ Unnamed links code r ⌝ }
+    ensures { λ r. ⌜ TellsUnnamed links code r ⌝ }
 {
     if code < symbols::STEPS {
         let link = symbols::step_link(code);
@@ -96,7 +96,7 @@ fn count_named(
     kinds: usize,
     work: &mut [u64],
 ) -> Counted
-    requires { ⌜ Ready (now codes) (now table) count kinds × (narrow-need ≤ length (now work)) ⌝ }
+    requires { ⌜ Narrowable (now codes) (now table) count kinds × (narrow-need ≤ length (now work)) ⌝ }
     ensures { λ c. ⌜ Counts-named (now (codes .entry)) (now (work .entry)) (now (work .exit)) (now (table .entry)) count kinds c ⌝ }
 {
     match inference::infer(work, codes, count, table, kinds) {
@@ -114,7 +114,7 @@ fn count_codes(
     links: u8,
     work: &mut [u64],
 ) -> Counted
-    requires { ⌜ Ready (now codes) (now table) count kinds × (narrow-need ≤ length (now work)) ⌝ }
+    requires { ⌜ Narrowable (now codes) (now table) count kinds × (narrow-need ≤ length (now work)) ⌝ }
     ensures { λ c. ⌜ Counts-codes (now (codes .entry)) (now (work .entry)) (now (work .exit)) (now (table .entry)) count kinds links c ⌝ }
 {
     let i = first_unnamed(codes, count, links);
@@ -205,7 +205,7 @@ pub fn narrow_named(
     work: &mut [u64],
     file: &mut [u8],
 ) -> Written
-    requires { ⌜ Ready (now codes) (now table) count kinds × (narrow-need ≤ length (now work)) ⌝ }
+    requires { ⌜ Narrowable (now codes) (now table) count kinds × (narrow-need ≤ length (now work)) ⌝ }
     ensures { λ o. ⌜ Infers-file (now (codes .entry)) (now (work .entry)) (now (work .exit)) (now (table .entry)) count kinds (now (file .entry)) (now (file .exit)) o ⌝ }
 {
     let counted = count_named(codes, count, table, kinds, work);

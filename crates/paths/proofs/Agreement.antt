@@ -30,7 +30,7 @@ use Rattle.answer.proofs.TwoAnswers.{members-back, words-equal, bits-subset}
 use Rattle.job.specs.Call.{job-call}
 use Rattle.job.proofs.Accepted.{register-conforms, plainly}
 use Rattle.job.proofs.Accepted as job·Accepted
-use Rattle.paths.specs.Agreement.{Took, file-written, Agrees, JobTook, job-file, JobAgrees}
+use Rattle.paths.specs.Agreement.{NarrowTook, file-written, Agrees, JobTook, job-file, JobAgrees}
 
 module _ {s q file file′ : List ℕ} {z : Size} (a : Accepted s q file file′ z) (p : PathExpr) (k : Asks (a .codes) p) where
   valid : T (sheet? (a .sheet))
@@ -61,7 +61,7 @@ module _ {s q file file′ : List ℕ} {z : Size} (a : Accepted s q file file′
         subset = λ {register} {work} {answer} {work′} {answer′} {r} h. bits-subset (a .sheet) valid p (k .plain) (a .members) same q register (a .codes) (a .question-reads) (k .path) r (h .reads) work answer work′ answer′ (h .plain) (h .narrowed);
       }
 
-pub agreement : (sheet question work area : List ℕ) (z : Size) → Took sheet question work area z → Agrees sheet question (file-written sheet question work area z) z
+pub agreement : (sheet question work area : List ℕ) (z : Size) → NarrowTook sheet question work area z → Agrees sheet question (file-written sheet question work area z) z
 agreement sheet question work area z took =
     let a = accepted sheet question work area z took in
     let (p, k) = accepted-question question (a .codes) (a .question-reads) in

@@ -14,7 +14,7 @@ use Rattle.narrowed_question.specs.declared.Outcome as narrowed·Outcome
 use Rattle.narrowed_question.specs.declared.Outcome.the-variants as outcome
 use Rattle.narrowed_question.specs.declared.Members.{Members}
 use Rattle.narrowed_question.specs.Form.{Flat, narrowed-form}
-use Rattle.narrowed_question.specs.Contract.{Reads, outcome-said}
+use Rattle.narrowed_question.specs.Contract.{ReadsNarrowed, outcome-said}
 use lib.ListN.{length}
 use Rattle.paths.specs.OutcomeNumbers.{judged}
 
@@ -25,7 +25,7 @@ pub judged-accepted : {A : Type 0} (s : Source) (a : Result A) (v : A) → a ≡
 judged-accepted s a v e = sym (ap (judged s) e)
 
 -- a narrowed question's file
-module _ (s : List ℕ) (o : narrowed·Outcome.Outcome) (q : Members) (h : Reads (read narrowed-form s) o q) where
+module _ (s : List ℕ) (o : narrowed·Outcome.Outcome) (q : Members) (h : ReadsNarrowed (read narrowed-form s) o q) where
   pub refused-narrowed : (x : Refusal) → o ≡ outcome.Refused x → read narrowed-form s ≡ refused (number-of x) (place-of x)
   refused-narrowed x e = told-refused _ (read narrowed-form s) (number-of x) (place-of x) (sym (ap outcome-said e) ∙ h .outcome)
 

@@ -20,7 +20,7 @@ use Rattle.answer.specs.Calls as answer
 use Rattle.answer.proofs.SamePairs as SamePairs
 use Rattle.shortening.specs.Shortens.{ShortenTook, short-file, Shortens}
 use Rattle.shortening.proofs.Shortens.{shortens}
-use Rattle.paths.specs.Agreement.{Took, file-written, Answers, Agrees}
+use Rattle.paths.specs.Agreement.{NarrowTook, file-written, Answers, Agrees}
 use Rattle.paths.specs.Shortening.{AnswersAlike}
 use Rattle.paths.proofs.Agreement.{agreement}
 
@@ -29,7 +29,7 @@ module _ {question short : List ℕ} {z : Size} (h : Shortens question short z) 
   plain-same = SamePairs.same-answer
       (record { codes = h .short-codes; reads = h .file-reads; path = h .short-path }) (record { codes = h .codes; reads = h .question-reads; path = h .path }) (h .same-pairs)
 
-  module _ (sheet work area : List ℕ) (w : Size) (took : Took sheet short work area w) where
+  module _ (sheet work area : List ℕ) (w : Size) (took : NarrowTook sheet short work area w) where
     abbrev file : List ℕ
     file = file-written sheet short work area w
 

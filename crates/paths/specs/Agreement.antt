@@ -26,8 +26,8 @@ use Rattle.answer.specs.Calls.{answer-need, members-of, plain-call, narrowed-ca
 use Rattle.job.specs.Call.{job-call}
 
 -- narrowing took the sheet and the question, and told of a file of so many members and bytes
-abbrev pub Took : List ℕ → List ℕ → List ℕ → List ℕ → Size → Type 0
-Took sheet question work area z = narrow-call sheet question work area .outcome ≡ accepts z
+abbrev pub NarrowTook : List ℕ → List ℕ → List ℕ → List ℕ → Size → Type 0
+NarrowTook sheet question work area z = narrow-call sheet question work area .outcome ≡ accepts z
 
 -- the file that it wrote: so many bytes of the area that was lent
 abbrev pub file-written : List ℕ → List ℕ → List ℕ → List ℕ → Size → List ℕ

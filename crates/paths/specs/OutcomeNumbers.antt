@@ -74,6 +74,6 @@ pub record Jobs (due : job.JobYield) (t : Told) (xs ys zs : List ℕ) : Type 0 w
   pub file : zs ≡ due .file
 
 -- where 0 is told the plain answer of the question is accepted, and its words are these
-pub record Plain (due : answer.AnswerYield) (t : Told) (ys : List ℕ) : Type 0 where
+pub record TellsPlain (due : answer.AnswerYield) (t : Told) (ys : List ℕ) : Type 0 where
   pub accepted : t .number ≡ 0 → due .outcome ≡ accepts tt
   pub answer : t .number ≡ 0 → ys ≡ due .answer

@@ -19,7 +19,7 @@ ghost use Rattle.narrowing.specs.Call.{narrow-call, size-call};
 ghost use Rattle.answer.specs.Calls.{plain-call, narrowed-call};
 ghost use Rattle.job.specs.Call.{job-call};
 ghost use Rattle.shortening.specs.Call.{shorten-call};
-ghost use Rattle.paths.specs.OutcomeNumbers.{judged, tells, Tells, Tells-file, Answers, Narrows, Sizes, FilesTold, Jobs, Plain};
+ghost use Rattle.paths.specs.OutcomeNumbers.{judged, tells, Tells, Tells-file, Answers, Narrows, Sizes, FilesTold, Jobs, TellsPlain};
 
 // What a call that is accepted returns; every refusal has a number of its own.
 const ACCEPTED: u64 = 0;
@@ -241,7 +241,7 @@ pub extern "C" fn paths_job(
 ) -> u64
     ensures { λ n. ⌜ Jobs (job-call (now (sheet .entry)) (now (question .entry)) (now (register .entry)) (now (work .entry)) (now (answer .entry)) (now (file .entry)))
         (tells n (now (first .exit)) (now (second .exit))) (now (work .exit)) (now (answer .exit)) (now (file .exit)) ⌝ }
-    ensures { λ n. ⌜ Plain (plain-call (now (question .entry)) (now (register .entry)) (now (work .entry)) (now (answer .entry)))
+    ensures { λ n. ⌜ TellsPlain (plain-call (now (question .entry)) (now (register .entry)) (now (work .entry)) (now (answer .entry)))
         (tells n (now (first .exit)) (now (second .exit))) (now (answer .exit)) ⌝ }
 {
     tell_file(

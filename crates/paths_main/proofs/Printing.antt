@@ -28,7 +28,7 @@ use Rattle.register.proofs.ReaderOutcome.{refused-file, accepted-records}
 use Rattle.register.specs.Form.{register-form, register-in, value-of}
 use Rattle.register.specs.LinksAhead.{Accepted}
 use Rattle.relation.specs.Pairs.{pair-at}
-use Rattle.encode.specs.Wrote.{Wrote}
+use Rattle.encode.specs.BytesWritten.{BytesWritten}
 use Rattle.narrowing.specs.Call.{narrow-need}
 use Rattle.answer.specs.Calls.{work-need}
 use Rattle.job.specs.Call.{job-call}
@@ -37,10 +37,10 @@ use Rattle.job.proofs.Needs.{larger-both}
 use Rattle.job.proofs.Accepted as job·Accepted
 use Rattle.printing.specs.Text.{answer-text, refusal-text}
 use Rattle.printing.proofs.Room.{answer-most, refusal-most}
-use Rattle.paths_main.specs.Output.{zeros, job-of, printed, Prints, Fits, answer-of}
+use Rattle.paths_main.specs.Output.{zeros, job-of, printed, Prints, Printable, answer-of}
 
 -- ---- the area
-prints : {o out : List ℕ} {n : ℕ} {text : List ℕ} → Wrote o out 0 n text → length text ≤ length o → Prints text n out
+prints : {o out : List ℕ} {n : ℕ} {text : List ℕ} → BytesWritten o out 0 n text → length text ≤ length o → Prints text n out
 prints {o} {out} {n} {text} w h = record {
   within = omega (arith, w .next-is, ap length (w .area), length-sets o 0 text);
   bytes = ap₂ take n-is (w .area ∙ sets-eq text o 0 (omega arith)) ∙ take-at text (drop (0 + length text) o) (length text) refl;
@@ -92,7 +92,7 @@ module _ (s q g : List ℕ) {o : Written} {work answer file : List ℕ} (j : Job
     abbrev is-register : register-in g ≡ job .register
     is-register = job-register s q g (size m b) told
 
-    fits : Fits g answer
+    fits : Printable g answer
     fits = record {
       accepted = job .register-reads ∙ ap got (sym is-register);
       few = rw is-register (small (records (job .register)) (omega (arith, larger-both narrow-need (work-need (job .register)) .1, job .enough, zeros-length 8192)));
@@ -106,14 +106,14 @@ module _ (s q g : List ℕ) {work answer file : List ℕ} (ew : work ≡ zeros 8
   unfolding job-of
   as-lent = rw (ew, ea, ef) at j
 
-  pub job-fits : (m b : ℕ) → o ≡ written.File m b → Fits g answer′
+  pub job-fits : (m b : ℕ) → o ≡ written.File m b → Printable g answer′
   job-fits m b e = fits s q g as-lent m b e
 
   module _ {out out′ : List ℕ} {n : ℕ} (room : 131128 ≤ length out) where
-    pub prints-refused : (f : Source) (r : Refusal) → o ≡ written.Refused f r → Wrote out out′ 0 n (refusal-text f (number-of r) (place-of r)) → Prints (printed s q g) n out′
+    pub prints-refused : (f : Source) (r : Refusal) → o ≡ written.Refused f r → BytesWritten out out′ 0 n (refusal-text f (number-of r) (place-of r)) → Prints (printed s q g) n out′
     prints-refused f r e w = rw (printed-refused s q g as-lent f r e) (prints w (omega (arith, refusal-most f (number-of r) (place-of r))))
 
-    pub prints-accepted : (m b : ℕ) → o ≡ written.File m b → Wrote out out′ 0 n (answer-of m answer′ (register-in g)) → Prints (printed s q g) n out′
+    pub prints-accepted : (m b : ℕ) → o ≡ written.File m b → BytesWritten out out′ 0 n (answer-of m answer′ (register-in g)) → Prints (printed s q g) n out′
     prints-accepted m b e w =
         rw (printed-accepted s q g as-lent m b e)
         (prints w (omega (arith, answer-most m (pair-at answer′ 0 (row-words (records (register-in g)))) (records (register-in g)) (job-fits m b e .few))))
@@ -122,7 +122,7 @@ pub refusal-room : (f : Source) (n p room : ℕ) → 131128 ≤ room → 0 + len
 refusal-room f n p room h = omega (arith, refusal-most f n p)
 
 -- ---- its number of records
-module _ (g ws : List ℕ) (o : register·Outcome.Outcome) (h : outcome-said o ≡ sized (read register-form g)) (f : Fits g ws) where
+module _ (g ws : List ℕ) (o : register·Outcome.Outcome) (h : outcome-said o ≡ sized (read register-form g)) (f : Printable g ws) where
   pub never-refused : (r : Refusal) → o ≡ register·outcome.Refused r → ⊥
   never-refused r e =
       let same : got (register-in g) ≡ refused (number-of r) (place-of r) = sym (f .accepted) ∙ refused-file g o h r e in

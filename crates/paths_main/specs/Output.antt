@@ -36,7 +36,7 @@ abbrev pub answer-of : ℕ → List ℕ → Register → List ℕ
 answer-of members words r = answer-text members (pair-at words 0 (row-words (records r))) (records r)
 
 -- an accepted job's register is small, and the area has its answer
-pub record Fits (register words : List ℕ) : Type 0 where
+pub record Printable (register words : List ℕ) : Type 0 where
   pub accepted : Accepted register
   pub few : records (register-in register) ≤ 128
   pub room : records (register-in register) * row-words (records (register-in register)) ≤ length words

@@ -8,8 +8,8 @@ ghost use Prim.Native.Nat.{_≤_};
 ghost use lib.ListN.{length};
 ghost use Rattle.io.specs.Counts.{Counts};
 ghost use Rattle.register.specs.Form.{register-in};
-ghost use Rattle.encode.specs.Wrote.{Wrote};
-ghost use Rattle.paths_main.specs.Output.{zeros, printed, Prints, Fits, answer-of};
+ghost use Rattle.encode.specs.BytesWritten.{BytesWritten};
+ghost use Rattle.paths_main.specs.Output.{zeros, printed, Prints, Printable, answer-of};
 
 // What is lent: 8,192 words of work, 256 of the answer, 65,536 bytes for the narrowed file.
 fn work_words() -> [u64; 8192]
@@ -39,8 +39,8 @@ fn page() -> [u8; 131128]
 
 // Writes what is printed for an accepted job. Its register is read again for the number of records, and is not refused here.
 fn put_answer(out: &mut [u8], members: usize, answer: &[u64], register: &[u8]) -> usize
-    requires { ⌜ Fits (now register) (now answer) × (131128 ≤ length (now out)) ⌝ }
-    ensures { λ r. ⌜ Wrote (now (out .entry)) (now (out .exit)) 0 r (answer-of members (now (answer .entry)) (register-in (now (register .entry)))) ⌝ }
+    requires { ⌜ Printable (now register) (now answer) × (131128 ≤ length (now out)) ⌝ }
+    ensures { λ r. ⌜ BytesWritten (now (out .entry)) (now (out .exit)) 0 r (answer-of members (now (answer .entry)) (register-in (now (register .entry)))) ⌝ }
 {
     match register::read(register) {
         register::Outcome::Refused(r) => printing::put_refusal(out, 0, Source::Register, r),

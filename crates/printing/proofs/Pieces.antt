@@ -9,7 +9,7 @@ use native.Mathlib.Omega.{arith}
 use lib.ListN.{length, length-append}
 use Rattle.theory.specs.Lists.{guard, filter, concat-map, tabulate, range}
 use Rattle.theory.proofs.Lists.{tabulate-next}
-use Rattle.encode.specs.Wrote.{Wrote}
+use Rattle.encode.specs.BytesWritten.{BytesWritten}
 use Rattle.printing.proofs.Filling.{Filling, filling-start, filling-room, filling-next, filling-end}
 
 -- the pieces from the j-th on
@@ -44,10 +44,10 @@ module _ {g : ℕ → List ℕ} {n : ℕ} {o : List ℕ} {at : ℕ} {whole out :
   pub pieces-room : {u : List ℕ} → u ≡ g j → j < n → a + length u ≤ length out
   pieces-room e h = rw e (filling-room (p .filling) (g j) (rest-of g n (j + 1)) (next-left g n j h))
 
-  pub pieces-next : {u b : List ℕ} {y : ℕ} → u ≡ g j → j < n → Wrote out b a y u → Pieces g n o at whole b y (j + 1)
+  pub pieces-next : {u b : List ℕ} {y : ℕ} → u ≡ g j → j < n → BytesWritten out b a y u → Pieces g n o at whole b y (j + 1)
   pieces-next e h w = record { within = omega arith; filling = filling-next (p .filling) (g j) (rest-of g n (j + 1)) (next-left g n j h) (rw e at w) }
 
-  pub pieces-end : n ≤ j → Wrote o out at a whole
+  pub pieces-end : n ≤ j → BytesWritten o out at a whole
   pieces-end h = filling-end (p .filling) (none-left g n j h)
 
 -- ---- counted

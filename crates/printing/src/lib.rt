@@ -11,13 +11,13 @@ ghost use Rattle.theory.specs.Words.{row-words};
 ghost use Rattle.rows.specs.Row.{row-bit};
 ghost use Rattle.relation.specs.Pairs.{pair-at};
 ghost use Rattle.fields.specs.Contract.{number-of, place-of};
-ghost use Rattle.encode.specs.Wrote.{Wrote};
+ghost use Rattle.encode.specs.BytesWritten.{BytesWritten};
 ghost use Rattle.printing.specs.Text.{decimal, line, row-lines, lines, count, answer-text, in-source, refusal-text};
 
 // The bytes of s.
 fn put_text(out: &mut [u8], at: usize, s: &[u8]) -> usize
     requires { ⌜ at + length (now s) ≤ length (now out) ⌝ }
-    ensures { λ r. ⌜ Wrote (now (out .entry)) (now (out .exit)) at r (now (s .entry)) ⌝ }
+    ensures { λ r. ⌜ BytesWritten (now (out .entry)) (now (out .exit)) at r (now (s .entry)) ⌝ }
 {
     let mut a = at;
     for i in 0..s.len() {
@@ -29,7 +29,7 @@ fn put_text(out: &mut [u8], at: usize, s: &[u8]) -> usize
 // The decimal digits of n.
 fn put_decimal(out: &mut [u8], at: usize, n: u64) -> usize
     requires { ⌜ at + length (decimal n) ≤ length (now out) ⌝ }
-    ensures { λ r. ⌜ Wrote (now (out .entry)) (now (out .exit)) at r (decimal n) ⌝ }
+    ensures { λ r. ⌜ BytesWritten (now (out .entry)) (now (out .exit)) at r (decimal n) ⌝ }
 {
     let mut digits = [0u8; 20];
     let k = io::decimal(n, &mut digits);
@@ -39,7 +39,7 @@ fn put_decimal(out: &mut [u8], at: usize, n: u64) -> usize
 // The bytes of s, and then the decimal digits of n.
 fn put_number(out: &mut [u8], at: usize, s: &[u8], n: u64) -> usize
     requires { ⌜ at + length (now s ++ decimal n) ≤ length (now out) ⌝ }
-    ensures { λ r. ⌜ Wrote (now (out .entry)) (now (out .exit)) at r (now (s .entry) ++ decimal n) ⌝ }
+    ensures { λ r. ⌜ BytesWritten (now (out .entry)) (now (out .exit)) at r (now (s .entry) ++ decimal n) ⌝ }
 {
     let a = put_text(out, at, s);
     put_decimal(out, a, n)
@@ -48,7 +48,7 @@ fn put_number(out: &mut [u8], at: usize, s: &[u8], n: u64) -> usize
 // The line of the pair (s, t).
 fn put_line(out: &mut [u8], at: usize, s: usize, t: usize) -> usize
     requires { ⌜ at + length (line s t) ≤ length (now out) ⌝ }
-    ensures { λ r. ⌜ Wrote (now (out .entry)) (now (out .exit)) at r (line s t) ⌝ }
+    ensures { λ r. ⌜ BytesWritten (now (out .entry)) (now (out .exit)) at r (line s t) ⌝ }
 {
     let a = put_decimal(out, at, s as u64);
     let b = put_number(out, a, b" ", t as u64);
@@ -58,7 +58,7 @@ fn put_line(out: &mut [u8], at: usize, s: usize, t: usize) -> usize
 // The same, if there is such a pair.
 fn put_if(out: &mut [u8], at: usize, there: bool, s: usize, t: usize) -> usize
     requires { ⌜ at + length (guard there (line s t)) ≤ length (now out) ⌝ }
-    ensures { λ r. ⌜ Wrote (now (out .entry)) (now (out .exit)) at r (guard there (line s t)) ⌝ }
+    ensures { λ r. ⌜ BytesWritten (now (out .entry)) (now (out .exit)) at r (guard there (line s t)) ⌝ }
 {
     if there {
         return put_line(out, at, s, t);
@@ -69,7 +69,7 @@ fn put_if(out: &mut [u8], at: usize, there: bool, s: usize, t: usize) -> usize
 // A line for each pair from s: the row of n bits at r.
 fn put_row(out: &mut [u8], at: usize, words: &[u64], r: usize, s: usize, n: usize) -> usize
     requires { ⌜ (r + row-words n ≤ length (now words)) × (at + length (row-lines (row-bit (now words) r) s n) ≤ length (now out)) ⌝ }
-    ensures { λ e. ⌜ Wrote (now (out .entry)) (now (out .exit)) at e (row-lines (row-bit (now (words .entry)) r) s n) ⌝ }
+    ensures { λ e. ⌜ BytesWritten (now (out .entry)) (now (out .exit)) at e (row-lines (row-bit (now (words .entry)) r) s n) ⌝ }
 {
     let mut a = at;
     for t in 0..n {
@@ -81,7 +81,7 @@ fn put_row(out: &mut [u8], at: usize, words: &[u64], r: usize, s: usize, n: usiz
 // A line for each pair of n records, by the words of an answer, w to a row.
 fn put_pairs(out: &mut [u8], at: usize, words: &[u64], n: usize, w: usize) -> usize
     requires { ⌜ (w ≡ row-words n) × (n ≤ 1024) × (n * w ≤ length (now words)) × (at + length (lines (pair-at (now words) 0 w) n) ≤ length (now out)) ⌝ }
-    ensures { λ r. ⌜ Wrote (now (out .entry)) (now (out .exit)) at r (lines (pair-at (now (words .entry)) 0 w) n) ⌝ }
+    ensures { λ r. ⌜ BytesWritten (now (out .entry)) (now (out .exit)) at r (lines (pair-at (now (words .entry)) 0 w) n) ⌝ }
 {
     let mut a = at;
     for s in 0..n {
@@ -133,7 +133,7 @@ pub fn put_answer(
     w: usize,
 ) -> usize
     requires { ⌜ (w ≡ row-words n) × (n ≤ 1024) × (n * w ≤ length (now words)) × (at + length (answer-text members (pair-at (now words) 0 w) n) ≤ length (now out)) ⌝ }
-    ensures { λ r. ⌜ Wrote (now (out .entry)) (now (out .exit)) at r (answer-text members (pair-at (now (words .entry)) 0 w) n) ⌝ }
+    ensures { λ r. ⌜ BytesWritten (now (out .entry)) (now (out .exit)) at r (answer-text members (pair-at (now (words .entry)) 0 w) n) ⌝ }
 {
     let a = put_number(out, at, b"members ", members as u64);
     let b = put_number(out, a, b" pairs ", count_pairs(words, n, w) as u64);
@@ -144,7 +144,7 @@ pub fn put_answer(
 // ` in ` and the name of what a refusal is about.
 fn put_source(out: &mut [u8], at: usize, source: Source) -> usize
     requires { ⌜ at + length (in-source source) ≤ length (now out) ⌝ }
-    ensures { λ r. ⌜ Wrote (now (out .entry)) (now (out .exit)) at r (in-source source) ⌝ }
+    ensures { λ r. ⌜ BytesWritten (now (out .entry)) (now (out .exit)) at r (in-source source) ⌝ }
 {
     match source {
         Source::Sheet => put_text(out, at, b" in sheet"),
@@ -164,7 +164,7 @@ fn wide(n: u8) -> u64
 // What is printed of a refusal.
 pub fn put_refusal(out: &mut [u8], at: usize, source: Source, r: Refusal) -> usize
     requires { ⌜ at + length (refusal-text source (number-of r) (place-of r)) ≤ length (now out) ⌝ }
-    ensures { λ e. ⌜ Wrote (now (out .entry)) (now (out .exit)) at e (refusal-text source (number-of r) (place-of r)) ⌝ }
+    ensures { λ e. ⌜ BytesWritten (now (out .entry)) (now (out .exit)) at e (refusal-text source (number-of r) (place-of r)) ⌝ }
 {
     let a = put_number(out, at, b"refused ", wide(fields::number_of(r)));
     let b = put_source(out, a, source);

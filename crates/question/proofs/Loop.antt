@@ -25,7 +25,7 @@ use Rattle.question.specs.declared.Standing.{Standing}
 use Rattle.question.specs.declared.Standing.the-variants.{Head, Within}
 use Rattle.question.specs.Form.{State, head, within, question-form, due, judge as judge-of, head-of, fresh, one-more, due-head}
 use Rattle.question.specs.Contract.{counted, codes-in}
-use Rattle.question.specs.Internal.{due-of, go, more, judged, Ready}
+use Rattle.question.specs.Internal.{due-of, go, more, judged, BodyReady}
 
 abbrev state-of : Standing → List ℕ → State
 state-of Head xs = head
@@ -68,7 +68,7 @@ module _ (s : List ℕ) (at count : ℕ) (code : List ℕ) where
   reading-wrong st r i j e = going-wrong question-form s _ _ at (r .going) i j (rw due-is e)
 
   module _ (t m : ℕ) where
-    pub reading-ready : (st : Standing) → Reading s st at count code → field-at (due-of st) s at ≡ body t m → Ready st t (length (take m (drop (at + 3) s)))
+    pub reading-ready : (st : Standing) → Reading s st at count code → field-at (due-of st) s at ≡ body t m → BodyReady st t (length (take m (drop (at + 3) s)))
     unfolding tag-length rows
     reading-ready Head r e = let f = found due-head s at t m e in body-length f ∙ one-due due-head t m refl (f .fit) .1
     reading-ready (Within q) r e = let f = in-path file.Question q s at t m e in (f .long, (f .some, omega (arith, r .holds .1, r .holds .2)))

@@ -13,7 +13,7 @@ use Rattle.fields.proofs.Bools.{onward-got, told-refused}
 use Rattle.question.specs.declared.Outcome as declared·Outcome
 use Rattle.question.specs.declared.Outcome.the-variants as outcome
 use Rattle.question.specs.Form.{question-form}
-use Rattle.question.specs.Contract.{Reads, codes-in, outcome-said}
+use Rattle.question.specs.Contract.{ReadsQuestion, codes-in, outcome-said}
 
 -- the file's codes are cs, which were handed on
 pub record Told (s codes : List ℕ) (count : ℕ) (cs : List ℕ) : Type 0 where
@@ -21,7 +21,7 @@ pub record Told (s codes : List ℕ) (count : ℕ) (cs : List ℕ) : Type 0 wher
   pub many : length cs ≡ count
   pub array : codes ≡ padded 32 cs
 
-module _ (s : List ℕ) (o : declared·Outcome.Outcome) (codes : List ℕ) (h : Reads (read question-form s) o codes) where
+module _ (s : List ℕ) (o : declared·Outcome.Outcome) (codes : List ℕ) (h : ReadsQuestion (read question-form s) o codes) where
   pub refused-question : (x : Refusal) → o ≡ outcome.Refused x → read question-form s ≡ refused (number-of x) (place-of x)
   refused-question x e = told-refused _ (read question-form s) (number-of x) (place-of x) (sym (ap outcome-said e) ∙ h .outcome)
 

@@ -25,6 +25,6 @@ codes-in (got cs) = padded 32 cs
 codes-in (refused n p) = replicate 32 0
 
 -- the outcome, and every element of the array
-pub record Reads (a : Result (List ℕ)) (o : Outcome) (array : List ℕ) : Type 0 where
+pub record ReadsQuestion (a : Result (List ℕ)) (o : Outcome) (array : List ℕ) : Type 0 where
   pub outcome : outcome-said o ≡ counted a
   pub codes : array ≡ codes-in a

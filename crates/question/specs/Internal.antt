@@ -29,9 +29,9 @@ judged Head at next t b = onward (λ n. got (go (record { left = n; depth = 0 })
 judged (Within q) at next t b = onward (λ x. onward (λ q′. got (more (x .number) q′)) (push q at next (arity (x .number)))) (symbol-in at t b)
 
 -- what the code needs of a body before it looks
-abbrev pub Ready : Standing → ℕ → ℕ → Type 0
-Ready Head t n = n ≡ tag-length 0x21
-Ready (Within q) t n = (n ≡ symbol-length t) × ((0 < q .left) × (q .depth < 255))
+abbrev pub BodyReady : Standing → ℕ → ℕ → Type 0
+BodyReady Head t n = n ≡ tag-length 0x21
+BodyReady (Within q) t n = (n ≡ symbol-length t) × ((0 < q .left) × (q .depth < 255))
 
 abbrev pub turn-said : Turn → Result Move
 turn-said (turn.Stop r) = refusal-said r

@@ -11,8 +11,8 @@ ghost use lib.ListN.{length, replicate};
 ghost use Rattle.fields.specs.Table.{tag-length};
 ghost use Rattle.fields.specs.Reading.{read as read-file};
 ghost use Rattle.question.specs.Form.{question-form};
-ghost use Rattle.question.specs.Contract.{Reads};
-ghost use Rattle.question.specs.Internal.{due-of, judged, Ready, turn-said};
+ghost use Rattle.question.specs.Contract.{ReadsQuestion};
+ghost use Rattle.question.specs.Internal.{due-of, judged, BodyReady, turn-said};
 
 // The most symbols that a question has: as its head's number, and as a length.
 const MOST: u8 = 32;
@@ -76,7 +76,7 @@ fn head(at: usize, b: &[u8]) -> Turn
 
 // 43 or 44: a symbol; refusals 3 and 6.
 fn grow(q: Stack, at: usize, next: usize, tag: u8, b: &[u8]) -> Turn
-    requires { ⌜ Ready (Standing.Within q) tag (length (now b)) ⌝ }
+    requires { ⌜ BodyReady (Standing.Within q) tag (length (now b)) ⌝ }
     ensures { λ r. ⌜ turn-said r ≡ judged (Standing.Within q) at next tag (now (b .entry)) ⌝ }
 {
     match symbols::symbol_in(at, tag, b) {
@@ -92,7 +92,7 @@ fn grow(q: Stack, at: usize, next: usize, tag: u8, b: &[u8]) -> Turn
 }
 
 fn judge(st: Standing, at: usize, next: usize, tag: u8, b: &[u8]) -> Turn
-    requires { ⌜ Ready st tag (length (now b)) ⌝ }
+    requires { ⌜ BodyReady st tag (length (now b)) ⌝ }
     ensures { λ r. ⌜ turn-said r ≡ judged st at next tag (now (b .entry)) ⌝ }
 {
     match st {
@@ -111,7 +111,7 @@ fn refused(r: Refusal) -> Question
 
 // Reads a question's file.
 pub fn read(s: &[u8]) -> Question
-    ensures { λ r. ⌜ Reads (read-file question-form (now (s .entry))) (r .outcome) (r .codes) ⌝ }
+    ensures { λ r. ⌜ ReadsQuestion (read-file question-form (now (s .entry))) (r .outcome) (r .codes) ⌝ }
 {
     let mut codes = [0u8; MOST_SYMBOLS];
     let mut st = Standing::Head;

@@ -10,7 +10,7 @@ use Rattle.fields.specs.Table.{rows, tag-length, field-size}
 use Rattle.fields.specs.Writing.{field-bytes}
 use Rattle.symbols.specs.Symbols.{Numbered, symbol-given, symbols-given}
 use Rattle.symbols.specs.Writing.{symbols-bytes}
-use Rattle.encode.specs.Wrote.{Wrote}
+use Rattle.encode.specs.BytesWritten.{BytesWritten}
 use Rattle.encode.proofs.Along.{wrote-length, wrote-more}
 use Rattle.question.specs.Writing.{numbered-codes, question-bytes}
 use Rattle.question_writer.proofs.Measuring.{given-plain, question-length}
@@ -34,12 +34,12 @@ module _ (cs : List ℕ) (few : length cs ≤ 32) where
   unfolding field-size tag-length rows
   head-room h = omega (arith, question-length cs)
 
-  module _ {o p : List ℕ} {x : ℕ} (w : Wrote o p 0 x (field-bytes 0x21 (length cs ∷ []))) where
+  module _ {o p : List ℕ} {x : ℕ} (w : BytesWritten o p 0 x (field-bytes 0x21 (length cs ∷ []))) where
     pub symbols-room : length (question-bytes cs) ≤ length o → x + length given-bytes ≤ length p
     symbols-room h = omega (arith, question-length cs, ap (λ (l : List Numbered). length (symbols-bytes l)) given-codes, wrote-length w, w .next-is)
 
-    pub question-put : {q : List ℕ} {y : ℕ} → Wrote p q x y given-bytes → (q ≡ sets o 0 (question-bytes cs)) × (y ≡ length (question-bytes cs))
+    pub question-put : {q : List ℕ} {y : ℕ} → BytesWritten p q x y given-bytes → (q ≡ sets o 0 (question-bytes cs)) × (y ≡ length (question-bytes cs))
     unfolding question-bytes
     question-put {q} {y} v =
-        let u = wrote-more w (subst (λ (l : List Numbered). Wrote p q x y (symbols-bytes l)) given-codes v) in
+        let u = wrote-more w (subst (λ (l : List Numbered). BytesWritten p q x y (symbols-bytes l)) given-codes v) in
         (u .area, omega (arith, u .next-is))

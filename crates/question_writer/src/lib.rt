@@ -11,7 +11,7 @@ ghost use Rattle.fields.specs.Table.{field-size};
 ghost use Rattle.fields.specs.Writing.{field-bytes};
 ghost use Rattle.fields.specs.Call.{file-in};
 ghost use Rattle.fields.specs.Contract.{Files};
-ghost use Rattle.encode.specs.Wrote.{Wrote};
+ghost use Rattle.encode.specs.BytesWritten.{BytesWritten};
 ghost use Rattle.question.specs.Writing.{question-bytes};
 
 // The bytes of a question's head.
@@ -34,7 +34,7 @@ fn measure(codes: &[u8]) -> usize
 // 21: the number of symbols.
 fn put_count(out: &mut [u8], n: u8) -> usize
     requires { ⌜ field-size 0x21 ≤ length (now out) ⌝ }
-    ensures { λ r. ⌜ Wrote (now (out .entry)) (now (out .exit)) 0 r (field-bytes 0x21 (n ∷ [])) ⌝ }
+    ensures { λ r. ⌜ BytesWritten (now (out .entry)) (now (out .exit)) 0 r (field-bytes 0x21 (n ∷ [])) ⌝ }
 {
     let a = encode::put_head(out, 0, fields::QUESTION_TAG, fields::QUESTION_LENGTH);
     encode::put_byte(out, a, n)

@@ -15,7 +15,7 @@ use Rattle.register.specs.declared.Progress.{Progress}
 use Rattle.register.specs.declared.Position.{Position}
 use Rattle.register.specs.declared.Position.the-variants.{Start, Within}
 use Rattle.register.specs.Form.{due-head, due-entry, complete?}
-use Rattle.register.specs.Internal.{due-of, Ready}
+use Rattle.register.specs.Internal.{due-of, BodyReady}
 
 pub head-length : (s : List ℕ) (at t n : ℕ) → field-at due-head s at ≡ body t n → n ≡ 4
 unfolding tag-length rows
@@ -38,7 +38,7 @@ some-due q e = by-tests (eqb (q .kindless) 0) (eqb (q .left) 0) refl refl e
     by-tests true false a b e = let h : q .left ≡ 0 → ⊥ = eqb-false (q .left) 0 b in omega arith
     by-tests false y a b e = let h : q .kindless ≡ 0 → ⊥ = eqb-false (q .kindless) 0 a in omega arith
 
-pub ready : (st : Position) (s : List ℕ) (at t n : ℕ) → field-at (due-of st) s at ≡ body t n → Ready st (length (take n (drop (at + 3) s)))
+pub ready : (st : Position) (s : List ℕ) (at t n : ℕ) → field-at (due-of st) s at ≡ body t n → BodyReady st (length (take n (drop (at + 3) s)))
 ready Start s at t n e = let f = found due-head s at t n e in body-length f ∙ one-due due-head t n refl (f .fit) .1
 ready (Within q) s at t n e =
     let f = found (due-entry q) s at t n e in

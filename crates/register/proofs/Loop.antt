@@ -19,7 +19,7 @@ use Rattle.register.specs.declared.Position.{Position}
 use Rattle.register.specs.declared.Position.the-variants.{Start, Within}
 use Rattle.register.specs.Form.{State, start, within, due, judge, value, register-form, kind-of, link-of, edge-of}
 use Rattle.register.specs.Contract.{entry-of, sizes, sized}
-use Rattle.register.specs.Internal.{due-of, judged, Ready, sizes-of}
+use Rattle.register.specs.Internal.{due-of, judged, BodyReady, sizes-of}
 use Rattle.register.proofs.Fields.{ready}
 use Rattle.register.proofs.Sound.{SoundState, sound-more}
 
@@ -83,7 +83,7 @@ module _ (s : List ℕ) (st : Position) (at : ℕ) (r : Reading s st at) where
     pub reading-room : at + 3 + n ≤ length s
     reading-room = found (due-of st) s at t n e .room
 
-    pub reading-ready : Ready st (length (take n (drop (at + 3) s)))
+    pub reading-ready : BodyReady st (length (take n (drop (at + 3) s)))
     reading-ready = ready st s at t n e
 
     pub reading-refused : (m p : ℕ) → judged st at (take n (drop (at + 3) s)) ≡ refused m p → refused m p ≡ sized (read register-form s)

@@ -15,18 +15,18 @@ use Rattle.register.specs.Form.{kind-of, link-of}
 
 -- ---- the outcome
 -- the numbers of records and links
-pub record Sizes : Type 0 where
+pub record RegisterSizes : Type 0 where
   pub records : ℕ
   pub links : ℕ
 
-abbrev pub sizes : ℕ → ℕ → Sizes
+abbrev pub sizes : ℕ → ℕ → RegisterSizes
 sizes n l = record { records = n; links = l }
 
-abbrev pub outcome-said : Outcome → Result Sizes
+abbrev pub outcome-said : Outcome → Result RegisterSizes
 outcome-said (outcome.Accepted n l) = got (sizes n l)
 outcome-said (outcome.Refused r) = refusal-said r
 
-abbrev pub sized : Result Register → Result Sizes
+abbrev pub sized : Result Register → Result RegisterSizes
 sized a = onward (λ r. got (sizes (records r) (length (r .links)))) a
 
 -- what a body is to the code

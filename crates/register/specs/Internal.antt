@@ -14,7 +14,7 @@ use Rattle.register.specs.declared.Position.the-variants as position
 use Rattle.register.specs.declared.Turn.{Turn}
 use Rattle.register.specs.declared.Turn.the-variants as turn
 use Rattle.register.specs.Form.{due-head, due-tag, due-entry, head-of}
-use Rattle.register.specs.Contract.{Sizes, entry-of, sizes}
+use Rattle.register.specs.Contract.{RegisterSizes, entry-of, sizes}
 
 abbrev pub due-of : Position → Due
 due-of position.Start = due-head
@@ -25,14 +25,14 @@ judged position.Start at b = head-of at b
 judged (position.Within q) at b = entry-of q at b
 
 -- what the code needs of a body's length before it looks
-abbrev pub Ready : Position → ℕ → Type 0
-Ready position.Start n = n ≡ tag-length 0x31
-Ready (position.Within q) n = (n ≡ tag-length (due-tag q)) × (0 < q .kindless + q .left)
+abbrev pub BodyReady : Position → ℕ → Type 0
+BodyReady position.Start n = n ≡ tag-length 0x31
+BodyReady (position.Within q) n = (n ≡ tag-length (due-tag q)) × (0 < q .kindless + q .left)
 
 abbrev pub turn-said : Turn → Result Progress
 turn-said (turn.Go q) = got q
 turn-said (turn.Stop r) = refusal-said r
 
-abbrev pub sizes-of : Position → Result Sizes
+abbrev pub sizes-of : Position → Result RegisterSizes
 sizes-of position.Start = got (sizes 0 0)
 sizes-of (position.Within q) = got (sizes (q .records) (q .links))

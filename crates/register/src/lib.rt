@@ -15,7 +15,7 @@ ghost use Rattle.fields.specs.Reading.{read};
 ghost use Rattle.theory.specs.Register.{records, kind};
 ghost use Rattle.register.specs.Form.{head-of, kind-of, link-of, key, register-form, register-in};
 ghost use Rattle.register.specs.Contract.{entry-of, outcome-said, sized};
-ghost use Rattle.register.specs.Internal.{due-of, judged, Ready, turn-said, sizes-of};
+ghost use Rattle.register.specs.Internal.{due-of, judged, BodyReady, turn-said, sizes-of};
 ghost use Rattle.register.specs.Passed.{KindAt, NumberAt, Passes, Passed};
 ghost use Rattle.register.specs.LinksAhead.{Accepted, cursor-at, OnLinks, to-come, handed};
 
@@ -154,7 +154,7 @@ fn judge_link(q: Progress, at: usize, b: &[u8]) -> Turn
 }
 
 fn judge_entry(q: Progress, at: usize, b: &[u8]) -> Turn
-    requires { ⌜ Ready (Position.Within q) (length (now b)) ⌝ }
+    requires { ⌜ BodyReady (Position.Within q) (length (now b)) ⌝ }
     ensures { λ r. ⌜ turn-said r ≡ entry-of q at (now (b .entry)) ⌝ }
 {
     if q.kindless == 0 {
@@ -164,7 +164,7 @@ fn judge_entry(q: Progress, at: usize, b: &[u8]) -> Turn
 }
 
 fn judge(st: Position, at: usize, b: &[u8]) -> Turn
-    requires { ⌜ Ready st (length (now b)) ⌝ }
+    requires { ⌜ BodyReady st (length (now b)) ⌝ }
     ensures { λ r. ⌜ turn-said r ≡ judged st at (now (b .entry)) ⌝ }
 {
     match st {

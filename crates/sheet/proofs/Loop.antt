@@ -27,8 +27,8 @@ use Rattle.sheet.specs.declared.Standing.{Standing}
 use Rattle.sheet.specs.declared.Standing.the-variants.{Head, Within}
 use Rattle.sheet.specs.Form.{State, head, within, due-head, due-triple, due, head-of, edge-of, next, judge, sheet-form}
 use Rattle.sheet.specs.Table.{permit, table-of, table-in}
-use Rattle.sheet.specs.Contract.{outcome-said, sizes, Reads}
-use Rattle.sheet.specs.Internal.{sizes-at, due-of, go, more, judged, Ready}
+use Rattle.sheet.specs.Contract.{outcome-said, sizes, ReadsSheet}
+use Rattle.sheet.specs.Internal.{sizes-at, due-of, go, more, judged, BodyReady}
 use Rattle.sheet.proofs.Ranges.{so-far, head-got, next-got, sheet-more}
 use Rattle.sheet.proofs.Tables.{table-more}
 
@@ -56,11 +56,11 @@ unfolding table-of
 progress-start s = record { es = []; going = going-start sheet-form s; holds = refl; filled = refl }
 
 -- ---- what is returned
-pub reads-refused : (a : Result Sheet) (r : Refusal) (o : Outcome) (t : List ℕ) → a ≡ refusal-said r → (o ≡ outcome.Refused r) × (t ≡ replicate 4096 0) → Reads a o t
+pub reads-refused : (a : Result Sheet) (r : Refusal) (o : Outcome) (t : List ℕ) → a ≡ refusal-said r → (o ≡ outcome.Refused r) × (t ≡ replicate 4096 0) → ReadsSheet a o t
 reads-refused a r o t e h = record { outcome = ap outcome-said (h .0) ∙ ap sizes (sym e); table = h .1 ∙ ap table-in (sym e) }
 
 module _ (s : List ℕ) (at : ℕ) (table : List ℕ) where
-  pub progress-ends : (st : Standing) → Progress s st at table → field-at (due-of st) s at ≡ ends → (o : Outcome) → outcome-said o ≡ sizes-at st → Reads (read sheet-form s) o table
+  pub progress-ends : (st : Standing) → Progress s st at table → field-at (due-of st) s at ≡ ends → (o : Outcome) → outcome-said o ≡ sizes-at st → ReadsSheet (read sheet-form s) o table
   progress-ends Head p e o h = absurd (false≢true (ended due-head s at e .may))
   progress-ends (Within q) p e o h =
       let a = going-ends sheet-form s _ _ at (p .going) e in
@@ -70,7 +70,7 @@ module _ (s : List ℕ) (at : ℕ) (table : List ℕ) where
   progress-wrong st p i j e = going-wrong sheet-form s _ _ at (p .going) i j (rw due-is e)
 
   module _ (t n : ℕ) where
-    pub progress-ready : (st : Standing) → Progress s st at table → field-at (due-of st) s at ≡ body t n → Ready st (length (take n (drop (at + 3) s)))
+    pub progress-ready : (st : Standing) → Progress s st at table → field-at (due-of st) s at ≡ body t n → BodyReady st (length (take n (drop (at + 3) s)))
     unfolding tag-length rows
     progress-ready Head p e = let f = found due-head s at t n e in body-length f ∙ one-due due-head t n refl (f .fit) .1
     progress-ready (Within q) p e =

@@ -13,7 +13,7 @@ use Rattle.sheet.specs.declared.Outcome as declared·Outcome
 use Rattle.sheet.specs.declared.Outcome.the-variants as outcome
 use Rattle.sheet.specs.Form.{sheet-form}
 use Rattle.sheet.specs.Table.{table-of, table-in}
-use Rattle.sheet.specs.Contract.{Reads, Sizes, outcome-said}
+use Rattle.sheet.specs.Contract.{ReadsSheet, SheetSizes, outcome-said}
 
 -- the file is the sheet S, whose numbers and table were handed on
 pub record Told (s t : List ℕ) (k e : ℕ) (S : Sheet) : Type 0 where
@@ -22,12 +22,12 @@ pub record Told (s t : List ℕ) (k e : ℕ) (S : Sheet) : Type 0 where
   pub links : S .link-names ≡ e
   pub table : t ≡ table-of (S .permitted)
 
-module _ (s : List ℕ) (o : declared·Outcome.Outcome) (t : List ℕ) (h : Reads (read sheet-form s) o t) where
+module _ (s : List ℕ) (o : declared·Outcome.Outcome) (t : List ℕ) (h : ReadsSheet (read sheet-form s) o t) where
   pub refused-sheet : (x : Refusal) → o ≡ outcome.Refused x → read sheet-form s ≡ refused (number-of x) (place-of x)
   refused-sheet x w = told-refused _ (read sheet-form s) (number-of x) (place-of x) (sym (ap outcome-said w) ∙ h .outcome)
 
   pub told-sheet : (k e : ℕ) → o ≡ outcome.Accepted k e → (S : Sheet) × Told s t k e S
   told-sheet k e w =
       let (S, a, b) = onward-got (λ S. got (record { kinds = S .kinds; links = S .link-names })) (read sheet-form s) _ (sym (h .outcome) ∙ ap outcome-said w) in
-      let c : _≡_ {A = Sizes} (record { kinds = S .kinds; links = S .link-names }) (record { kinds = k; links = e }) = cc b in
-      (S, record { reads = a; kinds = ap (λ (p : Sizes). p .kinds) c; links = ap (λ (p : Sizes). p .links) c; table = h .table ∙ ap table-in a })
+      let c : _≡_ {A = SheetSizes} (record { kinds = S .kinds; links = S .link-names }) (record { kinds = k; links = e }) = cc b in
+      (S, record { reads = a; kinds = ap (λ (p : SheetSizes). p .kinds) c; links = ap (λ (p : SheetSizes). p .links) c; table = h .table ∙ ap table-in a })

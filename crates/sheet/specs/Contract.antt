@@ -11,18 +11,18 @@ use Rattle.sheet.specs.declared.Outcome.the-variants as outcome
 use Rattle.sheet.specs.Table.{table-in}
 
 -- ---- the outcome: the numbers of kinds and of links
-pub record Sizes : Type 0 where
+pub record SheetSizes : Type 0 where
   pub kinds : ℕ
   pub links : ℕ
 
-abbrev pub outcome-said : Outcome → Result Sizes
+abbrev pub outcome-said : Outcome → Result SheetSizes
 outcome-said (outcome.Accepted k e) = got (record { kinds = k; links = e })
 outcome-said (outcome.Refused r) = refusal-said r
 
-abbrev pub sizes : Result Sheet → Result Sizes
+abbrev pub sizes : Result Sheet → Result SheetSizes
 sizes a = onward (λ S. got (record { kinds = S .kinds; links = S .link-names })) a
 
 -- the outcome, and every word of the table
-pub record Reads (a : Result Sheet) (o : Outcome) (t : List ℕ) : Type 0 where
+pub record ReadsSheet (a : Result Sheet) (o : Outcome) (t : List ℕ) : Type 0 where
   pub outcome : outcome-said o ≡ sizes a
   pub table : t ≡ table-in a

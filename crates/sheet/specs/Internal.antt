@@ -15,9 +15,9 @@ use Rattle.sheet.specs.declared.Standing.the-variants.{Head, Within}
 use Rattle.sheet.specs.declared.Turn.{Turn}
 use Rattle.sheet.specs.declared.Turn.the-variants as turn
 use Rattle.sheet.specs.Form.{due-head, due-triple, head-of, next, edge-of}
-use Rattle.sheet.specs.Contract.{Sizes}
+use Rattle.sheet.specs.Contract.{SheetSizes}
 
-abbrev pub sizes-at : Standing → Result Sizes
+abbrev pub sizes-at : Standing → Result SheetSizes
 sizes-at Head = got (record { kinds = 0; links = 0 })
 sizes-at (Within q) = got (record { kinds = q .kinds; links = q .links })
 
@@ -34,9 +34,9 @@ judged Head at b = onward (λ q. got (go q)) (head-of at b)
 judged (Within q) at b = onward (λ q′. got (more (edge-of b) q′)) (next q at b)
 
 -- what the code needs of a body before it looks
-abbrev pub Ready : Standing → ℕ → Type 0
-Ready Head n = n ≡ tag-length 0x11
-Ready (Within q) n = (n ≡ tag-length 0x12) × (q .count < 512)
+abbrev pub BodyReady : Standing → ℕ → Type 0
+BodyReady Head n = n ≡ tag-length 0x11
+BodyReady (Within q) n = (n ≡ tag-length 0x12) × (q .count < 512)
 
 abbrev pub edge-said : Triple → Edge
 edge-said x = edge (x .from .0) (x .link .0) (x .to .0)

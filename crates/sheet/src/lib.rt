@@ -12,8 +12,8 @@ ghost use Rattle.fields.specs.Table.{tag-length};
 ghost use Rattle.fields.specs.Reading.{read as read-file};
 ghost use Rattle.sheet.specs.Form.{sheet-form, key};
 ghost use Rattle.sheet.specs.Table.{cell};
-ghost use Rattle.sheet.specs.Contract.{Reads, outcome-said};
-ghost use Rattle.sheet.specs.Internal.{due-of, judged, Ready, turn-said, sizes-at};
+ghost use Rattle.sheet.specs.Contract.{ReadsSheet, outcome-said};
+ghost use Rattle.sheet.specs.Internal.{due-of, judged, BodyReady, turn-said, sizes-at};
 
 // The numbers of kinds and of links, or why the file is refused.
 pub enum Outcome {
@@ -122,7 +122,7 @@ fn key_of(b: &[u8]) -> u32
 
 // 12: a triple; refusals 3 and 4.
 fn grow(q: Triples, at: usize, b: &[u8]) -> Turn
-    requires { ⌜ Ready (Standing.Within q) (length (now b)) ⌝ }
+    requires { ⌜ BodyReady (Standing.Within q) (length (now b)) ⌝ }
     ensures { λ r. ⌜ turn-said r ≡ judged (Standing.Within q) at (now (b .entry)) ⌝ }
 {
     if q.kinds <= b[0] {
@@ -153,7 +153,7 @@ fn grow(q: Triples, at: usize, b: &[u8]) -> Turn
 }
 
 fn judge(st: Standing, at: usize, b: &[u8]) -> Turn
-    requires { ⌜ Ready st (length (now b)) ⌝ }
+    requires { ⌜ BodyReady st (length (now b)) ⌝ }
     ensures { λ r. ⌜ turn-said r ≡ judged st at (now (b .entry)) ⌝ }
 {
     match st {
@@ -190,7 +190,7 @@ pub fn word_of(from: Kind, link: Link) -> usize
 
 // Reads a sheet's file.
 pub fn read(s: &[u8]) -> Reading
-    ensures { λ r. ⌜ Reads (read-file sheet-form (now (s .entry))) (r .outcome) (r .table) ⌝ }
+    ensures { λ r. ⌜ ReadsSheet (read-file sheet-form (now (s .entry))) (r .outcome) (r .table) ⌝ }
 {
     let mut table = [0u64; TABLE];
     let mut st = Standing::Head;

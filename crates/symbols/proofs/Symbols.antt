@@ -11,10 +11,10 @@ use borrow.Author.Tests.{ltb-true, leb-true, eqb-false}
 use Rattle.symbols.specs.declared.Stack.{Stack}
 use Rattle.theory.specs.Result.{got}
 use Rattle.fields.specs.Reading.{eight}
-use Rattle.symbols.specs.Symbols.{Numbered, numbered, step-of, operator-of, symbol-in, push, Plain}
+use Rattle.symbols.specs.Symbols.{Numbered, numbered, step-of, operator-of, symbol-in, push, PlainSymbol}
 use Rattle.fields.proofs.Bools.{cond-else, cond-then, and-left, and-right, not-got}
 
-step-plain : (at : ℕ) (b : List ℕ) (x : Numbered) → step-of at b ≡ got x → Plain x
+step-plain : (at : ℕ) (b : List ℕ) (x : Numbered) → step-of at b ≡ got x → PlainSymbol x
 unfolding step-of
 step-plain at b x e =
     let a = cond-then (ltb (getD b 0 0) 2 && ltb (getD b 1 0) 64) (not-got 3 at x) e in
@@ -23,7 +23,7 @@ step-plain at b x e =
     let l = ltb-true (getD b 1 0) 64 (and-right (ltb (getD b 0 0) 2) _ (a .0)) in
     (omega (arith, ap (λ (y : Numbered). y .number) z), sym (ap (λ (y : Numbered). y .set) z))
 
-operator-plain : (at : ℕ) (b : List ℕ) (x : Numbered) → operator-of at b ≡ got x → Plain x
+operator-plain : (at : ℕ) (b : List ℕ) (x : Numbered) → operator-of at b ≡ got x → PlainSymbol x
 unfolding operator-of
 operator-plain at b x e =
     let a = cond-then (leb 128 (getD b 0 0) && leb (getD b 0 0) 133) (not-got 3 at x) e in
@@ -31,11 +31,11 @@ operator-plain at b x e =
     let h = leb-true (getD b 0 0) 133 (and-right (leb 128 (getD b 0 0)) _ (a .0)) in
     (omega (arith, ap (λ (y : Numbered). y .number) z), sym (ap (λ (y : Numbered). y .set) z))
 
-pub symbol-plain : (at t : ℕ) (b : List ℕ) (x : Numbered) → 0x43 ≤ t → t ≤ 0x44 → symbol-in at t b ≡ got x → Plain x
+pub symbol-plain : (at t : ℕ) (b : List ℕ) (x : Numbered) → 0x43 ≤ t → t ≤ 0x44 → symbol-in at t b ≡ got x → PlainSymbol x
 unfolding symbol-in
 symbol-plain at t b x low high e = by-tag (eqb t 0x43) (eqb t 0x44) refl refl e
   where
-    by-tag : (p q : Bool) → eqb t 0x43 ≡ p → eqb t 0x44 ≡ q → cond p (step-of at b) (cond q (operator-of at b) (got (numbered 255 (eight b 0)))) ≡ got x → Plain x
+    by-tag : (p q : Bool) → eqb t 0x43 ≡ p → eqb t 0x44 ≡ q → cond p (step-of at b) (cond q (operator-of at b) (got (numbered 255 (eight b 0)))) ≡ got x → PlainSymbol x
     by-tag true q ep eq e = step-plain at b x e
     by-tag false true ep eq e = operator-plain at b x e
     by-tag false false ep eq e =

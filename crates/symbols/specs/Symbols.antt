@@ -96,12 +96,12 @@ symbols-given numbers masks (suc n) k = symbol-given (getD numbers k 0) (getD ma
 
 -- ---- symbols that make a path
 -- a step or an operator, without a set
-abbrev pub Plain : Numbered → Type 0
-Plain x = (x .number < 134) × (x .set ≡ 0)
+abbrev pub PlainSymbol : Numbered → Type 0
+PlainSymbol x = (x .number < 134) × (x .set ≡ 0)
 
 -- or a join through a set
 abbrev pub Fine : Numbered → Type 0
-Fine x = Plain x ⊎ ((x .number ≡ 255) × is-set (x .set))
+Fine x = PlainSymbol x ⊎ ((x .number ≡ 255) × is-set (x .set))
 
 -- each symbol is fine and finds its operands, and they come to an end as the path does (the places do not matter here)
 abbrev pub Runs : Stack → List Numbered → Type 0

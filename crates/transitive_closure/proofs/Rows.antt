@@ -23,7 +23,7 @@ use Rattle.rows.proofs.Ranges.{some-suc, some-one}
 use Rattle.relation.specs.Pairs.{pair-at, taken}
 use Rattle.relation.proofs.Joining.{row-blank}
 use Rattle.relation.proofs.Making.{row-le}
-use Rattle.transitive_closure.specs.Finishing.{closure-at, amount, Ready, Took, in-word, Growing, Grown, Stepped}
+use Rattle.transitive_closure.specs.Finishing.{closure-at, amount, PartlyClosed, Took, in-word, Growing, Grown, Stepped}
 use Rattle.transitive_closure.proofs.Amounts.{amount-fewer, amount-less}
 use Rattle.transitive_closure.proofs.Paths.{closure-in, closure-edge, closure-trans, closure-ind}
 
@@ -167,7 +167,7 @@ grown-then p q =
     }
 
 -- ---- the rows that may be taken in
-module _ {xs live pending finished : List ℕ} {b n w : ℕ} (h : Ready xs live pending finished b n w) where
+module _ {xs live pending finished : List ℕ} {b n w : ℕ} (h : PartlyClosed xs live pending finished b n w) where
   abbrev f : ℕ → ℕ → Bool
   f = pair-at xs b w
 

@@ -20,19 +20,19 @@ use Rattle.relation.specs.Pairs.{pair-at, Made, Clean}
 use Rattle.relation.proofs.Clean.{clean-past}
 use Rattle.relation.proofs.Joining.{row-blank}
 use Rattle.relation.proofs.Pair.{made-row}
-use Rattle.transitive_closure.specs.Finishing.{closure-at, amount, Ready, Stage}
+use Rattle.transitive_closure.specs.Finishing.{closure-at, amount, PartlyClosed, Stage}
 use Rattle.transitive_closure.proofs.Amounts.{amount-less}
 use Rattle.transitive_closure.proofs.Paths.{closure-in, closure-edge, closure-trans, closure-ind}
 use Rattle.transitive_closure.proofs.Rows.{or-either, and-yes, off, both-ways, lost, gone-off}
 
 -- a row that is empty is empty in the closure
-empty-row : {xs live pending finished : List ℕ} {b n w : ℕ} (k t : ℕ) → Ready xs live pending finished b n w → row-bit live 0 k ≡ false → closure-at xs b n w k t ≡ true → ⊥
+empty-row : {xs live pending finished : List ℕ} {b n w : ℕ} (k t : ℕ) → PartlyClosed xs live pending finished b n w → row-bit live 0 k ≡ false → closure-at xs b n w k t ≡ true → ⊥
 empty-row {xs} {b = b} {n} {w} k t h d e =
     closure-ind n (pair-at xs b w) k (λ (j : ℕ). ⊥) (λ j hk hj q. false≢true (sym (h .empty k j hk (omega (arith, h .bits)) d) ∙ q)) (λ j i hj hi q p. q) t e
 
 -- ---- the rows that are not empty are live and pending, and none is finished
 pub ready-start : {xs os live os′ pending : List ℕ} {b n w : ℕ} (m : ℕ) → b + n * w ≤ length xs → n ≤ 64 * w → w ≤ 16 → w ≤ m → w ≤ length live → w ≤ length pending → Clean xs b n w
-    → Row 0 w (mask-of (λ t. some? (pair-at xs b w t) (range n)) n) os live → Row 0 w (row-bit live 0) os′ pending → Ready xs live pending (replicate m 0) b n w
+    → Row 0 w (mask-of (λ t. some? (pair-at xs b w t) (range n)) n) os live → Row 0 w (row-bit live 0) os′ pending → PartlyClosed xs live pending (replicate m 0) b n w
 ready-start {xs} {live = live} {pending = pending} {b} {n} {w} m room bits words hm l o clean p q =
     record {
       room = room;
@@ -59,7 +59,7 @@ ready-start {xs} {live = live} {pending = pending} {b} {n} {w} m room bits words
         (le-or-lt n t)
 
 -- ---- row s is finished
-module _ {xs live pending finished : List ℕ} {b n w s : ℕ} (h : Ready xs live pending finished b n w) (hs : s < n) {ys pending′ finished′ : List ℕ}
+module _ {xs live pending finished : List ℕ} {b n w s : ℕ} (h : PartlyClosed xs live pending finished b n w) (hs : s < n) {ys pending′ finished′ : List ℕ}
     (r : Row (b + s * w) w (closure-at xs b n w s) xs ys) (p : Put 0 s (λ j. row-bit pending 0 j && not (eqb j s)) pending pending′)
     (q : Put 0 s (λ j. row-bit finished 0 j || eqb j s) finished finished′) where
   abbrev f : ℕ → ℕ → Bool
@@ -145,7 +145,7 @@ module _ {xs live pending finished : List ℕ} {b n w s : ℕ} (h : Ready xs liv
       }
 
 -- ---- one stage after another
-pub stage-none : {xs live pending finished : List ℕ} {b n w : ℕ} → Ready xs live pending finished b n w → Stage b n w live xs pending finished xs pending finished
+pub stage-none : {xs live pending finished : List ℕ} {b n w : ℕ} → PartlyClosed xs live pending finished b n w → Stage b n w live xs pending finished xs pending finished
 stage-none {xs} {b = b} {n} {w} h = record { kept = kept-refl b (b + n * w) xs; pending-len = refl; finished-len = refl; same = λ s t. refl; fewer = λ k l e. e; ready = h }
 
 pub stage-then : {b n w : ℕ} {live xs os fs ys os′ fs′ zs os″ fs″ : List ℕ} → Stage b n w live xs os fs ys os′ fs′ → Stage b n w live ys os′ fs′ zs os″ fs″ → Stage b n w live xs os fs zs os″ fs″

@@ -23,7 +23,7 @@ amount f (suc n) = cond (f n) (suc (amount f n)) (amount f n)
 
 -- The relation at b, and three rows of marks: live rows are those that are not empty, pending ones are not finished yet. A row that is not
 -- pending is the closure's.
-pub record Ready (xs live pending finished : List ℕ) (b n w : ℕ) : Type 0 where
+pub record PartlyClosed (xs live pending finished : List ℕ) (b n w : ℕ) : Type 0 where
   pub room : b + n * w ≤ length xs
   pub bits : n ≤ 64 * w
   pub words : w ≤ 16
@@ -73,7 +73,7 @@ pub record Stage (b n w : ℕ) (live xs pending finished ys pending′ finished�
   pub finished-len : length finished′ ≡ length finished
   pub same : (s t : ℕ) → closure-at ys b n w s t ≡ closure-at xs b n w s t
   pub fewer : (k : ℕ) → k / 64 < w → row-bit pending′ 0 k ≡ true → row-bit pending 0 k ≡ true
-  pub ready : Ready ys live pending′ finished′ b n w
+  pub ready : PartlyClosed ys live pending′ finished′ b n w
 
 -- ---- the walk over the rows
 -- those that lead to where it stands lie in the stack, which has room for all that it has not met

@@ -10,7 +10,7 @@ ghost use Rattle.bits.specs.Bit.{bitOf};
 ghost use Rattle.theory.specs.TransitiveClosure.{look, closure?};
 ghost use Rattle.rows.specs.Row.{row-bit, Row};
 ghost use Rattle.relation.specs.Pairs.{pair-at, Made, Clean};
-ghost use Rattle.transitive_closure.specs.Finishing.{closure-at, in-word, Ready, Took, Growing, Grown, Stepped, Stage, Trail, Ahead, Turned};
+ghost use Rattle.transitive_closure.specs.Finishing.{closure-at, in-word, PartlyClosed, Took, Growing, Grown, Stepped, Stage, Trail, Ahead, Turned};
 
 // The row takes in row k, which lies at d and is not finished; k is no longer left.
 fn take_pending(row: &mut [u64], left: &mut [u64], work: &[u64], d: usize, w: usize, k: usize)
@@ -68,7 +68,7 @@ fn take_rest(
     s: usize,
     i: usize,
 )
-    requires { ⌜ Ready (now work) (now live) (now pending) (now finished) b n w × Growing (now work) b n w s (now row) (now left) × (w ≤ length (now row)) × (w ≤ length (now left)) × (i < w) ⌝ }
+    requires { ⌜ PartlyClosed (now work) (now live) (now pending) (now finished) b n w × Growing (now work) b n w s (now row) (now left) × (w ≤ length (now row)) × (w ≤ length (now left)) × (i < w) ⌝ }
     ensures { λ _. ⌜ Grown (now (work .entry)) b n w s (now (row .entry)) (now (left .entry)) (now (row .exit)) (now (left .exit)) ⌝ }
 {
     let v = row[i] & (left[i] & finished[i]);
@@ -91,7 +91,7 @@ fn step(
     w: usize,
     s: usize,
 ) -> bool
-    requires { ⌜ Ready (now work) (now live) (now pending) (now finished) b n w × Growing (now work) b n w s (now row) (now left) × (w ≤ length (now row)) × (w ≤ length (now left)) ⌝ }
+    requires { ⌜ PartlyClosed (now work) (now live) (now pending) (now finished) b n w × Growing (now work) b n w s (now row) (now left) × (w ≤ length (now row)) × (w ≤ length (now left)) ⌝ }
     ensures { λ g. ⌜ Stepped (now (work .entry)) b n w s (now (row .entry)) (now (left .entry)) (now (row .exit)) (now (left .exit)) g ⌝ }
 {
     let k = rows::first(row, 0, left, finished, w);
@@ -120,7 +120,7 @@ fn reach(
     w: usize,
     s: usize,
 )
-    requires { ⌜ Ready (now work) (now live) (now pending) (now finished) b n w × (s < n) × (w ≤ length (now row)) ⌝ }
+    requires { ⌜ PartlyClosed (now work) (now live) (now pending) (now finished) b n w × (s < n) × (w ≤ length (now row)) ⌝ }
     ensures { λ _. ⌜ Row 0 w (closure-at (now (work .entry)) b n w s) (now (row .entry)) (now (row .exit)) ⌝ }
 {
     let mut left = [0u64; 16];
@@ -143,7 +143,7 @@ fn finish(
     w: usize,
     s: usize,
 )
-    requires { ⌜ Ready (now work) (now live) (now pending) (now finished) b n w × (s < n) ⌝ }
+    requires { ⌜ PartlyClosed (now work) (now live) (now pending) (now finished) b n w × (s < n) ⌝ }
     ensures { λ _. ⌜ Stage b n w (now (live .entry)) (now (work .entry)) (now (pending .entry)) (now (finished .entry)) (now (work .exit)) (now (pending .exit)) (now (finished .exit)) × (row-bit (now (pending .exit)) 0 s ≡ false) ⌝ }
 {
     let mut row = [0u64; 16];
@@ -186,7 +186,7 @@ fn turn(
     depth: usize,
     k: usize,
 ) -> usize
-    requires { ⌜ Ready (now work) (now live) (now pending) (now finished) b n w × Trail (now stack) (now unseen) n w depth × Ahead (now unseen) w k × (k < 64 * w + depth) ⌝ }
+    requires { ⌜ PartlyClosed (now work) (now live) (now pending) (now finished) b n w × Trail (now stack) (now unseen) n w depth × Ahead (now unseen) w k × (k < 64 * w + depth) ⌝ }
     ensures { λ r. ⌜ Stage b n w (now (live .entry)) (now (work .entry)) (now (pending .entry)) (now (finished .entry)) (now (work .exit)) (now (pending .exit)) (now (finished .exit))
         × Turned n w depth r (now (stack .entry)) (now (unseen .entry)) (now (stack .exit)) (now (unseen .exit)) ⌝ }
 {
@@ -209,7 +209,7 @@ fn walk(
     n: usize,
     w: usize,
 )
-    requires { ⌜ Ready (now work) (now live) (now pending) (now finished) b n w ⌝ }
+    requires { ⌜ PartlyClosed (now work) (now live) (now pending) (now finished) b n w ⌝ }
     ensures { λ _. ⌜ Stage b n w (now (live .entry)) (now (work .entry)) (now (pending .entry)) (now (finished .entry)) (now (work .exit)) (now (pending .exit)) (now (finished .exit)) ⌝ }
 {
     let mut unseen = [0u64; 16];

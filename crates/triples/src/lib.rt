@@ -9,7 +9,7 @@ ghost use Rattle.theory.specs.Inference.{triple?};
 ghost use Rattle.triples.specs.Table.{word-of, InRange, Loaded};
 ghost use Rattle.triples.specs.Paths.{triple-of, Has};
 ghost use Rattle.triples.specs.Tests.{Decides};
-ghost use Rattle.triples.specs.Expansion.{Wrote, Expanded, Ready};
+ghost use Rattle.triples.specs.Expansion.{PathWritten, Expanded, Expandable};
 ghost use Rattle.triples.specs.Parts.{part-of, Candidate, Added};
 
 // The operators, as a node has them; a smaller number is a step.
@@ -75,7 +75,7 @@ pub fn store(words: &mut [u64], i: usize, n: Node)
 // Writes a code and a set at `at`, and gives the place after it.
 fn mark(codes: &mut [u8], vias: &mut [u64], at: usize, code: usize, via: u64) -> usize
     requires { ⌜ (at < length (now codes)) × (at < length (now vias)) × (code < 256) ⌝ }
-    ensures { λ r. ⌜ Wrote at (code ∷ []) (via ∷ []) (now (codes .entry)) (now (vias .entry)) (now (codes .exit)) (now (vias .exit)) r ⌝ }
+    ensures { λ r. ⌜ PathWritten at (code ∷ []) (via ∷ []) (now (codes .entry)) (now (vias .entry)) (now (codes .exit)) (now (vias .exit)) r ⌝ }
 {
     codes[at] = code as u8;
     vias[at] = via;
@@ -85,7 +85,7 @@ fn mark(codes: &mut [u8], vias: &mut [u64], at: usize, code: usize, via: u64) ->
 // Copies n symbols of the question from s on, with no sets.
 fn copy(question: &[u8], s: usize, n: usize, codes: &mut [u8], vias: &mut [u64], at: usize) -> usize
     requires { ⌜ (s + n ≤ length (now question)) × (at + n ≤ length (now codes)) × (at + n ≤ length (now vias)) ⌝ }
-    ensures { λ r. ⌜ Wrote at (take n (drop s (now (question .entry)))) (replicate n 0) (now (codes .entry)) (now (vias .entry)) (now (codes .exit)) (now (vias .exit)) r ⌝ }
+    ensures { λ r. ⌜ PathWritten at (take n (drop s (now (question .entry)))) (replicate n 0) (now (codes .entry)) (now (vias .entry)) (now (codes .exit)) (now (vias .exit)) r ⌝ }
 {
     let mut j = 0;
     while j < n {
@@ -106,7 +106,7 @@ pub fn expand(
     vias: &mut [u64],
     at: usize,
 ) -> usize
-    requires { ⌜ Ready (now question) (now words) used i at (now codes) (now vias) ⌝ }
+    requires { ⌜ Expandable (now question) (now words) used i at (now codes) (now vias) ⌝ }
     ensures { λ r. ⌜ Expanded (triple-of (now (question .entry)) (now (words .entry)) i .path) at (now (codes .entry)) (now (vias .entry)) (now (codes .exit)) (now (vias .exit)) r ⌝ }
 {
     let n = load(words, i);

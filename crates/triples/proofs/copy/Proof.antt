@@ -2,7 +2,7 @@
 -- Assumes nothing.
 use mathlib.Core.Path.{_≡_}
 use lib.ListN.{take, drop, replicate}
-use Rattle.triples.specs.Expansion.{Wrote}
+use Rattle.triples.specs.Expansion.{PathWritten}
 use Rattle.triples.proofs.Writing.{wrote-none, copy-more}
 use borrow.Author.Needs.{needs}
 use Prim.Native.Nat.{_+_, _-_, _≤_}
@@ -13,7 +13,7 @@ use Rattle.triples.proofs.copy.Reads as reads
 use Rattle.triples.proofs.copy.Lts as lts
 
 abbrev Inv-loop : tie.InvT-loop
-Inv-loop question s n codes₀ vias₀ at j₀ codes vias j = (j ≤ n) × Wrote at (take j (drop s question)) (replicate j 0) codes₀ vias₀ codes vias (at + j)
+Inv-loop question s n codes₀ vias₀ at j₀ codes vias j = (j ≤ n) × PathWritten at (take j (drop s question)) (replicate j 0) codes₀ vias₀ codes vias (at + j)
 
 abbrev μ-loop : tie.MeasureT-loop
 μ-loop question s n codes₀ vias₀ at j₀ codes vias j = n - j

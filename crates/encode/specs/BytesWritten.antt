@@ -8,7 +8,7 @@ use lib.Seq.{sets}
 use Rattle.narrowed_question.specs.declared.Members.{Members}
 
 -- bytes were written from a place on, and the next place is after them
-pub record Wrote (before after : List ℕ) (at next : ℕ) (bytes : List ℕ) : Type 0 where
+pub record BytesWritten (before after : List ℕ) (at next : ℕ) (bytes : List ℕ) : Type 0 where
   pub area : after ≡ sets before at bytes
   pub next-is : next ≡ at + length bytes
 

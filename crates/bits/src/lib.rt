@@ -1,4 +1,4 @@
-// A word as a set of bits: test, set, clear, lowest. The union of two words is `|` itself.
+// A word as a set of bits: test, set, clear, lowest; and a byte as a word. The union of two words is `|` itself.
 ghost use mathlib.Core.Path.{_≡_};
 ghost use Prim.Native.Nat.{_^_, _<_};
 ghost use Rattle.bits.specs.Bit.{bitOf, withBit, without, Lowest};
@@ -33,4 +33,11 @@ pub fn lowest(w: u64) -> usize
     ensures { λ r. ⌜ Lowest 64 w r ⌝ }
 {
     u64::trailing_zeros(w) as usize
+}
+
+// A byte as a word.
+pub fn wide(b: u8) -> u64
+    ensures { λ r. ⌜ (r ≡ b) × (r < 256) ⌝ }
+{
+    b as u64
 }

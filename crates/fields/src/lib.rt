@@ -269,7 +269,8 @@ pub fn two(s: &[u8], at: usize) -> u16
     wide(s[at]) * 256 + wide(s[at + 1])
 }
 
-fn long(n: u16) -> u64
+// A number of two bytes as a word.
+pub fn long(n: u16) -> u64
     ensures { λ r. ⌜ (r ≡ n) × (r < 65536) ⌝ }
 {
     n as u64

@@ -155,18 +155,12 @@ fn put_source(out: &mut [u8], at: usize, source: Source) -> usize
     }
 }
 
-fn wide(n: u8) -> u64
-    ensures { λ r. ⌜ r ≡ n ⌝ }
-{
-    n as u64
-}
-
 // What is printed of a refusal.
 pub fn put_refusal(out: &mut [u8], at: usize, source: Source, r: Refusal) -> usize
     requires { ⌜ at + length (refusal-text source (number-of r) (place-of r)) ≤ length (now out) ⌝ }
     ensures { λ e. ⌜ BytesWritten (now (out .entry)) (now (out .exit)) at e (refusal-text source (number-of r) (place-of r)) ⌝ }
 {
-    let a = put_number(out, at, b"refused ", wide(fields::number_of(r)));
+    let a = put_number(out, at, b"refused ", bits::wide(fields::number_of(r)));
     let b = put_source(out, a, source);
     let c = put_number(out, b, b" at ", fields::place_of(r) as u64);
     put_text(out, c, b"\n")

@@ -1,4 +1,5 @@
 // Reads a register's file, and hands on its kinds and links from where they lie.
+use bits::wide;
 use fields::Due;
 use fields::File;
 use fields::HEAD;
@@ -6,6 +7,7 @@ use fields::Kind;
 use fields::Link;
 use fields::Refusal;
 use fields::Seen;
+use fields::long;
 ghost use mathlib.Core.Path.{_≡_};
 ghost use mathlib.Core.Bool.{true};
 ghost use Prim.Native.Nat.{_<_, _≤_};
@@ -104,18 +106,6 @@ fn judge_kind(q: Progress, at: usize, b: &[u8]) -> Turn
         left: q.left,
         floor: q.floor,
     })
-}
-
-fn long(n: u16) -> u64
-    ensures { λ r. ⌜ (r ≡ n) × (r < 65536) ⌝ }
-{
-    n as u64
-}
-
-fn wide(b: u8) -> u64
-    ensures { λ r. ⌜ (r ≡ b) × (r < 256) ⌝ }
-{
-    b as u64
 }
 
 // From, link and to as one number, by which links ascend.

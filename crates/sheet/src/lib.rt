@@ -1,4 +1,5 @@
 // Reads a sheet's file: its numbers of kinds and links, and the table of permitted kinds, by value.
+use bits::wide;
 use fields::Due;
 use fields::File;
 use fields::Kind;
@@ -37,7 +38,7 @@ pub struct Triples {
     pub kinds: u8,
     pub links: u8,
     pub count: u16,
-    pub floor: u32,
+    pub floor: u64,
 }
 
 pub struct Triple {
@@ -106,14 +107,8 @@ fn head(at: usize, b: &[u8]) -> Turn
     })
 }
 
-fn wide(b: u8) -> u32
-    ensures { λ r. ⌜ (r ≡ b) × (r < 256) ⌝ }
-{
-    b as u32
-}
-
 // Three bytes as one number.
-fn key_of(b: &[u8]) -> u32
+fn key_of(b: &[u8]) -> u64
     requires { ⌜ 2 < length (now b) ⌝ }
     ensures { λ r. ⌜ (r ≡ key (now (b .entry))) × (r < 16777216) ⌝ }
 {

@@ -1,10 +1,10 @@
 // A digest of all the numbers that a reader hands on.
+use bits::wide;
 use narrowed_question::Members;
 use register::NextLink;
 use test_report::mix;
 use test_report::mix_bytes;
 use test_report::mix_words;
-use test_report::wide;
 ghost use mathlib.Core.Path.{_≡_};
 ghost use Rattle.theory.specs.Register.{records};
 ghost use Rattle.register.specs.Form.{register-in};

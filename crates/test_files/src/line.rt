@@ -4,7 +4,7 @@ use libc::STDOUT_FILENO;
 
 pub fn refused(r: Refusal) {
     io::write_all(STDOUT_FILENO, b"refused ");
-    test_report::number(test_report::wide(fields::number_of(r)));
+    test_report::number(bits::wide(fields::number_of(r)));
     test_report::number(fields::place_of(r) as u64);
 }
 

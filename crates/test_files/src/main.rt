@@ -14,8 +14,8 @@ fn run_sheet(s: &[u8]) {
     let outcome = r.outcome;
     match outcome {
         sheet::Outcome::Accepted(k, e) => {
-            line::read(test_report::wide(k));
-            test_report::number(test_report::wide(e));
+            line::read(bits::wide(k));
+            test_report::number(bits::wide(e));
         }
         sheet::Outcome::Refused(x) => {
             line::refused(x);

@@ -1,5 +1,6 @@
 // What the programs that run stored vectors share: room for their input, the numbers in it, areas that they lend, the words
 // and numbers of a line, and digests.
+use bits::wide;
 use fields::Refusal;
 use fields::Source;
 use libc::STDOUT_FILENO;
@@ -51,10 +52,6 @@ pub fn number(n: u64) {
 pub fn end(n: u64) {
     io::print_decimal(STDOUT_FILENO, n);
     io::write_all(STDOUT_FILENO, b"\n");
-}
-
-pub fn wide(b: u8) -> u64 {
-    b as u64
 }
 
 // A call's refusal: its number, file and place.

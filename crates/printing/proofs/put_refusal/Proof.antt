@@ -21,7 +21,7 @@ wide-requires c κs = search needs
 
 put-number-requires : tie.Need-put-number-requires
 unfolding refusal-text
-put-number-requires c κs = rw (c .wide .ensures ∙ c .before .number-of .ensures) (omega (arith, simp length-append at (c .before .before .before .before .before .pre)))
+put-number-requires c κs = rw (c .wide .ensures .0 ∙ c .before .number-of .ensures) (omega (arith, simp length-append at (c .before .before .before .before .before .pre)))
 
 put-source-requires : tie.Need-put-source-requires
 unfolding refusal-text
@@ -30,7 +30,7 @@ put-source-requires c κs =
     let c4 = c3 .before in
     let c5 = c4 .before in
     let c9 = c5 .before .before .before .before in
-    omega (arith, simp length-append at (second-room _ (rw (c4 .wide .ensures ∙ c5 .number-of .ensures) at (c3 .put-number .ensures)) (c9 .pre)))
+    omega (arith, simp length-append at (second-room _ (rw (c4 .wide .ensures .0 ∙ c5 .number-of .ensures) at (c3 .put-number .ensures)) (c9 .pre)))
 
 slice-aggregate-put-number-2 : tie.Need-slice-aggregate-put-number-2
 slice-aggregate-put-number-2 c = search needs
@@ -48,7 +48,7 @@ put-number-requires-2 c κs =
     let c15 = c11 .before .before .before .before in
     rw (c .place-of .ensures) (omega (
       arith,
-      simp length-append at (second-room _ (c5 .put-source .ensures) (second-room _ (rw (c10 .wide .ensures ∙ c11 .number-of .ensures) at (c9 .put-number .ensures)) (c15 .pre))),
+      simp length-append at (second-room _ (c5 .put-source .ensures) (second-room _ (rw (c10 .wide .ensures .0 ∙ c11 .number-of .ensures) at (c9 .put-number .ensures)) (c15 .pre))),
     ))
 
 slice-aggregate-put-text : tie.Need-slice-aggregate-put-text
@@ -65,7 +65,7 @@ put-text-requires c κs =
     let c16 = c15 .before in
     let c20 = c16 .before .before .before .before in
     second-room _ (rw (c5 .place-of .ensures) at (c4 .put-number2 .ensures))
-    (second-room _ (c10 .put-source .ensures) (second-room _ (rw (c15 .wide .ensures ∙ c16 .number-of .ensures) at (c14 .put-number .ensures)) (c20 .pre)))
+    (second-room _ (c10 .put-source .ensures) (second-room _ (rw (c15 .wide .ensures .0 ∙ c16 .number-of .ensures) at (c14 .put-number .ensures)) (c20 .pre)))
 
 same-length : tie.Need-same-length
 same-length c = search needs
@@ -80,7 +80,7 @@ returns c =
     let c17 = c13 .before .before .before .before in
     let c18 = c17 .before in
     let c19 = c18 .before in
-    wrote-more (rw (c18 .wide .ensures ∙ c19 .number-of .ensures) at (c17 .put-number .ensures))
+    wrote-more (rw (c18 .wide .ensures .0 ∙ c19 .number-of .ensures) at (c17 .put-number .ensures))
     (wrote-more (c13 .put-source .ensures) (wrote-more (rw (c8 .place-of .ensures) at (c7 .put-number2 .ensures)) (c2 .put-text .ensures)))
 
 pub put-refusal-spec : {M : Type 1} → statement M

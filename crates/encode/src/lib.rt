@@ -28,14 +28,21 @@ const OPERATOR_BYTES: usize = fields::HEAD + fields::OPERATOR_LENGTH as usize;
 
 const THROUGH_BYTES: usize = fields::HEAD + fields::THROUGH_LENGTH as usize;
 
+// How many numbers two, four and six bytes have.
+const TWO: u64 = fields::TWO_BYTES;
+
+const FOUR: u64 = TWO * TWO;
+
+const SIX: u64 = TWO * FOUR;
+
 // The bytes of a symbol's field.
 pub fn symbol_size(number: u8) -> usize
     ensures { λ r. ⌜ (r ≡ symbol-size number) × (r ≤ 11) ⌝ }
 {
-    if number < 128 {
+    if number < symbols::STEPS {
         return STEP_BYTES;
     }
-    if number == 255 {
+    if number == symbols::THROUGH {
         return THROUGH_BYTES;
     }
     OPERATOR_BYTES
@@ -68,18 +75,18 @@ fn put_two(out: &mut [u8], at: usize, n: u16) -> usize
     requires { ⌜ at + 2 ≤ length (now out) ⌝ }
     ensures { λ r. ⌜ BytesWritten (now (out .entry)) (now (out .exit)) at r (two-bytes n) ⌝ }
 {
-    let a = put_byte(out, at, low(n / 256));
-    put_byte(out, a, low(n % 256))
+    let a = put_byte(out, at, low(n / fields::BYTE));
+    put_byte(out, a, low(n % fields::BYTE))
 }
 
 fn put_eight(out: &mut [u8], at: usize, n: u64) -> usize
     requires { ⌜ at + 8 ≤ length (now out) ⌝ }
     ensures { λ r. ⌜ BytesWritten (now (out .entry)) (now (out .exit)) at r (eight-bytes n) ⌝ }
 {
-    let a = put_two(out, at, short(n / 281474976710656));
-    let b = put_two(out, a, short(n / 4294967296 % 65536));
-    let c = put_two(out, b, short(n / 65536 % 65536));
-    put_two(out, c, short(n % 65536))
+    let a = put_two(out, at, short(n / SIX));
+    let b = put_two(out, a, short(n / FOUR % TWO));
+    let c = put_two(out, b, short(n / TWO % TWO));
+    put_two(out, c, short(n % TWO))
 }
 
 // A field's tag and the length of its body.
@@ -144,10 +151,10 @@ fn put_symbol(out: &mut [u8], at: usize, number: u8, set: u64) -> usize
     requires { ⌜ at + length (symbol-bytes (symbol-given number set)) ≤ length (now out) ⌝ }
     ensures { λ r. ⌜ BytesWritten (now (out .entry)) (now (out .exit)) at r (symbol-bytes (symbol-given number set)) ⌝ }
 {
-    if number < 128 {
-        return put_step(out, at, number / 64, symbols::step_link(number));
+    if number < symbols::STEPS {
+        return put_step(out, at, number / fields::LINKS, symbols::step_link(number));
     }
-    if number == 255 {
+    if number == symbols::THROUGH {
         return put_through(out, at, set);
     }
     put_operator(out, at, number)

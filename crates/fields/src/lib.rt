@@ -122,6 +122,11 @@ pub const MEMBER_SYMBOLS: usize = 48;
 // The bytes of a field's head: its tag, and the length of its body.
 pub const HEAD: usize = 3;
 
+// How many numbers a byte has, and two bytes: what the bytes above them weigh.
+pub const BYTE: u16 = 256;
+
+pub const TWO_BYTES: u64 = BYTE as u64 * BYTE as u64;
+
 // A tag, its one length, and whether a sheet, a question, a register, a narrowed question may have it.
 pub struct Row(pub u8, pub u16, pub bool, pub bool, pub bool, pub bool);
 
@@ -266,7 +271,7 @@ pub fn two(s: &[u8], at: usize) -> u16
     requires { ⌜ at + 1 < length (now s) ⌝ }
     ensures { λ r. ⌜ r ≡ word (now (s .entry)) at ⌝ }
 {
-    wide(s[at]) * 256 + wide(s[at + 1])
+    wide(s[at]) * BYTE + wide(s[at + 1])
 }
 
 // A number of two bytes as a word.
@@ -281,7 +286,8 @@ pub fn eight_at(s: &[u8], at: usize) -> u64
     requires { ⌜ at + 7 < length (now s) ⌝ }
     ensures { λ r. ⌜ r ≡ eight (now (s .entry)) at ⌝ }
 {
-    ((long(two(s, at)) * 65536 + long(two(s, at + 2))) * 65536 + long(two(s, at + 4))) * 65536
+    ((long(two(s, at)) * TWO_BYTES + long(two(s, at + 2))) * TWO_BYTES + long(two(s, at + 4)))
+        * TWO_BYTES
         + long(two(s, at + 6))
 }
 

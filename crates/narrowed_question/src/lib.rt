@@ -31,6 +31,15 @@ const MOST_MEMBERS: u16 = fields::MEMBERS as u16;
 
 const MOST_SIZE: u8 = fields::MEMBER_SYMBOLS as u8;
 
+// Places in bodies: in 41 the number of members, in 42 the number of symbols, from set and to set.
+const MEMBERS_IN: usize = 0;
+
+const SIZE_IN: usize = 0;
+
+const FROM_IN: usize = 1;
+
+const TO_IN: usize = 9;
+
 // Members one after the other: of each the number of symbols, from set and to set; of each symbol, through all members, its number
 // (255 for a join through a set) and its set. 0 past them.
 pub struct Members {
@@ -106,7 +115,7 @@ fn count(at: usize, b: &[u8]) -> Turn
     requires { ⌜ length (now b) ≡ tag-length 0x41 ⌝ }
     ensures { λ r. ⌜ turn-said r ≡ count-of at (now (b .entry)) ⌝ }
 {
-    let n = fields::two(b, 0);
+    let n = fields::two(b, MEMBERS_IN);
     if MOST_MEMBERS < n {
         return Turn::Stop(Refusal::OutOfRange(at));
     }
@@ -119,7 +128,7 @@ fn open_member(l: u8, at: usize, b: &[u8]) -> Turn
     requires { ⌜ (length (now b) ≡ tag-length 0x42) × (0 < l) ⌝ }
     ensures { λ r. ⌜ turn-said r ≡ open-move l at (now (b .entry)) ⌝ }
 {
-    let n = b[0];
+    let n = b[SIZE_IN];
     if n < 1 {
         return Turn::Stop(Refusal::OutOfRange(at));
     }
@@ -128,7 +137,12 @@ fn open_member(l: u8, at: usize, b: &[u8]) -> Turn
     }
     let q = Stack { left: n, depth: 0 };
     let st = Standing::Within(l - 1, at, q);
-    Turn::Open(n, fields::eight_at(b, 1), fields::eight_at(b, 9), st)
+    Turn::Open(
+        n,
+        fields::eight_at(b, FROM_IN),
+        fields::eight_at(b, TO_IN),
+        st,
+    )
 }
 
 // 43, 44 or 45: a symbol; refusals 3 and 6.

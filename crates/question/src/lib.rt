@@ -19,6 +19,9 @@ const MOST: u8 = 32;
 
 pub const MOST_SYMBOLS: usize = MOST as usize;
 
+// The place in the body of 21: the number of symbols.
+const SYMBOLS_IN: usize = 0;
+
 // The number of symbols, or why the file is refused.
 pub enum Outcome {
     Accepted(usize),
@@ -63,7 +66,7 @@ fn head(at: usize, b: &[u8]) -> Turn
     requires { ⌜ length (now b) ≡ tag-length 0x21 ⌝ }
     ensures { λ r. ⌜ turn-said r ≡ judged Standing.Head at 0 0 (now (b .entry)) ⌝ }
 {
-    let n = b[0];
+    let n = b[SYMBOLS_IN];
     if n < 1 {
         return Turn::Stop(Refusal::OutOfRange(at));
     }

@@ -31,20 +31,43 @@ const MOST_RECORDS: u16 = 1024;
 
 const MOST_LINKS: u16 = 4096;
 
-// Where the file has its numbers of records and of links, the field of its first kind, and that kind itself.
-const RECORD_COUNT_AT: usize = HEAD;
+// Places in bodies: in 31 the numbers of records and of links, in 32 the kind, in 33 from record, link and to record.
+const RECORDS_IN: usize = 0;
 
-const LINK_COUNT_AT: usize = HEAD + 2;
+const LINKS_IN: usize = 2;
+
+const KIND_IN: usize = 0;
+
+const FROM_IN: usize = 0;
+
+const LABEL_IN: usize = 2;
+
+const TO_IN: usize = 3;
+
+// Where the file has its numbers of records and of links, the field of its first kind, and that kind itself.
+const RECORD_COUNT_AT: usize = HEAD + RECORDS_IN;
+
+const LINK_COUNT_AT: usize = HEAD + LINKS_IN;
 
 const KINDS_AT: usize = HEAD + fields::REGISTER_LENGTH as usize;
 
-const FIRST_KIND_AT: usize = KINDS_AT + HEAD;
+const FIRST_KIND_AT: usize = KINDS_AT + HEAD + KIND_IN;
 
-// Every key is below it: from, link and to are 40 bits.
-const KEYS: u64 = 0x10000000000;
+// How many numbers the byte of a link can hold, and how many of them are links.
+const LABELS: u64 = fields::BYTE as u64;
+
+const LINKS: u64 = fields::LINKS as u64;
+
+// A key is from, link and to as one number: what link and from weigh in it, and what every key is below.
+const LABEL_WEIGHT: u64 = fields::TWO_BYTES;
+
+const FROM_WEIGHT: u64 = LABEL_WEIGHT * LABELS;
+
+const KEYS: u64 = FROM_WEIGHT * fields::TWO_BYTES;
 
 // A link's field as one number, but for its key: tag and length above the bits of the key.
-const LINK_NUMBER: u64 = (fields::LINK_TAG as u64 * 65536 + fields::LINK_LENGTH as u64) * KEYS;
+const LINK_NUMBER: u64 = (fields::LINK_TAG as u64 * fields::TWO_BYTES + fields::LINK_LENGTH as u64)
+    * KEYS;
 
 // How far the reading has come: the numbers of records and links, of records whose kind is due, of links left, and the least key allowed next.
 pub struct Progress {
@@ -75,8 +98,8 @@ fn judge_head(at: usize, b: &[u8]) -> Turn
     requires { ⌜ length (now b) ≡ tag-length 0x31 ⌝ }
     ensures { λ r. ⌜ turn-said r ≡ head-of at (now (b .entry)) ⌝ }
 {
-    let records = fields::two(b, 0);
-    let links = fields::two(b, 2);
+    let records = fields::two(b, RECORDS_IN);
+    let links = fields::two(b, LINKS_IN);
     if MOST_RECORDS < records {
         return Turn::Stop(Refusal::OutOfRange(at));
     }
@@ -96,7 +119,7 @@ fn judge_kind(q: Progress, at: usize, b: &[u8]) -> Turn
     requires { ⌜ (length (now b) ≡ tag-length 0x32) × (0 < q .kindless) ⌝ }
     ensures { λ r. ⌜ turn-said r ≡ kind-of q at (now (b .entry)) ⌝ }
 {
-    if fields::KINDS <= b[0] {
+    if fields::KINDS <= b[KIND_IN] {
         return Turn::Stop(Refusal::OutOfRange(at));
     }
     Turn::Go(Progress {
@@ -113,7 +136,8 @@ fn key_of(b: &[u8]) -> u64
     requires { ⌜ length (now b) ≡ tag-length 0x33 ⌝ }
     ensures { λ r. ⌜ (r ≡ key (now (b .entry))) × (r < 1099511627776) ⌝ }
 {
-    (long(fields::two(b, 0)) * 256 + wide(b[2])) * 65536 + long(fields::two(b, 3))
+    (long(fields::two(b, FROM_IN)) * LABELS + wide(b[LABEL_IN])) * LABEL_WEIGHT
+        + long(fields::two(b, TO_IN))
 }
 
 fn judge_link(q: Progress, at: usize, b: &[u8]) -> Turn
@@ -121,13 +145,13 @@ fn judge_link(q: Progress, at: usize, b: &[u8]) -> Turn
     ensures { λ r. ⌜ turn-said r ≡ link-of q at (now (b .entry)) ⌝ }
 {
     let records = q.records;
-    if records <= fields::two(b, 0) {
+    if records <= fields::two(b, FROM_IN) {
         return Turn::Stop(Refusal::OutOfRange(at));
     }
-    if fields::LINKS <= b[2] {
+    if fields::LINKS <= b[LABEL_IN] {
         return Turn::Stop(Refusal::OutOfRange(at));
     }
-    if records <= fields::two(b, 3) {
+    if records <= fields::two(b, TO_IN) {
         return Turn::Stop(Refusal::OutOfRange(at));
     }
     let key = key_of(b);
@@ -253,10 +277,10 @@ fn link_passes(v: u64, left: u16, floor: u64, top: u64, records: u64) -> bool
     if top <= v {
         return false;
     }
-    if 64 <= v / 65536 % 256 {
+    if LINKS <= v / LABEL_WEIGHT % LABELS {
         return false;
     }
-    v % 65536 < records
+    v % LABEL_WEIGHT < records
 }
 
 // Passes over valid kinds in a quick loop of their own; whatever else lies there is left to the general loop.
@@ -300,7 +324,7 @@ fn past_links(s: &[u8], from: usize, start: Progress) -> Reached
         };
     }
     let records = long(start.records);
-    let top = LINK_NUMBER + records * 16777216;
+    let top = LINK_NUMBER + records * FROM_WEIGHT;
     let mut at = from;
     let mut left = start.left;
     let mut floor = LINK_NUMBER + start.floor;
@@ -401,8 +425,8 @@ pub fn next_link(s: &[u8], c: Links) -> NextLink
     let at = c.at;
     let body = at + HEAD;
     let from = fields::two(s, body) as usize;
-    let label = Link(s[body + 2]);
-    let to = fields::two(s, body + 3) as usize;
+    let label = Link(s[body + LABEL_IN]);
+    let to = fields::two(s, body + TO_IN) as usize;
     NextLink::Link(
         from,
         label,

@@ -27,6 +27,25 @@ pub const TABLE: usize = fields::LINKS as usize * ROW;
 
 const ROW: usize = fields::KINDS as usize;
 
+// The most triples of a sheet.
+const MOST_TRIPLES: u16 = 512;
+
+// Places in bodies: in 11 the numbers of kinds and of links, in 12 from kind, link and to kind.
+const KINDS_IN: usize = 0;
+
+const LINKS_IN: usize = 1;
+
+const FROM_IN: usize = 0;
+
+const LABEL_IN: usize = 1;
+
+const TO_IN: usize = 2;
+
+// What link and from weigh in a triple's key.
+const LABEL_WEIGHT: u64 = fields::BYTE as u64;
+
+const FROM_WEIGHT: u64 = fields::TWO_BYTES;
+
 // The outcome, and the permitted kinds: bit `to` of word link * 64 + from (all 0 where the file is refused).
 pub struct Reading {
     pub outcome: Outcome,
@@ -75,7 +94,7 @@ fn due(st: Standing) -> Due
             lo: fields::TRIPLE_TAG,
             hi: fields::TRIPLE_TAG,
             ends: true,
-            over: q.count == 512,
+            over: q.count == MOST_TRIPLES,
         },
     }
 }
@@ -85,8 +104,8 @@ fn head(at: usize, b: &[u8]) -> Turn
     requires { ⌜ length (now b) ≡ tag-length 0x11 ⌝ }
     ensures { λ r. ⌜ turn-said r ≡ judged Standing.Head at (now (b .entry)) ⌝ }
 {
-    let k = b[0];
-    let e = b[1];
+    let k = b[KINDS_IN];
+    let e = b[LINKS_IN];
     if k < 1 {
         return Turn::Stop(Refusal::OutOfRange(at));
     }
@@ -107,12 +126,12 @@ fn head(at: usize, b: &[u8]) -> Turn
     })
 }
 
-// Three bytes as one number.
+// From, link and to as one number, by which triples ascend.
 fn key_of(b: &[u8]) -> u64
     requires { ⌜ 2 < length (now b) ⌝ }
     ensures { λ r. ⌜ (r ≡ key (now (b .entry))) × (r < 16777216) ⌝ }
 {
-    wide(b[0]) * 65536 + wide(b[1]) * 256 + wide(b[2])
+    wide(b[FROM_IN]) * FROM_WEIGHT + wide(b[LABEL_IN]) * LABEL_WEIGHT + wide(b[TO_IN])
 }
 
 // 12: a triple; refusals 3 and 4.
@@ -120,13 +139,13 @@ fn grow(q: Triples, at: usize, b: &[u8]) -> Turn
     requires { ⌜ BodyReady (Standing.Within q) (length (now b)) ⌝ }
     ensures { λ r. ⌜ turn-said r ≡ judged (Standing.Within q) at (now (b .entry)) ⌝ }
 {
-    if q.kinds <= b[0] {
+    if q.kinds <= b[FROM_IN] {
         return Turn::Stop(Refusal::OutOfRange(at));
     }
-    if q.links <= b[1] {
+    if q.links <= b[LABEL_IN] {
         return Turn::Stop(Refusal::OutOfRange(at));
     }
-    if q.kinds <= b[2] {
+    if q.kinds <= b[TO_IN] {
         return Turn::Stop(Refusal::OutOfRange(at));
     }
     let key = key_of(b);
@@ -134,9 +153,9 @@ fn grow(q: Triples, at: usize, b: &[u8]) -> Turn
         return Turn::Stop(Refusal::NotAscending(at));
     }
     let x = Triple {
-        from: Kind(b[0]),
-        link: Link(b[1]),
-        to: Kind(b[2]),
+        from: Kind(b[FROM_IN]),
+        link: Link(b[LABEL_IN]),
+        to: Kind(b[TO_IN]),
     };
     let t = Triples {
         kinds: q.kinds,

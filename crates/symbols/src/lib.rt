@@ -10,8 +10,11 @@ ghost use Rattle.fields.specs.Table.{tag-length};
 ghost use Rattle.symbols.specs.Symbols.{symbol-length, step-of, operator-of, symbol-in, push, arity, due-symbols};
 ghost use Rattle.symbols.specs.Contract.{symbol-said, push-said};
 
+// Forward and reverse.
+const DIRECTIONS: u8 = 2;
+
 // Numbers below this one are steps: forward ones, and then reverse ones.
-pub const STEPS: u8 = 2 * fields::LINKS;
+pub const STEPS: u8 = DIRECTIONS * fields::LINKS;
 
 // The codes of operators by name.
 pub const JOIN: u8 = STEPS;
@@ -29,6 +32,15 @@ pub const CLOSURE: u8 = 133;
 // The number of a join through a set.
 pub const THROUGH: u8 = 255;
 
+// Places in bodies: in 43 direction and link, in 44 the code of the operator, in 45 the set.
+const DIRECTION_IN: usize = 0;
+
+const LINK_IN: usize = 1;
+
+const CODE_IN: usize = 0;
+
+const SET_IN: usize = 0;
+
 // A symbol as a number: its code, and 255 for a join through a set; and the set, 0 where there is none.
 pub struct Symbol {
     pub number: u8,
@@ -44,10 +56,10 @@ fn step_in(at: usize, b: &[u8]) -> Read
     requires { ⌜ length (now b) ≡ tag-length 0x43 ⌝ }
     ensures { λ r. ⌜ symbol-said r ≡ step-of at (now (b .entry)) ⌝ }
 {
-    if b[0] < 2 {
-        if b[1] < fields::LINKS {
+    if b[DIRECTION_IN] < DIRECTIONS {
+        if b[LINK_IN] < fields::LINKS {
             return Read::Is(Symbol {
-                number: b[0] * fields::LINKS + b[1],
+                number: b[DIRECTION_IN] * fields::LINKS + b[LINK_IN],
                 set: 0,
             });
         }
@@ -60,10 +72,10 @@ fn operator_in(at: usize, b: &[u8]) -> Read
     requires { ⌜ length (now b) ≡ tag-length 0x44 ⌝ }
     ensures { λ r. ⌜ symbol-said r ≡ operator-of at (now (b .entry)) ⌝ }
 {
-    if JOIN <= b[0] {
-        if b[0] <= CLOSURE {
+    if JOIN <= b[CODE_IN] {
+        if b[CODE_IN] <= CLOSURE {
             return Read::Is(Symbol {
-                number: b[0],
+                number: b[CODE_IN],
                 set: 0,
             });
         }
@@ -85,7 +97,7 @@ pub fn symbol_in(at: usize, tag: u8, b: &[u8]) -> Read
     }
     Read::Is(Symbol {
         number: THROUGH,
-        set: fields::eight_at(b, 0),
+        set: fields::eight_at(b, SET_IN),
     })
 }
 

@@ -1,3 +1,5 @@
+-- `register::due_at` meets its contract: at each position the tag due, and whether the file ends there, are what the definition says.
+-- Assumes nothing.
 use borrow.Author.Tests.{eq-eqb, ne-eqb}
 use borrow.Author.Needs.{needs}
 use Rattle.register.proofs.due_at.Statement.{statement}

@@ -1,3 +1,5 @@
+-- `register::judge` meets its contract: the position says whether a head or an entry is judged, and each callee judges as the definition does.
+-- Assumes nothing.
 use borrow.Author.Needs.{needs}
 use Rattle.register.proofs.judge.Statement.{statement}
 use Rattle.register.proofs.judge.Tie as tie

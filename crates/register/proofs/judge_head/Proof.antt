@@ -1,3 +1,5 @@
+-- `register::judge_head` meets its contract: the two numbers are those of the body, and the tests are the definition's.
+-- Assumes nothing.
 use Rattle.fields.specs.Table.{rows, tag-length}
 use borrow.Author.Tests.{lt-leb, le-leb}
 use borrow.Author.Needs.{needs}

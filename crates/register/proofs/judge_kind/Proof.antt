@@ -1,3 +1,5 @@
+-- `register::judge_kind` meets its contract: the byte is the body's, and the test is the definition's.
+-- Assumes nothing.
 use Rattle.fields.specs.Table.{rows, tag-length}
 use borrow.Author.Tests.{lt-ltb, le-ltb}
 use borrow.Author.Needs.{needs}

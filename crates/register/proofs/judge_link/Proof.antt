@@ -1,3 +1,5 @@
+-- `register::judge_link` meets its contract: the tests, of from, link and to and of the key against the floor, are the definition's, in its order.
+-- Assumes nothing.
 use Rattle.fields.specs.Table.{rows, tag-length}
 use borrow.Author.Tests.{lt-ltb, lt-leb, le-ltb, le-leb}
 use borrow.Author.Needs.{needs}

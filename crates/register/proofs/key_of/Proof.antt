@@ -1,3 +1,5 @@
+-- `register::key_of` meets its contract: each part is below its weight, so that no product or sum wraps.
+-- Assumes nothing.
 use Rattle.fields.specs.Table.{rows, tag-length}
 use Rattle.register.specs.Form.{key}
 use borrow.Author.Needs.{needs}

@@ -1,3 +1,5 @@
+-- `register::kind_at` meets its contract: in a file with that many records each kind lies where its number says (`kind-lies`).
+-- Assumes nothing.
 use Rattle.register.proofs.Places.{kind-lies}
 use native.Mathlib.Omega.{arith}
 use Rattle.register.proofs.kind_at.Statement.{statement}

@@ -1,3 +1,5 @@
+-- `register::links_of` meets its contract: an accepted file has its head and its kinds in front, and links to its end (`links-start`).
+-- Assumes nothing.
 use Rattle.register.proofs.Places.{head-room, links-start}
 use native.Mathlib.Omega.{arith}
 use borrow.Author.Needs.{needs}

@@ -1,3 +1,5 @@
+-- `register::next_link` meets its contract: on an accepted file a cursor with links left stands at one, whose numbers are handed on with the cursor behind it (`next-more`).
+-- Assumes nothing.
 use Rattle.register.proofs.Places.{next-done, next-room, next-more}
 use mathlib.Core.Path.{refl}
 use native.Mathlib.Omega.{arith}

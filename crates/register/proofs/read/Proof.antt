@@ -1,3 +1,5 @@
+-- `register::read` meets its contract: what is read so far is what the definition has read of it (`Reading`), and each field comes closer to the file's end.
+-- Assumes nothing.
 use Rattle.register.proofs.Passing.{reading-passed, passed-on}
 use Rattle.register.proofs.Loop.{Reading, reading-start, reading-ends, reading-wrong, reading-room, reading-ready, reading-refused, reading-more}
 use Rattle.fields.proofs.Raws.{body-found}

@@ -1,3 +1,5 @@
+-- `register::sizes` meets its contract: the numbers are those of the head.
+-- Assumes nothing.
 use borrow.Author.Needs.{needs}
 use Rattle.register.proofs.sizes.Statement.{statement}
 use Rattle.register.proofs.sizes.Tie as tie

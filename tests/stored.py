@@ -6,6 +6,8 @@ from pathlib import Path
 
 CRATES = Path(__file__).resolve().parent.parent / "crates"
 ROOM = 1 << 20  # the bytes that a program reads
+FILE_TAGS = {"sheet": 1, "question": 2, "register": 3, "narrowed": 4}  # of fields that are files
+CALL = 5  # the tag of the first call of a program
 MODULUS, FACTOR = 4294967311, 1000003
 
 

@@ -22,7 +22,7 @@ from reference.files import (
 )
 from reference.generate import ALL_KINDS, BINARY
 from tests.theory_cases import telling_job
-from tests.stored import digest, keep, packed, renewed, said
+from tests.stored import CALL, FILE_TAGS, digest, keep, packed, renewed, said
 from tests.test_files import FILES, READERS, damaged_cases
 
 CALLS = {"check": ("sheet", calls.check), "plain": ("question", calls.plain_answer), "narrowed": ("narrowed", calls.narrowed_answer)}
@@ -50,8 +50,8 @@ def fields(row: list) -> Iterator:
     """Each call, and before it those of its files that do not stand already."""
     standing: dict = {}
     for call in row:
-        yield from renewed(standing, {1 + FILES.index(CALLS[call.name][0]): call.first, 1 + FILES.index("register"): call.register})
-        yield packed(5 + list(CALLS).index(call.name), lengths(call))
+        yield from renewed(standing, {FILE_TAGS[CALLS[call.name][0]]: call.first, FILE_TAGS["register"]: call.register})
+        yield packed(CALL + list(CALLS).index(call.name), lengths(call))
 
 
 def marked(words: int) -> list:

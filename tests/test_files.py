@@ -15,9 +15,10 @@ from typing import Iterator, NamedTuple
 
 from reference import cases, files, generate
 from reference.files import CHAIN, JOIN, TAGS, JoinThrough, Member, Operator, Refusal, Register, Sheet, Step
+from tests import stored
 from tests.stored import digest, keep, packed, said
 
-FILES = ("sheet", "question", "register", "narrowed")
+FILES = tuple(stored.FILE_TAGS)
 BYTES = {"sheet": files.sheet_bytes, "question": files.question_bytes,
          "register": files.register_bytes, "narrowed": files.narrowed_bytes}
 
@@ -321,7 +322,7 @@ def readings(rng: Random) -> list:
 def main() -> None:
     rng = Random(1)
     read, write = readings(rng), writings(rng)
-    fields = [packed(1 + FILES.index(file), data) for file, data in read] + [packed(5, given_bytes(each)) for each in write]
+    fields = [packed(stored.FILE_TAGS[file], data) for file, data in read] + [packed(stored.CALL, given_bytes(each)) for each in write]
     keep("test_files", fields, [line(*each) for each in read] + [written_line(each) for each in write])
 
 

@@ -4,7 +4,7 @@
     python3 -m tests.test_narrowing --check   says whether they are as this script writes them
 
 The crate's `stdin` is a row of fields: a tag, a two-byte length, a body. Tags 1 and 2 say what the sheet and the question are from there
-on. Tag 3 is a call: its body has the words lent as work area in two bytes, and the bytes lent for the file in four. Its `stdout` has a
+on. Tag 5 is a call: its body has the words lent as work area in two bytes, and the bytes lent for the file in four. Its `stdout` has a
 line for each call: `file` with the numbers of members and of bytes, or `refused` with number, file (1 sheet, 2 question, 5 work) and
 place; then digests of both areas, all of whose words and bytes were marked before the call.
 """
@@ -19,7 +19,7 @@ from reference.files import BOTH, BRANCH_LEFT, BRANCH_RIGHT, CHAIN, JOIN, UNION,
 from reference.generate import BINARY, layered_sheet
 from tests.theory_cases import tested
 from tests.test_answers import SOURCES, WHOLE, line_of, marked, refused_cases, ring_of, some
-from tests.stored import digest, keep, packed, renewed, said
+from tests.stored import CALL, FILE_TAGS, digest, keep, packed, renewed, said
 
 WORK, FILE = 8200, 70200  # the words and bytes that the program can lend
 NEED = calls.NARROWING_WORK
@@ -45,8 +45,8 @@ def fields(row: list) -> Iterator:
     """Each call, and before it those of its files that do not stand already."""
     standing: dict = {}
     for call in row:
-        yield from renewed(standing, {1: call.sheet, 2: call.question})
-        yield packed(3, lengths(call))
+        yield from renewed(standing, {FILE_TAGS["sheet"]: call.sheet, FILE_TAGS["question"]: call.question})
+        yield packed(CALL, lengths(call))
 
 
 def line(call: Call) -> str:

@@ -5,9 +5,18 @@ mod digest;
 mod given;
 mod line;
 
-use fields::Raw;
 use libc::STDIN_FILENO;
 use narrowed_writer::Written;
+use test_report::NARROWED;
+use test_report::QUESTION;
+use test_report::REGISTER;
+use test_report::SHEET;
+
+// The tag of a vector for the writer; those for a reader have the tags of their files.
+const WRITER: u8 = 5;
+
+// The bytes that the writer can be lent, more than two bytes can say.
+const SPACE: usize = 65536;
 
 fn run_sheet(s: &[u8]) {
     let r = sheet::read(s);
@@ -81,18 +90,18 @@ fn write_into(area: &mut [u8], s: &[u8]) {
 }
 
 fn run_writer(s: &[u8]) {
-    let mut space = [165u8; 65536];
-    let n = test_report::two_at(s, 0);
+    let mut space = [test_report::LEFT; SPACE];
+    let n = test_report::two_at(s, given::AREA_AT);
     write_into(&mut space[..n], s);
 }
 
 fn run(tag: u8, s: &[u8]) {
     match tag {
-        1 => run_sheet(s),
-        2 => run_question(s),
-        3 => run_register(s),
-        4 => run_narrowed(s),
-        5 => run_writer(s),
+        SHEET => run_sheet(s),
+        QUESTION => run_question(s),
+        REGISTER => run_register(s),
+        NARROWED => run_narrowed(s),
+        WRITER => run_writer(s),
         _ => test_report::end(0),
     }
 }
@@ -100,22 +109,10 @@ fn run(tag: u8, s: &[u8]) {
 // A vector is a field: a tag that says which call it is for, a two-byte length, and what is handed in as its body.
 fn run_all(s: &[u8]) {
     let mut at = 0;
-    loop {
-        match fields::step_at(s, at) {
-            Raw::Whole(tag, len) => {
-                run(tag, fields::body_at(s, at));
-                at = at + 3 + len as usize;
-            }
-            Raw::Short(_, _) => {
-                return;
-            }
-            Raw::Cut => {
-                return;
-            }
-            Raw::End => {
-                return;
-            }
-        }
+    while at < s.len() {
+        let field = test_report::field_at(s, at);
+        run(field.tag, fields::body_at(s, at));
+        at = field.next;
     }
 }
 

@@ -1,27 +1,27 @@
 // Makes each call of narrowing that standard input has, and writes a line of what came of it.
 // tests/test_narrowing.py makes the calls (stdin) and the lines that are due (stdout) from the reference program.
 // Assumed are the contracts of the C library's read and write (crate libc): that they return, and keep to their buffers.
-use fields::Raw;
 use fields::Written;
 use libc::STDIN_FILENO;
 use libc::STDOUT_FILENO;
+use test_report::Files;
 
-// Where the fields stand whose bodies are the files of the next call.
-struct Files {
-    sheet: usize,
-    question: usize,
-}
+// The tag of a call.
+const NARROWING: u8 = 5;
 
-// With the file of a field, if its tag says that it is one.
-fn with_file(files: Files, tag: u8, at: usize) -> Files {
-    let mut f = files;
-    match tag {
-        1 => f.sheet = at,
-        2 => f.question = at,
-        _ => (),
-    }
-    f
-}
+// Places in its body: the words of its work area in two bytes, and the bytes of the file's area in twice two.
+const WORK_IN: usize = 0;
+
+const FILE_IN: usize = 2;
+
+const FILE_REST_IN: usize = 4;
+
+const TWO_BYTES: usize = fields::TWO_BYTES as usize;
+
+// The words and bytes that can be lent.
+const WORK: usize = 8200;
+
+const FILE: usize = 70200;
 
 // What the call says: members and bytes of the file; or number, file and place of a refusal.
 fn outcome(o: Written) {
@@ -47,50 +47,32 @@ fn call_in(s: &[u8], files: Files, work: &mut [u64], file: &mut [u8]) {
     test_report::end(test_report::mix_bytes(0, file));
 }
 
-// Bytes of the file's area that are left show as 165 in its digest.
 fn run_narrowing(s: &[u8], files: Files, sizes: &[u8]) {
-    let mut work = [0u64; 8200];
-    let mut file = [165u8; 70200];
-    let n = test_report::lent(test_report::two_at(sizes, 0), 8200);
+    let mut work = [0u64; WORK];
+    let mut file = [test_report::LEFT; FILE];
+    let n = test_report::lent(test_report::two_at(sizes, WORK_IN), WORK);
     let m = test_report::lent(
-        test_report::two_at(sizes, 2) * 65536 + test_report::two_at(sizes, 4),
-        70200,
+        test_report::two_at(sizes, FILE_IN) * TWO_BYTES + test_report::two_at(sizes, FILE_REST_IN),
+        FILE,
     );
     call_in(s, files, &mut work[..n], &mut file[..m]);
 }
 
 fn run(tag: u8, s: &[u8], files: Files, body: &[u8]) {
-    if tag == 3 {
+    if tag == NARROWING {
         run_narrowing(s, files, body);
     }
 }
 
-// Each field sets a file (1 sheet, 2 question: its body) or is a call (3: the words of the work area in two bytes, the bytes of the
-// file's area in four). A file that none has set yet is empty, for there is no field where the input ends.
+// Each field is a file, from there on, or a call.
 fn run_all(s: &[u8]) {
-    let end = s.len();
-    let mut files = Files {
-        sheet: end,
-        question: end,
-    };
+    let mut files = test_report::no_files(s);
     let mut at = 0;
-    loop {
-        match fields::step_at(s, at) {
-            Raw::Whole(tag, len) => {
-                files = with_file(files, tag, at);
-                run(tag, s, files, fields::body_at(s, at));
-                at = at + 3 + len as usize;
-            }
-            Raw::Short(_, _) => {
-                return;
-            }
-            Raw::Cut => {
-                return;
-            }
-            Raw::End => {
-                return;
-            }
-        }
+    while at < s.len() {
+        let field = test_report::field_at(s, at);
+        files = test_report::with_file(files, field.tag, at);
+        run(field.tag, s, files, fields::body_at(s, at));
+        at = field.next;
     }
 }
 

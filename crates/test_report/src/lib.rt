@@ -1,6 +1,7 @@
-// What the programs that run stored vectors share: room for their input, the numbers in it, areas that they lend, the words
-// and numbers of a line, and digests.
+// What the programs that run stored vectors share: room for their input, its fields and the numbers in them, areas that they lend, the
+// words and numbers of a line, and digests.
 use bits::wide;
+use fields::Raw;
 use fields::Refusal;
 use fields::Source;
 use libc::STDOUT_FILENO;
@@ -8,11 +9,82 @@ ghost use mathlib.Core.Path.{_≡_};
 ghost use Prim.Native.Nat.{_<_, _≤_};
 ghost use lib.ListN.{length};
 
-// Room for all vectors. Its contract keeps the proof of a `main` from unfolding so long a list.
-pub fn room() -> [u8; 1048576]
+// The most bytes of all vectors.
+const ROOM: usize = 1048576;
+
+// Room for them. Its contract keeps the proof of a `main` from unfolding so long a list.
+pub fn room() -> [u8; ROOM]
     ensures { λ r. ⌜ 1048576 ≡ length r ⌝ }
 {
-    [0; 1048576]
+    [0; ROOM]
+}
+
+// The tags of fields that are files; a program has others for its calls. None has the tag 0.
+pub const SHEET: u8 = 1;
+
+pub const QUESTION: u8 = 2;
+
+pub const REGISTER: u8 = 3;
+
+pub const NARROWED: u8 = 4;
+
+const NO_TAG: u8 = 0;
+
+// A field of the input: its tag, and the place after it.
+pub struct Field {
+    pub tag: u8,
+    pub next: usize,
+}
+
+// The field at a place; where no whole one stands there it has no tag, and ends with the input.
+pub fn field_at(s: &[u8], at: usize) -> Field
+    requires { ⌜ at < length (now s) ⌝ }
+    ensures { λ r. ⌜ (at < r .next) × (r .next ≤ length (now (s .entry))) ⌝ }
+{
+    let mut f = Field {
+        tag: NO_TAG,
+        next: s.len(),
+    };
+    match fields::step_at(s, at) {
+        Raw::Whole(tag, len) => {
+            f.tag = tag;
+            f.next = at + fields::HEAD + len as usize;
+        }
+        _ => (),
+    }
+    f
+}
+
+// Where the fields stand whose bodies are the files of the next call.
+pub struct Files {
+    pub sheet: usize,
+    pub question: usize,
+    pub register: usize,
+    pub narrowed: usize,
+}
+
+// A file that no field has set is empty, for there is no field where the input ends.
+pub fn no_files(s: &[u8]) -> Files {
+    let end = s.len();
+    Files {
+        sheet: end,
+        question: end,
+        register: end,
+        narrowed: end,
+    }
+}
+
+// With the file of a field, if its tag says that it is one.
+pub fn with_file(files: Files, tag: u8, at: usize) -> Files {
+    let mut f = files;
+    match tag {
+        SHEET => f.sheet = at,
+        QUESTION => f.question = at,
+        REGISTER => f.register = at,
+        NARROWED => f.narrowed = at,
+        _ => (),
+    }
+    f
 }
 
 // The number in two bytes of a vector, 0 where it has too few.
@@ -34,14 +106,19 @@ pub fn lent(n: usize, most: usize) -> usize
     if n < most { n } else { most }
 }
 
-// No word is 0 and no two are equal, so that words that are left, cleared or written all show in a digest.
+// What bytes are before a call, so that those that are left show in a digest.
+pub const LEFT: u8 = 165;
+
+// What words are before it: none is 0 and no two are equal, so that words that are left, cleared or written all show.
 pub fn mark(area: &mut [u64]) {
     let mut i = 0;
     while i < area.len() {
-        area[i] = 18446744073709551615 - i as u64;
+        area[i] = LAST_WORD - i as u64;
         i += 1;
     }
 }
+
+const LAST_WORD: u64 = 18446744073709551615;
 
 // A number of a line, and its last.
 pub fn number(n: u64) {
@@ -62,10 +139,17 @@ pub fn refused(source: Source, r: Refusal) {
     io::print_decimal(STDOUT_FILENO, fields::place_of(r) as u64);
 }
 
-// A digest with one number more, by its two halves. The modulus is a prime above 2^32, so a half that differs shows.
+const HALF: u64 = 4294967296;
+
+// A prime above HALF, so that a half that differs shows.
+const MODULUS: u64 = 4294967311;
+
+const FACTOR: u64 = 1000003;
+
+// A digest with one number more, by its two halves.
 pub fn mix(d: u64, x: u64) -> u64 {
-    let high = (d % 4294967311 * 1000003 + x / 4294967296) % 4294967311;
-    (high * 1000003 + x % 4294967296) % 4294967311
+    let high = (d % MODULUS * FACTOR + x / HALF) % MODULUS;
+    (high * FACTOR + x % HALF) % MODULUS
 }
 
 pub fn mix_words(d: u64, s: &[u64]) -> u64 {

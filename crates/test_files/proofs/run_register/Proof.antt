@@ -1,3 +1,5 @@
+-- `test_files::run_register` meets its contract: what `read` says of an accepted file is what the walks over its kinds and links require.
+-- Assumes nothing.
 use mathlib.Core.Path.{_∙_, ap, sym}
 use Rattle.register.specs.Contract.{outcome-said}
 use Rattle.register.proofs.AcceptedRegister.{accepted-sizes}

@@ -1,7 +1,8 @@
-use lib.ListN.{replicate, length-take, length-replicate}
-use Prim.Native.Nat.{ℕ}
+-- `test_files::run_writer` meets its contract: two bytes say less than the length of the array, so the area is its front.
+-- Assumes nothing.
 use native.Mathlib.Omega.{arith}
 use borrow.Author.Needs.{needs}
+use Rattle.test_report.proofs.Front.{front}
 use Rattle.test_files.proofs.run_writer.Statement.{statement}
 use Rattle.test_files.proofs.run_writer.Tie as tie
 
@@ -12,7 +13,7 @@ array-borrow-prefix-space : tie.Need-array-borrow-prefix-space
 array-borrow-prefix-space c = search needs
 
 slice-aggregate-write-into : tie.Need-slice-aggregate-write-into
-slice-aggregate-write-into c = omega (arith, length-take (c .before .two-at .result) (replicate {A = ℕ} 65536 165), length-replicate {A = ℕ} 65536 165, c .before .two-at .ensures)
+slice-aggregate-write-into c = front _ 65536 165 (omega (arith, c .before .two-at .ensures))
 
 write-into-requires : tie.Need-write-into-requires
 write-into-requires c κs = search needs

@@ -1,3 +1,5 @@
+-- `test_files::digest::mix_kinds` meets its contract: the loop asks for kinds of records that there are, and each turn leaves fewer.
+-- Assumes nothing.
 use borrow.Author.Needs.{needs}
 use Prim.Native.Nat.{_-_}
 use Rattle.test_files.proofs.digest.mix_kinds.Statement.{statement}

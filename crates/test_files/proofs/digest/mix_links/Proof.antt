@@ -1,3 +1,5 @@
+-- `test_files::digest::mix_links` meets its contract: the cursor stays on the links of an accepted file, and each turn leaves fewer of them.
+-- Assumes nothing.
 use borrow.Author.Needs.{needs}
 use Rattle.register.specs.LinksAhead.{OnLinks}
 use Rattle.register.proofs.Walk.{on-start, fewer, still-on}

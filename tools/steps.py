@@ -2,10 +2,10 @@
 
     python3 -m tools.steps FILE..   rewrites these Proof.antt
 
-In a need, of a function or of a cycle, `c .before .before .before` is the place three steps back. Where a need has a line of more than 200 characters, each place that
-it goes back to gets a name, from the nearest on: `let c3 = c .before .before .before in let c12 = c3 .before .. in`, the number that of the
-steps back; what is still too long is broken where the fewest parentheses are open. A need with a `search` in it is left as it is: a search
-goes through the fields of every name. So is one with a `where`.
+In a need, of a function or of a cycle, `c .before .before .before` is the place three steps back. Where a need has a line of more than 200
+characters, each place that it goes back to gets a name, from the nearest on: `let c3 = c .before .before .before in let c12 = c3 .before ..
+in`, the number that of the steps back; what is still too long is broken where the fewest parentheses are open. A need with a `search` in it
+is left as it is: a search goes through the fields of every name. So is one with a `where`.
 """
 import re
 import sys

@@ -109,6 +109,8 @@ pub fn lent(n: usize, most: usize) -> usize
 // What bytes are before a call, so that those that are left show in a digest.
 pub const LEFT: u8 = 165;
 
+const LAST_WORD: u64 = 18446744073709551615;
+
 // What words are before it: none is 0 and no two are equal, so that words that are left, cleared or written all show.
 pub fn mark(area: &mut [u64]) {
     let mut i = 0;
@@ -117,8 +119,6 @@ pub fn mark(area: &mut [u64]) {
         i += 1;
     }
 }
-
-const LAST_WORD: u64 = 18446744073709551615;
 
 // A number of a line, and its last.
 pub fn number(n: u64) {

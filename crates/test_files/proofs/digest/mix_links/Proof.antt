@@ -43,10 +43,18 @@ mix-requires-3 : tie.Need-mix-requires-3 Inv-loop μ-loop
 mix-requires-3 c κs = search needs
 
 loop-less : tie.Need-loop-less Inv-loop μ-loop
-loop-less c = fewer _ _ (c .before .before .before .before .before .before .before .before .loop .inv) _ (c .before .before .before .before .before .before .before .next-link .ensures) _ _ _ _ (c .before .before .before .before .before .from .given .1)
+loop-less c =
+    let c5 = c .before .before .before .before .before in
+    let c7 = c5 .before .before in
+    let c8 = c7 .before in
+    fewer _ _ (c8 .loop .inv) _ (c7 .next-link .ensures) _ _ _ _ (c5 .from .given .1)
 
 loop-again : tie.Need-loop-again Inv-loop μ-loop
-loop-again c = still-on _ _ (c .before .before .before .before .before .before .before .before .loop .inv) _ (c .before .before .before .before .before .before .before .next-link .ensures) _ _ _ _ (c .before .before .before .before .before .from .given .1)
+loop-again c =
+    let c5 = c .before .before .before .before .before in
+    let c7 = c5 .before .before in
+    let c8 = c7 .before in
+    still-on _ _ (c8 .loop .inv) _ (c7 .next-link .ensures) _ _ _ _ (c5 .from .given .1)
 
 pub mix-links-spec : {M : Type 1} → statement M
 mix-links-spec =

@@ -1,18 +1,14 @@
 // Whether a register obeys a sheet.
-use fields::Kind;
-use fields::Link;
 use fields::Outcome;
 use fields::Refusal;
 use fields::Source;
 use register::NextLink;
 ghost use mathlib.Core.Path.{_≡_};
-ghost use Prim.Native.Nat.{_<_};
 ghost use Rattle.theory.specs.Register.{records};
 ghost use Rattle.fields.specs.Contract.{outcome-said};
 ghost use Rattle.register.specs.Form.{register-in};
 ghost use Rattle.register.specs.LinksAhead.{Accepted};
 ghost use Rattle.conformance.specs.Check.{check-of};
-ghost use Rattle.sheet.specs.Table.{tabled?};
 ghost use Rattle.conformance.specs.Contract.{failing-said, first-unknown, first-forbidden, first-breach};
 
 // Where a test fails first, if anywhere.
@@ -36,15 +32,6 @@ fn first_unknown(register: &[u8], n: usize, kinds: u8) -> Failing
     Failing::Nowhere
 }
 
-// Has a sheet's table the bit of a triple?
-fn permitted(table: &[u64; sheet::TABLE], from: Kind, link: Link, to: Kind) -> bool
-    requires { ⌜ (from .0 < 64) × ((link .0 < 64) × (to .0 < 64)) ⌝ }
-    ensures { λ r. ⌜ r ≡ tabled? (now (table .entry)) (from .0) (link .0) (to .0) ⌝ }
-{
-    let i = sheet::word_of(from, link);
-    bits::bit(table[i], to.0 as usize)
-}
-
 // The first link that the table does not permit, counted from n, the number of records.
 fn first_forbidden(register: &[u8], n: usize, table: &[u64; sheet::TABLE]) -> Failing
     requires { ⌜ Accepted (now register) × (n ≡ records (register-in (now register))) ⌝ }
@@ -60,7 +47,7 @@ fn first_forbidden(register: &[u8], n: usize, table: &[u64; sheet::TABLE]) -> Fa
             NextLink::Link(from, link, to, rest) => {
                 let a = register::kind_at(register, from);
                 let b = register::kind_at(register, to);
-                if permitted(table, a, link, b) {
+                if sheet::permits(table, a, link, b) {
                     place += 1;
                     c = rest;
                 } else {

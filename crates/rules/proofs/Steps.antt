@@ -7,9 +7,8 @@ use mathlib.Core.List.{List}
 use Prim.Native.Nat.{ℕ, _+_, _-_, _%_, _<_, _≤_}
 use native.Mathlib.Omega.{arith}
 use lib.Dec.{T, le→leb}
-use lib.ListN.{length, getD, set}
+use lib.ListN.{length, set}
 use borrow.Author.Tests.{lt-ltb, le-ltb}
-use Rattle.bits.specs.Bit.{bitOf}
 use Rattle.theory.specs.Lists.{adjoin-all}
 use Rattle.theory.specs.PathExpr.{s-step, size}
 use Rattle.theory.specs.Inference.{Triple, triple, triple?, distinct}
@@ -18,7 +17,7 @@ use Rattle.theory.proofs.Tests.{to-true}
 use Rattle.theory.proofs.Lists.{in-every}
 use Rattle.theory.proofs.Triples.{in-between}
 use Rattle.symbols.specs.Symbols.{symbol-numbered}
-use Rattle.sheet.specs.Table.{cell, tabled?}
+use Rattle.sheet.specs.Table.{tabled?}
 use Rattle.rows.proofs.Words.{le-or-lt}
 use Rattle.triples.specs.declared.Node.{Node}
 use Rattle.triples.specs.Table.{word-of, InRange, node-at}
@@ -39,14 +38,14 @@ unfolding symbol-numbered
 code-step c h = ⊎-elim (λ l. rw (le-ltb c 64 l, lt-ltb c 128 h)) (λ l. rw (lt-ltb c 64 l)) (le-or-lt 64 c)
 
 -- ---- one bit of the table, by the step's link
-module _ (t : List ℕ) (c a b : ℕ) {l i : ℕ} {r : Bool} (k : l ≡ c % 64) where
-  pub forward-marked : c < 64 → i ≡ cell a l → r ≡ bitOf (getD t i 0) b → r ≡ marked? t c a b
-  unfolding marked? tabled?
-  forward-marked h e d = let m : l ≡ c = omega arith in rw (lt-ltb c 64 h, ← m, ← e) d
+module _ (t : List ℕ) (c a b : ℕ) {l : ℕ} {r : Bool} (k : l ≡ c % 64) where
+  pub forward-marked : c < 64 → r ≡ tabled? t a l b → r ≡ marked? t c a b
+  unfolding marked?
+  forward-marked h d = let m : l ≡ c = omega arith in rw (lt-ltb c 64 h, ← m) d
 
-  pub reverse-marked : 64 ≤ c → c < 128 → i ≡ cell b l → r ≡ bitOf (getD t i 0) a → r ≡ marked? t c a b
-  unfolding marked? tabled?
-  reverse-marked h n e d = let m : l ≡ c - 64 = omega arith in rw (le-ltb c 64 h, ← m, ← e) d
+  pub reverse-marked : 64 ≤ c → c < 128 → r ≡ tabled? t b l a → r ≡ marked? t c a b
+  unfolding marked?
+  reverse-marked h n d = let m : l ≡ c - 64 = omega arith in rw (le-ltb c 64 h, ← m) d
 
 -- ---- one triple
 abbrev pub step-node : ℕ → ℕ → ℕ → Node

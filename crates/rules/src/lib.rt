@@ -328,9 +328,9 @@ fn marked(table: &[u64; sheet::TABLE], c: usize, a: Kind, b: Kind) -> bool
 {
     let link = symbols::step_link(c as u8);
     if c < LINKS {
-        return bits::bit(table[sheet::word_of(a, link)], b.0 as usize);
+        return sheet::permits(table, a, link, b);
     }
-    bits::bit(table[sheet::word_of(b, link)], a.0 as usize)
+    sheet::permits(table, b, link, a)
 }
 
 // Adds the step's triple from kind a to kind b, where the table has its bit; the new count.

@@ -12,7 +12,7 @@ ghost use lib.ListN.{length, replicate};
 ghost use Rattle.fields.specs.Table.{tag-length};
 ghost use Rattle.fields.specs.Reading.{read as read-file};
 ghost use Rattle.sheet.specs.Form.{sheet-form, key};
-ghost use Rattle.sheet.specs.Table.{cell};
+ghost use Rattle.sheet.specs.Table.{cell, tabled?};
 ghost use Rattle.sheet.specs.Contract.{ReadsSheet, outcome-said};
 ghost use Rattle.sheet.specs.Internal.{due-of, judged, BodyReady, turn-said, sizes-at};
 
@@ -200,6 +200,15 @@ pub fn word_of(from: Kind, link: Link) -> usize
     ensures { λ r. ⌜ (r ≡ cell (from .0) (link .0)) × (r < 4096) ⌝ }
 {
     link.0 as usize * ROW + from.0 as usize
+}
+
+// Has the table the bit of a triple?
+pub fn permits(table: &[u64; TABLE], from: Kind, link: Link, to: Kind) -> bool
+    requires { ⌜ (from .0 < 64) × (link .0 < 64) × (to .0 < 64) ⌝ }
+    ensures { λ r. ⌜ r ≡ tabled? (now (table .entry)) (from .0) (link .0) (to .0) ⌝ }
+{
+    let i = word_of(from, link);
+    bits::bit(table[i], to.0 as usize)
 }
 
 // Reads a sheet's file.

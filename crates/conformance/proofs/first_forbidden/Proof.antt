@@ -36,8 +36,8 @@ kind-at-requires c κs = search (link-from, link-to)
 kind-at-requires-2 : tie.Need-kind-at-requires-2 Inv-loop μ-loop
 kind-at-requires-2 c κs = search (link-from, link-to)
 
-permitted-requires : tie.Need-permitted-requires Inv-loop μ-loop
-permitted-requires c κs = search (kind-fits, link-label)
+permits-requires : tie.Need-permits-requires Inv-loop μ-loop
+permits-requires c κs = search (kind-fits, link-label)
 
 add-place : tie.Need-add-place Inv-loop μ-loop
 add-place c = search needs
@@ -52,7 +52,7 @@ loop-again c =
     let c5 = c3 .before .before in
     let c7 = c5 .before .before in
     let c8 = c7 .before in
-    link-permitted _ _ _ _ (c8 .loop .inv) _ (c7 .next-link .ensures) _ _ _ _ (c5 .from .given .1) _ _ (c3 .kind-at .ensures) (c2 .kind-at2 .ensures) _ (c .before .permitted .ensures) (c .if1 .taken)
+    link-permitted _ _ _ _ (c8 .loop .inv) _ (c7 .next-link .ensures) _ _ _ _ (c5 .from .given .1) _ _ (c3 .kind-at .ensures) (c2 .kind-at2 .ensures) _ (c .before .permits .ensures) (c .if1 .taken)
 
 returns-2 : tie.Need-returns-2 Inv-loop μ-loop
 returns-2 c =
@@ -61,7 +61,7 @@ returns-2 c =
     let c5 = c3 .before .before in
     let c7 = c5 .before .before in
     let c8 = c7 .before in
-    link-forbidden _ _ _ _ (c8 .loop .inv) _ (c7 .next-link .ensures) _ _ _ _ (c5 .from .given .1) _ _ (c3 .kind-at .ensures) (c2 .kind-at2 .ensures) _ (c .before .permitted .ensures) (c .if1 .left)
+    link-forbidden _ _ _ _ (c8 .loop .inv) _ (c7 .next-link .ensures) _ _ _ _ (c5 .from .given .1) _ _ (c3 .kind-at .ensures) (c2 .kind-at2 .ensures) _ (c .before .permits .ensures) (c .if1 .left)
 
 pub first-forbidden-spec : {M : Type 1} → statement M
 first-forbidden-spec =
@@ -77,7 +77,7 @@ first-forbidden-spec =
     enum-known-from
     kind-at-requires
     kind-at-requires-2
-    permitted-requires
+    permits-requires
     add-place
     loop-less
     loop-again

@@ -1,9 +1,9 @@
--- `conformance::permitted` meets its contract: the bit of the to kind, in the word of the from kind and the link, is the table's test.
+-- `sheet::permits` meets its contract: the bit of the to kind, in the word of the from kind and the link, is the table's test.
 -- Assumes nothing.
 use borrow.Author.Needs.{needs}
 use Rattle.sheet.specs.Table.{tabled?}
-use Rattle.conformance.proofs.permitted.Statement.{statement}
-use Rattle.conformance.proofs.permitted.Tie as tie
+use Rattle.sheet.proofs.permits.Statement.{statement}
+use Rattle.sheet.proofs.permits.Tie as tie
 
 word-of-requires : tie.Need-word-of-requires
 word-of-requires c κs = search needs
@@ -24,7 +24,7 @@ returns : tie.Need-returns
 unfolding tabled?
 returns c = rw (← c .before .before .before .word-of .ensures .0) (c .bit .ensures)
 
-pub permitted-spec : {M : Type 1} → statement M
-permitted-spec =
+pub permits-spec : {M : Type 1} → statement M
+permits-spec =
     tie.close
     (tie.spec word-of-requires mul-bit element-copy-out-bit cast-bit bit-requires returns)

@@ -17,14 +17,14 @@ use Rattle.rows.proofs.Words.{kept-trans}
 use Rattle.triples.specs.Paths.{original}
 use Rattle.triples.specs.Parts.{part-of}
 use Rattle.rules.specs.declared.Part.the-variants.{Made, Many, Long}
-use Rattle.rules.specs.Outcome.{Ruled, Done}
+use Rattle.rules.specs.Outcome.{Ruled, Done, Adds}
 use Rattle.rules.specs.Requirements.{part}
+use Rattle.rules.specs.EdgeTriples.{edges-of, leaf-path, AddEdges}
 use Rattle.rules.proofs.RuleOutcome.{ruled-long, ruled-many, ruled-made}
 use Rattle.kind_graph.specs.Kinds.{KindGraph}
 use Rattle.kind_graph.specs.Sizes.{Part}
-use Rattle.closure_rule.specs.Kept.{kept-all}
-use Rattle.closure_rule.specs.Requirements.{Closing, CopyAcyclic, GrowWalks, AddKept}
-use Rattle.closure_rule.proofs.Keeping.{copied-size, kept-all-is}
+use Rattle.closure_rule.specs.Requirements.{Closing, CopyAcyclic, GrowWalks, kept-node}
+use Rattle.closure_rule.proofs.Keeping.{copied-size, kept-leaf, kept-edges}
 
 module _ {qs ws₀ : List ℕ} {s p d o n : ℕ} (h : Closing qs ws₀ s p d o n) where
   abbrev ts : List Triple
@@ -96,19 +96,18 @@ module _ {qs ws₀ : List ℕ} {s p d o n : ℕ} (h : Closing qs ws₀ s p d o n
           rule-many m = ruled-many (all-short ∙ e) (too-many m) m
 
           module _ {xs : List ℕ} (l : KindGraph (part qs ws₀ p d) xs) (m : w ≤ 128) where
-            pub rule-keeps : AddKept qs ws₂ xs s w o n
+            pub rule-keeps : AddEdges qs ws₂ xs 64 (kept-node o n) s w
             rule-keeps =
                 record {
+                  leaf = kept-leaf (h .copied) (h .place) (h .symbols);
                   room = record { room = omega (arith, h .room .room, kept-two .len); numbers = h .room .numbers; sound = g .sound; few = m };
-                  graph = record { of = ts; linked = l };
-                  copied = h .copied;
-                  place = h .place;
-                  symbols = h .symbols;
+                  rows = omega (arith, l .long);
+                  kinds = omega arith;
                 }
 
-            module _ {ws₃ : List ℕ} {k₃ : ℕ} (a : Done qs ws₂ ws₃ (s + w) s k₃ (adjoin-all triple? (part-of qs ws₂ s w) (kept-all xs (original qs o n) 0 64))) where
-              all-are : adjoin-all triple? (part-of qs ws₂ s w) (kept-all xs path 0 64) ≡ all
-              all-are = ap₂ (λ (ys zs : List Triple). adjoin-all triple? ys zs) (g .few m ∙ walks-are) (kept-all-is l path) ∙ sym (closure-distinct 64 path ts)
+            module _ {ws₃ : List ℕ} {k₃ : ℕ} (a : Adds qs ws₂ ws₃ s w k₃ (edges-of xs (leaf-path qs (kept-node o n)) 64)) where
+              all-are : adjoin-all triple? (part-of qs ws₂ s w) (edges-of xs (leaf-path qs (kept-node o n)) 64) ≡ all
+              all-are = ap₂ (λ (ys zs : List Triple). adjoin-all triple? ys zs) (g .few m ∙ walks-are) (kept-edges l qs o n) ∙ sym (closure-distinct 64 path ts)
 
               done : Done qs ws₀ ws₃ s s k₃ all
               done =

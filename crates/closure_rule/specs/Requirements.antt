@@ -6,8 +6,9 @@ use mathlib.Core.Bool.{true}
 use mathlib.Core.List.{List}
 use Prim.Native.Nat.{ℕ, _+_, _<_, _≤_}
 use Rattle.theory.specs.Lists.{NoRepeat}
-use Rattle.theory.specs.Inference.{Triple, walks}
+use Rattle.theory.specs.Inference.{walks}
 use Rattle.theory.specs.Narrowing.{short?}
+use Rattle.triples.specs.declared.Node.{Node}
 use Rattle.triples.specs.Paths.{Copied}
 use Rattle.triples.specs.Parts.{part-of}
 use Rattle.rules.specs.Requirements.{Lies, Room, part}
@@ -36,14 +37,6 @@ pub record GrowWalks (qs ws : List ℕ) (s f : ℕ) : Type 0 where
   pub norepeat : NoRepeat (part-of qs ws s f)
   pub short : short? (walks 24 (part-of qs ws s f) (part-of qs ws s f)) ≡ true
 
--- xs is the graph of some triples
-pub record Graph (xs : List ℕ) : Type 0 where
-  pub of : List Triple
-  pub linked : KindGraph of xs
-
-pub record AddKept (qs ws xs : List ℕ) (s count o n : ℕ) : Type 0 where
-  pub room : Room qs ws s count
-  pub graph : Graph xs
-  pub copied : Copied qs o n
-  pub place : o < 4096
-  pub symbols : n ≤ 47
+-- the node of a kept closure of n symbols of the question from o on; its kinds are still to come
+abbrev pub kept-node : ℕ → ℕ → Node
+kept-node o n = record { made = 133; left = o; right = n; size = n + 1; from = record { 0 = 0 }; to = record { 0 = 0 } }

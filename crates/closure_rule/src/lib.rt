@@ -2,15 +2,14 @@
 use fields::Kind;
 use rules::Part;
 use triples::Node;
-ghost use Prim.Native.Nat.{_+_, _<_, _≤_};
-ghost use Rattle.theory.specs.Lists.{adjoin-all};
-ghost use Rattle.theory.specs.Inference.{triple?, distinct, walks, of-closure, free};
+ghost use mathlib.Core.Path.{_≡_};
+ghost use Prim.Native.Nat.{_+_, _≤_};
+ghost use Rattle.theory.specs.Inference.{distinct, walks, of-closure, free};
 ghost use Rattle.triples.specs.Paths.{original};
 ghost use Rattle.triples.specs.Parts.{part-of};
 ghost use Rattle.rules.specs.Outcome.{Ruled, Done};
 ghost use Rattle.rules.specs.Requirements.{part};
-ghost use Rattle.closure_rule.specs.Kept.{kept-at, kept-from, kept-all};
-ghost use Rattle.closure_rule.specs.Requirements.{Closing, CopyAcyclic, GrowWalks, AddKept};
+ghost use Rattle.closure_rule.specs.Requirements.{Closing, CopyAcyclic, GrowWalks, kept-node};
 
 // ---- walks that meet no cyclic kind
 
@@ -55,92 +54,22 @@ fn grow_walks(words: &mut [u64], question: &[u8], s: usize, f: usize) -> usize
     count
 }
 
-// ---- closures that are kept
+// ---- the rule
 
-// Adds the closure of n symbols of the question from o on, from kind a to kind b, where a walk between them meets a cyclic kind; the new count.
-fn add_kept(
-    words: &mut [u64],
-    question: &[u8],
-    work: &[u64],
-    s: usize,
-    count: usize,
-    o: usize,
-    n: usize,
-    a: Kind,
-    b: Kind,
-) -> usize
-    requires { ⌜ AddKept (now question) (now words) (now work) s count o n × (a .0 < 64) × (b .0 < 64) ⌝ }
-    ensures { λ r. ⌜ Done (now (question .entry)) (now (words .entry)) (now (words .exit)) (s + count) s r (adjoin-all triple? (part-of (now (question .entry)) (now (words .entry)) s count) (kept-at (now (work .entry)) (original (now (question .entry)) o n) (a .0) (b .0))) ⌝ }
+// The node of a kept closure of n symbols of the question from o on; its kinds are still to come.
+fn kept_node(o: usize, n: usize) -> Node
+    requires { ⌜ n ≤ 47 ⌝ }
+    ensures { λ r. ⌜ r ≡ kept-node o n ⌝ }
 {
-    if !kind_graph::meets(work, a, b) {
-        return count;
-    }
-    let node = Node {
+    Node {
         made: triples::CLOSURE,
         left: o,
         right: n,
         size: n + 1,
-        from: a,
-        to: b,
-    };
-    triples::add(words, question, s, count, node)
-}
-
-// The same from kind a to each kind, up to the 129th; the new count. From most kinds there is none, which one word tells.
-fn add_kept_from(
-    words: &mut [u64],
-    question: &[u8],
-    work: &[u64],
-    s: usize,
-    start: usize,
-    o: usize,
-    n: usize,
-    a: Kind,
-) -> usize
-    requires { ⌜ AddKept (now question) (now words) (now work) s start o n × (a .0 < 64) ⌝ }
-    ensures { λ r. ⌜ Done (now (question .entry)) (now (words .entry)) (now (words .exit)) (s + start) s r (adjoin-all triple? (part-of (now (question .entry)) (now (words .entry)) s start) (kept-from (now (work .entry)) (original (now (question .entry)) o n) (a .0) 0 64)) ⌝ }
-{
-    if !kind_graph::meets_any(work, a) {
-        return start;
+        from: Kind(0),
+        to: Kind(0),
     }
-    let mut count = start;
-    let mut b: usize = 0;
-    while b < kind_graph::KINDS {
-        count = add_kept(words, question, work, s, count, o, n, a, Kind(b as u8));
-        if triples::MOST < count {
-            return count;
-        }
-        b += 1;
-    }
-    count
 }
-
-// The same from each kind.
-fn add_all_kept(
-    words: &mut [u64],
-    question: &[u8],
-    work: &[u64],
-    s: usize,
-    start: usize,
-    o: usize,
-    n: usize,
-) -> usize
-    requires { ⌜ AddKept (now question) (now words) (now work) s start o n ⌝ }
-    ensures { λ r. ⌜ Done (now (question .entry)) (now (words .entry)) (now (words .exit)) (s + start) s r (adjoin-all triple? (part-of (now (question .entry)) (now (words .entry)) s start) (kept-all (now (work .entry)) (original (now (question .entry)) o n) 0 64)) ⌝ }
-{
-    let mut count = start;
-    let mut a: usize = 0;
-    while a < kind_graph::KINDS {
-        count = add_kept_from(words, question, work, s, count, o, n, Kind(a as u8));
-        if triples::MOST < count {
-            return count;
-        }
-        a += 1;
-    }
-    count
-}
-
-// ---- the rule
 
 // The rule of closure for nodes p to d, whose original part is n symbols of the question from o on: its part is made from s on.
 pub fn closure_rule(
@@ -165,7 +94,8 @@ pub fn closure_rule(
     if triples::MOST < w {
         return Part::Many;
     }
-    let k = add_all_kept(words, question, &work, s, w, o, n);
+    let node = kept_node(o, n);
+    let k = rules::add_edges(words, question, &work, kind_graph::KINDS, node, s, w);
     if triples::MOST < k {
         return Part::Many;
     }

@@ -26,7 +26,7 @@ module _ {A : Type 0} (f : ℕ → List A) where
   each-same g [] e = refl
   each-same g (k ∷ ks) e = ap₂ (λ (l m : List A). l ++ m) (e k) (each-same g ks e)
 
-  pub each-none : (i n : ℕ) → ((k : ℕ) → i ≤ k → k < i + n → f k ≡ []) → concat-map f (tabulate (λ k. k) i n) ≡ []
+  each-none : (i n : ℕ) → ((k : ℕ) → i ≤ k → k < i + n → f k ≡ []) → concat-map f (tabulate (λ k. k) i n) ≡ []
   each-none i zero e = refl
   each-none i (suc n) e = ap₂ (λ (l m : List A). l ++ m) (e i (omega arith) (omega arith)) (each-none (suc i) n (λ k l m. e k (omega arith) (omega arith)))
 

@@ -6,7 +6,6 @@ use mathlib.Core.Bool.{Bool}
 use mathlib.Core.List.{List}
 use Prim.Native.Nat.{ℕ, _+_, _/_, _<_}
 use lib.ListN.{length}
-use Rattle.theory.specs.Lists.{some?, range}
 use Rattle.theory.specs.TransitiveClosure.{look}
 use Rattle.theory.specs.PathExpr.{PathExpr}
 use Rattle.theory.specs.Inference.{Triple, triple, adjacent?, reach, meets-cyclic?, acyclic?}
@@ -27,11 +26,3 @@ pub record KindGraph (ts : List Triple) (xs : List ℕ) : Type 0 where
 -- r tells of any triples whose graph stands in xs whether one from a to b meets no cyclic kind
 abbrev pub TellsAcyclic : List ℕ → ℕ → ℕ → Bool → Type 0
 TellsAcyclic xs a b r = (ts : List Triple) → KindGraph ts xs → (p : PathExpr) → r ≡ acyclic? (reach 64 ts) (triple a p b)
-
--- .. whether a walk from a to b meets one
-abbrev pub TellsMeets : List ℕ → ℕ → ℕ → Bool → Type 0
-TellsMeets xs a b r = (ts : List Triple) → KindGraph ts xs → r ≡ meets-cyclic? 64 (reach 64 ts) a b
-
--- .. whether one from a to any kind does
-abbrev pub TellsMeetsAny : List ℕ → ℕ → Bool → Type 0
-TellsMeetsAny xs a r = (ts : List Triple) → KindGraph ts xs → r ≡ some? (meets-cyclic? 64 (reach 64 ts) a) (range 64)

@@ -8,7 +8,7 @@ ghost use Rattle.theory.specs.Narrowing.{short?};
 ghost use Rattle.rows.specs.Row.{row-bit, Row, mask-of};
 ghost use Rattle.triples.specs.Tests.{Decides};
 ghost use Rattle.triples.specs.Parts.{part-of};
-ghost use Rattle.kind_graph.specs.Kinds.{Edges, KindGraph, TellsAcyclic, TellsMeets, TellsMeetsAny};
+ghost use Rattle.kind_graph.specs.Kinds.{Edges, KindGraph, TellsAcyclic};
 ghost use Rattle.kind_graph.specs.Sizes.{Part, extended, size-of, weight, Raised, Raising, AtMost, Small};
 
 // How many kinds there are: a graph of them has a word for each.
@@ -81,22 +81,6 @@ pub fn acyclic(work: &[u64], a: Kind, b: Kind) -> bool
     }
     let j = b.0 as usize;
     !rows::has(work, KINDS + j, j)
-}
-
-// Does a walk from a to b meet a cyclic kind?
-pub fn meets(work: &[u64], a: Kind, b: Kind) -> bool
-    requires { ⌜ (length (now work) ≡ 128) × (a .0 < 64) × (b .0 < 64) ⌝ }
-    ensures { λ r. ⌜ TellsMeets (now (work .entry)) (a .0) (b .0) r ⌝ }
-{
-    rows::has(work, a.0 as usize, b.0 as usize)
-}
-
-// Does a walk from a to any kind meet one?
-pub fn meets_any(work: &[u64], a: Kind) -> bool
-    requires { ⌜ (length (now work) ≡ 128) × (a .0 < 64) ⌝ }
-    ensures { λ r. ⌜ TellsMeetsAny (now (work .entry)) (a .0) r ⌝ }
-{
-    rows::any(work, a.0 as usize, 1)
 }
 
 // Raises the number at k to v, where it is less.

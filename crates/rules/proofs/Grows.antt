@@ -14,7 +14,7 @@ use Rattle.triples.specs.declared.Node.{Node}
 use Rattle.triples.specs.Paths.{triple-of, Sound}
 use Rattle.triples.specs.Parts.{part-of, Added}
 use Rattle.triples.proofs.Growing.{length-part, added-kept}
-use Rattle.rules.specs.Outcome.{Done}
+use Rattle.rules.specs.Outcome.{Done, Adds}
 use Rattle.rules.specs.Requirements.{Room}
 
 -- the part from s on has come from ws₀ to ws and `count` triples, and `rest` is still to be added to make `all`
@@ -80,6 +80,11 @@ module _ {qs ws₀ ws : List ℕ} {u s count : ℕ} {all rest : List Triple} (g 
           many = λ h. omega (arith, d .many m, ap length whole, adjoin-all-longer triple? (adjoin-all triple? (part-of qs ws s count) here) later);
           bound = d .bound;
         }
+
+-- all of a rule's part at once
+pub rule-added : {qs ws ws′ : List ℕ} {s r : ℕ} (all : List Triple) → Adds qs ws ws′ s 0 r all → Done qs ws ws′ s s r (distinct all)
+unfolding part-of
+rule-added {s = s} all d = let q : s + 0 ≡ s = omega arith in rw q at d
 
 -- ---- one node
 pub none-added : {qs ws : List ℕ} {s count : ℕ} (here : List Triple) → Room qs ws s count → here ≡ [] → Done qs ws ws (s + count) s count (adjoin-all triple? (part-of qs ws s count) here)

@@ -5,6 +5,9 @@ pub mod Short
 -- a part that grows
 pub mod Grows
 pub mod Ranging
+-- a matrix of kinds
+pub mod Between
+pub mod Edges
 -- pairs
 pub mod Pairs
 pub mod Rows

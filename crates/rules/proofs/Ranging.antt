@@ -1,16 +1,16 @@
 -- A part that grows by a list for each number of a range, number by number.
 -- Assumes nothing.
-use mathlib.Core.Path.{_≡_, refl}
+use mathlib.Core.Path.{_≡_, refl, sym, subst}
 use mathlib.Core.List.{List, [], _++_}
 use Prim.Native.Nat.{ℕ, suc, _+_, _-_, _<_, _≤_}
 use native.Mathlib.Numerals.{add-one}
 use native.Mathlib.Omega.{arith}
-use Rattle.theory.specs.Lists.{adjoin-all, concat-map, tabulate}
+use Rattle.theory.specs.Lists.{adjoin-all, concat-map, tabulate, range}
 use Rattle.theory.specs.Inference.{Triple, triple?}
 use Rattle.triples.specs.Parts.{part-of}
 use Rattle.rules.specs.Outcome.{Done}
 use Rattle.rules.specs.Requirements.{Room}
-use Rattle.rules.proofs.Grows.{Growing, grows-room, grows-over, grows-turn, grows-many}
+use Rattle.rules.proofs.Grows.{Growing, grows-start, grows-room, grows-over, grows-turn, grows-many}
 
 -- what is left of a range: the lists of numbers j to e
 abbrev pub ahead : (ℕ → List Triple) → ℕ → ℕ → List Triple
@@ -23,9 +23,21 @@ module _ (f : ℕ → List Triple) (j e : ℕ) where
   ahead-over : e ≤ j → ahead f j e ≡ []
   ahead-over h = let q : e - j ≡ 0 = omega arith in rw q
 
+ahead-all : (f : ℕ → List Triple) (e : ℕ) → ahead f 0 e ≡ concat-map f (range e)
+ahead-all f e = let q : e - 0 ≡ e = omega arith in rw q
+
 pub record Ranging (qs ws₀ ws : List ℕ) (u s count : ℕ) (all : List Triple) (f : ℕ → List Triple) (j e : ℕ) : Type 0 where
   pub to : j ≤ e
   pub grows : Growing qs ws₀ ws u s count all (ahead f j e)
+
+pub ranging-start : {qs ws : List ℕ} {s start : ℕ} (f : ℕ → List Triple) (e : ℕ) → Room qs ws s start
+    → Ranging qs ws ws (s + start) s start (adjoin-all triple? (part-of qs ws s start) (concat-map f (range e))) f 0 e
+ranging-start {qs} {ws} {s} {start} f e h =
+    record {
+      to = omega arith;
+      grows = subst (λ (l : List Triple). Growing qs ws ws (s + start) s start (adjoin-all triple? (part-of qs ws s start) (concat-map f (range e))) l) (sym (ahead-all f e))
+          (grows-start (concat-map f (range e)) h);
+    }
 
 module _ {qs ws₀ ws : List ℕ} {u s count : ℕ} {all : List Triple} {f : ℕ → List Triple} {j e : ℕ} (g : Ranging qs ws₀ ws u s count all f j e) where
   pub ranging-room : {k : ℕ} → Room qs ws₀ s k → Room qs ws s count

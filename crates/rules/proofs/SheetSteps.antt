@@ -1,37 +1,21 @@
 -- By a sheet's own table the rule of a step has the triples of the sheet's step.
 -- Assumes nothing.
-use mathlib.Core.Path.{_≡_, refl, sym, ap, ap₂, _∙_}
+use mathlib.Core.Path.{_≡_, sym, ap₂, _∙_}
 use mathlib.Core.Bool.{Bool, true, false, cond}
-use mathlib.Core.List.{List, [], _∷_, _++_, List·Memᴰ as In, List·Memᴰ·head as here, List·Memᴰ·tail as there}
+use mathlib.Core.List.{List}
 use Prim.Native.Nat.{ℕ, _-_, _<_}
 use native.Mathlib.Omega.{arith}
 use lib.Dec.{T, ltb}
-use Rattle.theory.specs.Lists.{guard, concat-map, range}
-use Rattle.theory.specs.PathExpr.{Direction, forward, reverse, PathExpr, s-step}
-use Rattle.theory.specs.Inference.{Triple, triple, between, stepped?, of-step}
+use Rattle.theory.specs.PathExpr.{Direction, forward, reverse, s-step}
+use Rattle.theory.specs.Inference.{stepped?, of-step}
 use Rattle.theory.specs.Sheet.{Sheet, sheet?}
-use Rattle.theory.proofs.Lists.{in-range}
 use Rattle.theory.proofs.Sheet.{kinds-fit}
 use Rattle.symbols.specs.Symbols.{symbol-numbered}
 use Rattle.sheet.specs.Table.{tabled?, table-of}
 use Rattle.sheet.proofs.Tables.{table-permits}
 use Rattle.rules.specs.StepTriples.{direction-of, link-of, step-of, marked?, of-marks, Tabled}
+use Rattle.rules.proofs.Between.{between-same}
 use Rattle.rules.proofs.Steps.{code-step}
-
-concat-same : {A B : Type 0} (f g : A → List B) (xs : List A) → ((x : A) → In x xs → f x ≡ g x) → concat-map f xs ≡ concat-map g xs
-concat-same f g [] h = refl
-concat-same f g (x ∷ xs) h = ap₂ (λ a b. a ++ b) (h x (here refl)) (concat-same f g xs (λ y m. h y (there m)))
-
-between-same : (n : ℕ) (p : PathExpr) (f g : ℕ → ℕ → Bool) → ((a b : ℕ) → a < n → b < n → f a b ≡ g a b) → between n p f ≡ between n p g
-between-same n p f g h =
-    concat-same (row f) (row g) (range n)
-    (λ a m. concat-same (one f a) (one g a) (range n) (λ b k. ap (λ (t : Bool). guard t (triple a p b ∷ [])) (h a b (in-range n m) (in-range n k))))
-  where
-    one : (ℕ → ℕ → Bool) → ℕ → ℕ → List Triple
-    one t a b = guard (t a b) (triple a p b ∷ [])
-
-    row : (ℕ → ℕ → Bool) → ℕ → List Triple
-    row t a = concat-map (λ b. guard (t a b) (triple a p b ∷ [])) (range n)
 
 pub tabled-sheet : (S : Sheet) → T (sheet? S) → Tabled (table-of (S .permitted)) S
 unfolding tabled?

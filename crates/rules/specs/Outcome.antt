@@ -6,7 +6,8 @@ use mathlib.Core.Bool.{cond}
 use mathlib.Core.List.{List}
 use Prim.Native.Nat.{ℕ, _+_, _<_, _≤_}
 use lib.ListN.{length}
-use Rattle.theory.specs.Inference.{Triple}
+use Rattle.theory.specs.Lists.{adjoin-all}
+use Rattle.theory.specs.Inference.{Triple, triple?}
 use Rattle.theory.specs.Narrowing.{short?, few?}
 use Rattle.rows.specs.Kept.{Kept}
 use Rattle.triples.specs.Paths.{Sound}
@@ -39,3 +40,7 @@ pub record Done (qs ws ws′ : List ℕ) (u s r : ℕ) (all : List Triple) : Typ
   pub few : r ≤ 128 → part-of qs ws′ s r ≡ all
   pub many : 128 < r → 128 < length all
   pub bound : r ≤ 129
+
+-- `new` is added to the part of `count` triples from s on, which has come to r triples
+abbrev pub Adds : List ℕ → List ℕ → List ℕ → ℕ → ℕ → ℕ → List Triple → Type 0
+Adds qs ws ws′ s count r new = Done qs ws ws′ (s + count) s r (adjoin-all triple? (part-of qs ws s count) new)

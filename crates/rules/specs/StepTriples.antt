@@ -3,14 +3,16 @@
 -- Assumes nothing.
 use mathlib.Core.Path.{_≡_}
 use mathlib.Core.Bool.{Bool, cond}
-use mathlib.Core.List.{List, [], _∷_}
+use mathlib.Core.List.{List}
 use Prim.Native.Nat.{ℕ, _-_, _<_, _≤_}
 use lib.Dec.{ltb}
-use Rattle.theory.specs.Lists.{guard, concat-map, tabulate}
+use lib.ListN.{length}
+use Rattle.bits.specs.Bit.{bitOf}
 use Rattle.theory.specs.PathExpr.{Direction, forward, reverse, PathExpr, step}
-use Rattle.theory.specs.Inference.{Triple, triple, between}
+use Rattle.theory.specs.Inference.{Triple, between}
 use Rattle.theory.specs.Sheet.{Sheet, permits?}
 use Rattle.sheet.specs.Table.{tabled?}
+use Rattle.rows.specs.Row.{row-bit}
 use Rattle.rules.specs.Requirements.{Room}
 
 -- direction and link of a step's code
@@ -36,21 +38,17 @@ pub record Tabled (t : List ℕ) (S : Sheet) : Type 0 where
   pub bits : (a l b : ℕ) → a < 64 → tabled? t a l b ≡ permits? S a l b
   pub kinds : S .kinds ≤ 64
 
--- its triples from kind a to kind b, and from kind a to kinds b to K
-unfoldable pub mark-of : List ℕ → ℕ → ℕ → ℕ → List Triple
-mark-of t c a b = guard (marked? t c a b) (triple a (step-of c) b ∷ [])
+-- v has the bits of a step from kind a to the kinds below K
+pub record StepRow (t : List ℕ) (c a K v : ℕ) : Type 0 where
+  pub bit : (b : ℕ) → b < K → bitOf v b ≡ marked? t c a b
 
-unfoldable pub marks-of : List ℕ → ℕ → ℕ → ℕ → ℕ → List Triple
-marks-of t c a b K = concat-map (mark-of t c a) (tabulate (λ k. k) b (K - b))
+-- the first n words of xs are those of a step's matrix of K kinds: bit b of word a
+pub record StepMatrix (t : List ℕ) (c K n : ℕ) (xs : List ℕ) : Type 0 where
+  pub long : length xs ≡ 64
+  pub bit : (a b : ℕ) → a < n → b < K → row-bit xs a b ≡ marked? t c a b
 
--- what a step asks of its code and its kinds
-pub record AddMark (qs ws : List ℕ) (c s count a b : ℕ) : Type 0 where
+-- what the rule of a step asks
+pub record Stepping (qs ws : List ℕ) (K c s : ℕ) : Type 0 where
   pub code : c < 128
-  pub room : Room qs ws s count
-  pub from-kind : a < 64
-  pub to-kind : b < 64
-
-pub record AddMarks (qs ws : List ℕ) (K c s count : ℕ) : Type 0 where
-  pub code : c < 128
-  pub room : Room qs ws s count
+  pub room : Room qs ws s 0
   pub kinds : K ≤ 64

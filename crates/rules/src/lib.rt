@@ -3,16 +3,18 @@ use fields::Kind;
 use triples::Node;
 ghost use mathlib.Core.Path.{_≡_};
 ghost use Prim.Native.Nat.{_+_, _<_, _≤_};
+ghost use lib.ListN.{length};
 ghost use Rattle.theory.specs.Lists.{adjoin-all};
 ghost use Rattle.theory.specs.Inference.{triple?, distinct};
 ghost use Rattle.theory.specs.Narrowing.{short?};
 ghost use Rattle.triples.specs.Paths.{Has};
 ghost use Rattle.triples.specs.Parts.{part-of};
 ghost use Rattle.rules.specs.PairRules.{Paired, fitting, giving, ends-of, pair-node, pair-short?};
-ghost use Rattle.rules.specs.Outcome.{Ruled, Done};
+ghost use Rattle.rules.specs.Outcome.{Ruled, Done, Adds};
 ghost use Rattle.rules.specs.Requirements.{Lies, part, pair-of, row-of, rows-of, Pairing, AddPair, AddRow, AddNewRow, TwoParts, Unite, AddCopies};
 ghost use Rattle.rules.specs.Repeated.{Alike, Repeats};
-ghost use Rattle.rules.specs.StepTriples.{marked?, of-marks, mark-of, marks-of, AddMark, AddMarks};
+ghost use Rattle.rules.specs.EdgeTriples.{edge-at, edges-from, edges-of, leaf-path, AddEdge, AddEdges};
+ghost use Rattle.rules.specs.StepTriples.{of-marks, StepRow, StepMatrix, Stepping};
 
 // What a rule makes.
 pub enum Part {
@@ -319,72 +321,127 @@ pub fn union_rule(
     Part::Made(b)
 }
 
-// ---- a step
+// ---- a matrix of kinds: bit b of word a says that a path leads from kind a to kind b
 
-// Does a sheet's table have the bit of the step with code c from kind a to kind b?
-fn marked(table: &[u64; sheet::TABLE], c: usize, a: Kind, b: Kind) -> bool
-    requires { ⌜ (c < 128) × (a .0 < 64) × (b .0 < 64) ⌝ }
-    ensures { λ r. ⌜ r ≡ marked? (now (table .entry)) c (a .0) (b .0) ⌝ }
-{
-    let link = symbols::step_link(c as u8);
-    if c < LINKS {
-        return sheet::permits(table, a, link, b);
-    }
-    sheet::permits(table, b, link, a)
-}
-
-// Adds the step's triple from kind a to kind b, where the table has its bit; the new count.
-fn add_mark(
+// Adds the node from kind a to kind b, where the matrix has the bit; the new count.
+fn add_edge(
     words: &mut [u64],
     question: &[u8],
-    table: &[u64; sheet::TABLE],
-    c: usize,
+    matrix: &[u64],
+    node: Node,
     s: usize,
     count: usize,
     a: Kind,
     b: Kind,
 ) -> usize
-    requires { ⌜ AddMark (now question) (now words) c s count (a .0) (b .0) ⌝ }
-    ensures { λ r. ⌜ Done (now (question .entry)) (now (words .entry)) (now (words .exit)) (s + count) s r (adjoin-all triple? (part-of (now (question .entry)) (now (words .entry)) s count) (mark-of (now (table .entry)) c (a .0) (b .0))) ⌝ }
+    requires { ⌜ AddEdge (now question) (now words) (now matrix) node s count (a .0) (b .0) ⌝ }
+    ensures { λ r. ⌜ Adds (now (question .entry)) (now (words .entry)) (now (words .exit)) s count r (edge-at (now (matrix .entry)) (leaf-path (now (question .entry)) node) (a .0) (b .0)) ⌝ }
 {
-    if !marked(table, c, a, b) {
+    if !rows::has(matrix, a.0 as usize, b.0 as usize) {
         return count;
     }
     let n = Node {
-        made: c,
-        left: 0,
-        right: 0,
-        size: 1,
+        made: node.made,
+        left: node.left,
+        right: node.right,
+        size: node.size,
         from: a,
         to: b,
     };
     triples::add(words, question, s, count, n)
 }
 
-// The same from kind a to each of the kinds, up to the 129th; the new count.
-fn add_marks(
+// The same from kind a to each of the kinds, up to the 129th; the new count. Most words of a matrix are 0.
+fn add_edges_from(
     words: &mut [u64],
     question: &[u8],
-    table: &[u64; sheet::TABLE],
+    matrix: &[u64],
     kinds: usize,
-    c: usize,
+    node: Node,
     s: usize,
     start: usize,
     a: Kind,
 ) -> usize
-    requires { ⌜ AddMarks (now question) (now words) kinds c s start × (a .0 < 64) ⌝ }
-    ensures { λ r. ⌜ Done (now (question .entry)) (now (words .entry)) (now (words .exit)) (s + start) s r (adjoin-all triple? (part-of (now (question .entry)) (now (words .entry)) s start) (marks-of (now (table .entry)) c (a .0) 0 kinds)) ⌝ }
+    requires { ⌜ AddEdges (now question) (now words) (now matrix) kinds node s start × (a .0 < kinds) ⌝ }
+    ensures { λ r. ⌜ Adds (now (question .entry)) (now (words .entry)) (now (words .exit)) s start r (edges-from (now (matrix .entry)) (leaf-path (now (question .entry)) node) kinds (a .0)) ⌝ }
 {
+    if matrix[a.0 as usize] == 0 {
+        return start;
+    }
     let mut count = start;
     let mut b: usize = 0;
     while b < kinds {
-        count = add_mark(words, question, table, c, s, count, a, Kind(b as u8));
+        count = add_edge(words, question, matrix, node, s, count, a, Kind(b as u8));
         if triples::MOST < count {
             return count;
         }
         b += 1;
     }
     count
+}
+
+// The same from each of the kinds.
+pub fn add_edges(
+    words: &mut [u64],
+    question: &[u8],
+    matrix: &[u64],
+    kinds: usize,
+    node: Node,
+    s: usize,
+    start: usize,
+) -> usize
+    requires { ⌜ AddEdges (now question) (now words) (now matrix) kinds node s start ⌝ }
+    ensures { λ r. ⌜ Adds (now (question .entry)) (now (words .entry)) (now (words .exit)) s start r (edges-of (now (matrix .entry)) (leaf-path (now (question .entry)) node) kinds) ⌝ }
+{
+    let mut count = start;
+    let mut a: usize = 0;
+    while a < kinds {
+        count = add_edges_from(
+            words,
+            question,
+            matrix,
+            kinds,
+            node,
+            s,
+            count,
+            Kind(a as u8),
+        );
+        if triples::MOST < count {
+            return count;
+        }
+        a += 1;
+    }
+    count
+}
+
+// ---- a step
+
+// The kinds to which the step with code c leads from kind a, by a sheet's table: a forward step has a word for them.
+fn step_row(table: &[u64; sheet::TABLE], kinds: usize, c: usize, a: Kind) -> u64
+    requires { ⌜ (c < 128) × (kinds ≤ 64) × (a .0 < 64) ⌝ }
+    ensures { λ r. ⌜ StepRow (now (table .entry)) c (a .0) kinds r ⌝ }
+{
+    let link = symbols::step_link(c as u8);
+    if c < LINKS {
+        return table[sheet::word_of(a, link)];
+    }
+    let mut v = 0;
+    for b in 0..kinds {
+        if sheet::permits(table, Kind(b as u8), link, a) {
+            v = bits::with_bit(v, b);
+        }
+    }
+    v
+}
+
+// The matrix becomes that of the step with code c.
+fn step_matrix(matrix: &mut [u64], table: &[u64; sheet::TABLE], kinds: usize, c: usize)
+    requires { ⌜ (length (now matrix) ≡ 64) × (c < 128) × (kinds ≤ 64) ⌝ }
+    ensures { λ _. ⌜ StepMatrix (now (table .entry)) c kinds kinds (now (matrix .exit)) ⌝ }
+{
+    for a in 0..kinds {
+        matrix[a] = step_row(table, kinds, c, Kind(a as u8));
+    }
 }
 
 // The rule of the step with code c, by a sheet's table of `kinds` kinds: its part is made from s on.
@@ -396,17 +453,22 @@ pub fn step_rule(
     c: usize,
     s: usize,
 ) -> Part
-    requires { ⌜ AddMarks (now question) (now words) kinds c s 0 ⌝ }
+    requires { ⌜ Stepping (now question) (now words) kinds c s ⌝ }
     ensures { λ r. ⌜ Ruled (now (question .entry)) (now (words .entry)) (now (words .exit)) s (distinct (of-marks (now (table .entry)) kinds c)) r ⌝ }
 {
-    let mut count = 0;
-    let mut a: usize = 0;
-    while a < kinds {
-        count = add_marks(words, question, table, kinds, c, s, count, Kind(a as u8));
-        if triples::MOST < count {
-            return Part::Many;
-        }
-        a += 1;
+    let mut matrix = [0u64; fields::KINDS as usize];
+    step_matrix(&mut matrix, table, kinds, c);
+    let node = Node {
+        made: c,
+        left: 0,
+        right: 0,
+        size: 1,
+        from: Kind(0),
+        to: Kind(0),
+    };
+    let count = add_edges(words, question, &matrix, kinds, node, s, 0);
+    if triples::MOST < count {
+        return Part::Many;
     }
     Part::Made(count)
 }

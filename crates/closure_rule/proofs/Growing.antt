@@ -25,7 +25,7 @@ use Rattle.rows.proofs.Words.{kept-refl, kept-trans}
 use Rattle.triples.specs.Paths.{triple-of, Sound}
 use Rattle.triples.specs.Parts.{part-of}
 use Rattle.triples.proofs.Growing.{length-part, part-kept}
-use Rattle.rules.specs.Outcome.{Done}
+use Rattle.rules.specs.Outcome.{Done, Adds}
 use Rattle.rules.specs.Requirements.{part, row-of, AddRow}
 use Rattle.rules.proofs.Short.{short-path?}
 use Rattle.rules.proofs.TwoLists.{two-join}
@@ -115,7 +115,7 @@ module _ {qs ws₀ : List ℕ} {s f : ℕ} (h : GrowWalks qs ws₀ s f) where
             short = to-true (short? (row-of qs ws 128 i s (s + f))) (in-every short-path? (row-of qs ws 128 i s (s + f)) (λ t m. every-in short-path? (of-true (short? (walks 24 fs fs)) (h .short)) (row-walk t m)));
           }
 
-      module _ {ws′ : List ℕ} {r : ℕ} (d : Done qs ws ws′ (s + count) s r (adjoin-all triple? (part-of qs ws s count) (row-of qs ws 128 i s (s + f)))) where
+      module _ {ws′ : List ℕ} {r : ℕ} (d : Adds qs ws ws′ s count r (row-of qs ws 128 i s (s + f))) where
         turned : adjoin-all triple? ts (row-of qs ws 128 i s (s + f)) ≡ grown fs ts (i - s)
         turned = row-grown qs ws s count i s (s + f) (g .from) l ∙ ap (λ (ys : List Triple). grown ys ts (i - s)) same
 

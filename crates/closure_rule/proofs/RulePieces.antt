@@ -17,7 +17,7 @@ use Rattle.rows.proofs.Words.{kept-trans}
 use Rattle.triples.specs.Paths.{original}
 use Rattle.triples.specs.Parts.{part-of}
 use Rattle.rules.specs.declared.Part.the-variants.{Made, Many, Long}
-use Rattle.rules.specs.Outcome.{Ruled, Done, Adds}
+use Rattle.rules.specs.Outcome.{Ruled, Done, Adds, with-new}
 use Rattle.rules.specs.Requirements.{part}
 use Rattle.rules.specs.EdgeTriples.{edges-of, leaf-path, AddEdges}
 use Rattle.rules.proofs.RuleOutcome.{ruled-long, ruled-many, ruled-made}
@@ -106,7 +106,7 @@ module _ {qs ws₀ : List ℕ} {s p d o n : ℕ} (h : Closing qs ws₀ s p d o n
                 }
 
             module _ {ws₃ : List ℕ} {k₃ : ℕ} (a : Adds qs ws₂ ws₃ s w k₃ (edges-of xs (leaf-path qs (kept-node o n)) 64)) where
-              all-are : adjoin-all triple? (part-of qs ws₂ s w) (edges-of xs (leaf-path qs (kept-node o n)) 64) ≡ all
+              all-are : with-new qs ws₂ s w (edges-of xs (leaf-path qs (kept-node o n)) 64) ≡ all
               all-are = ap₂ (λ (ys zs : List Triple). adjoin-all triple? ys zs) (g .few m ∙ walks-are) (kept-edges l qs o n) ∙ sym (closure-distinct 64 path ts)
 
               done : Done qs ws₀ ws₃ s s k₃ all

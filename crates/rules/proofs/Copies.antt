@@ -7,21 +7,20 @@ use Prim.Native.Nat.{ℕ, _+_, _<_, _≤_}
 use native.Mathlib.Nat.{eq-or-lt-of-le}
 use native.Mathlib.Omega.{arith}
 use lib.ListN.{length, set}
-use Rattle.theory.specs.Lists.{adjoin-all}
 use Rattle.theory.specs.PathExpr.{closure}
-use Rattle.theory.specs.Inference.{Triple, triple?}
+use Rattle.theory.specs.Inference.{Triple}
 use Rattle.rows.specs.Kept.{Kept}
 use Rattle.rows.proofs.Words.{le-or-lt, kept-set}
 use Rattle.triples.specs.declared.Node.{Node}
 use Rattle.triples.specs.Table.{word-of, InRange, Loaded, node-at}
 use Rattle.triples.specs.Paths.{original, triple-of, Good, Has}
-use Rattle.triples.specs.Parts.{part-of, Candidate, Added}
+use Rattle.triples.specs.Parts.{Candidate, Added}
 use Rattle.triples.proofs.Words.{node-new}
 use Rattle.triples.proofs.Triples.{triple-two, triple-from, triple-to, triple-kept, path-step, path-kept}
 use Rattle.triples.proofs.Codes.{step-numbered, closure-numbered}
 use Rattle.triples.proofs.Nodes.{known, step-path, kept-path, left-less, right-less}
 use Rattle.triples.proofs.Growing.{part-next, part-over}
-use Rattle.rules.specs.Outcome.{Done}
+use Rattle.rules.specs.Outcome.{Adds, with-new}
 use Rattle.rules.specs.Requirements.{Room, part, AddCopies}
 use Rattle.rules.proofs.Grows.{Growing, grows-start, grows-room, grows-over, grows-turn, grows-many, one-added}
 
@@ -104,20 +103,20 @@ module _ {qs ws : List ℕ} {s count i : ℕ} {n : Node} (h : Room qs ws s count
         };
       }
 
-  pub copy-added : {zs : List ℕ} {r : ℕ} → Added qs ws zs s count n r → Done qs ws zs (s + count) s r (adjoin-all triple? (part-of qs ws s count) (triple-of qs ws i ∷ []))
+  pub copy-added : {zs : List ℕ} {r : ℕ} → Added qs ws zs s count n r → Adds qs ws zs s count r (triple-of qs ws i ∷ [])
   copy-added a = one-added (triple-of qs ws i) (triple-of qs ws i ∷ []) h a (rw (a .words-are) copy-triple) (λ j. triple-of qs ws i ∷ [])
 
 -- ---- a run of copies
 pub record CopiesGrowing (qs ws₀ ws : List ℕ) (s start count q e j : ℕ) : Type 0 where
   pub to : j ≤ e
-  pub grows : Growing qs ws₀ ws (s + start) s count (adjoin-all triple? (part-of qs ws₀ s start) (part qs ws₀ q e)) (part qs ws₀ j e)
+  pub grows : Growing qs ws₀ ws (s + start) s count (with-new qs ws₀ s start (part qs ws₀ q e)) (part qs ws₀ j e)
 
 module _ {qs ws₀ : List ℕ} {s start q e : ℕ} (h : AddCopies qs ws₀ s start q e) where
   pub copies-start : CopiesGrowing qs ws₀ ws₀ s start start q e q
   copies-start = record { to = h .lies .ordered; grows = grows-start (part qs ws₀ q e) (h .room) }
 
   module _ {ws : List ℕ} {count j : ℕ} (g : CopiesGrowing qs ws₀ ws s start count q e j) where
-    pub copies-over : e ≤ j → Done qs ws₀ ws (s + start) s count (adjoin-all triple? (part-of qs ws₀ s start) (part qs ws₀ q e))
+    pub copies-over : e ≤ j → Adds qs ws₀ ws s start count (part qs ws₀ q e)
     copies-over l = grows-over (g .grows) (part-over qs ws₀ j e l)
 
     module _ (l : j < e) where
@@ -145,5 +144,5 @@ module _ {qs ws₀ : List ℕ} {s start q e : ℕ} (h : AddCopies qs ws₀ s sta
                 grows = grows-turn (g .grows) (triple-of qs ws j ∷ []) (triple-of qs ws₀ j ∷ []) (part qs ws₀ (j + 1) e) (copy-added room below x a) here (part-next qs ws₀ j e l) m;
               }
 
-          pub copies-many : 128 < r → Done qs ws₀ ws′ (s + start) s r (adjoin-all triple? (part-of qs ws₀ s start) (part qs ws₀ q e))
+          pub copies-many : 128 < r → Adds qs ws₀ ws′ s start r (part qs ws₀ q e)
           copies-many m = grows-many (g .grows) (triple-of qs ws j ∷ []) (triple-of qs ws₀ j ∷ []) (part qs ws₀ (j + 1) e) (copy-added room below x a) here (part-next qs ws₀ j e l) m

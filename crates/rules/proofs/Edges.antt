@@ -10,9 +10,8 @@ use native.Mathlib.Omega.{arith}
 use lib.ListN.{length, getD, set}
 use Rattle.bits.specs.Bit.{bitOf}
 use Rattle.bits.proofs.Bits.{bit-zero}
-use Rattle.theory.specs.Lists.{adjoin-all}
 use Rattle.theory.specs.PathExpr.{PathExpr, size}
-use Rattle.theory.specs.Inference.{Triple, triple, triple?, between}
+use Rattle.theory.specs.Inference.{Triple, triple, between}
 use Rattle.algorithms.specs.Growth.{no-triple}
 use Rattle.symbols.specs.Symbols.{symbol-numbered}
 use Rattle.rows.specs.Row.{row-bit}
@@ -20,11 +19,11 @@ use Rattle.rows.proofs.Words.{le-or-lt}
 use Rattle.triples.specs.declared.Node.{Node}
 use Rattle.triples.specs.Table.{word-of, InRange, node-at}
 use Rattle.triples.specs.Paths.{built, triple-of}
-use Rattle.triples.specs.Parts.{part-of, Candidate, Added}
+use Rattle.triples.specs.Parts.{Candidate, Added}
 use Rattle.triples.proofs.Words.{node-new}
 use Rattle.triples.proofs.Triples.{triple-from, triple-to, path-built}
 use Rattle.triples.proofs.Codes.{step-numbered, closure-numbered}
-use Rattle.rules.specs.Outcome.{Adds}
+use Rattle.rules.specs.Outcome.{Adds, with-new}
 use Rattle.rules.specs.EdgeTriples.{edge-at, edges-from, edges-of, edge-node, leaf-path, Leaf, AddEdge, AddEdges}
 use Rattle.rules.proofs.Grows.{none-added, one-added}
 use Rattle.rules.proofs.Ranging.{Ranging, ranging-start, ranging-room}
@@ -122,11 +121,11 @@ module _ {qs ws₀ xs : List ℕ} {K : ℕ} {n : Node} {s start : ℕ} (h : AddE
   pub from-skipped : (a : ℕ) → getD xs a 0 ≡ 0 → Adds qs ws₀ ws₀ s start start (edges-from xs (leaf-path qs n) K a)
   from-skipped a e = none-added (edges-from xs p K a) (h .room) (from-none a e)
 
-  pub from-start : (a : ℕ) → Ranging qs ws₀ ws₀ (s + start) s start (adjoin-all triple? (part-of qs ws₀ s start) (edges-from xs (leaf-path qs n) K a)) (edge-at xs (leaf-path qs n) a) 0 K
+  pub from-start : (a : ℕ) → Ranging qs ws₀ ws₀ (s + start) s start (with-new qs ws₀ s start (edges-from xs (leaf-path qs n) K a)) (edge-at xs (leaf-path qs n) a) 0 K
   unfolding edges-from
   from-start a = ranging-start (edge-at xs p a) K (h .room)
 
-  pub edges-start : Ranging qs ws₀ ws₀ (s + start) s start (adjoin-all triple? (part-of qs ws₀ s start) (edges-of xs (leaf-path qs n) K)) (edges-from xs (leaf-path qs n) K) 0 K
+  pub edges-start : Ranging qs ws₀ ws₀ (s + start) s start (with-new qs ws₀ s start (edges-of xs (leaf-path qs n) K)) (edges-from xs (leaf-path qs n) K) 0 K
   unfolding edges-of edges-from edge-at
   edges-start = ranging-start (edges-from xs p K) K (h .room)
 

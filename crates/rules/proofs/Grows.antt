@@ -14,18 +14,18 @@ use Rattle.triples.specs.declared.Node.{Node}
 use Rattle.triples.specs.Paths.{triple-of, Sound}
 use Rattle.triples.specs.Parts.{part-of, Added}
 use Rattle.triples.proofs.Growing.{length-part, added-kept}
-use Rattle.rules.specs.Outcome.{Done, Adds}
+use Rattle.rules.specs.Outcome.{Done, Adds, with-new}
 use Rattle.rules.specs.Requirements.{Room}
 
 -- the part from s on has come from ws₀ to ws and `count` triples, and `rest` is still to be added to make `all`
 pub record Growing (qs ws₀ ws : List ℕ) (u s count : ℕ) (all rest : List Triple) : Type 0 where
   pub kept : Kept u (s + 129) ws₀ ws
   pub sound : Sound qs ws (s + count)
-  pub total : adjoin-all triple? (part-of qs ws s count) rest ≡ all
+  pub total : with-new qs ws s count rest ≡ all
   pub few : count ≤ 128
   pub more : u ≤ s + count
 
-pub grows-start : {qs ws : List ℕ} {s count : ℕ} (rest : List Triple) → Room qs ws s count → Growing qs ws ws (s + count) s count (adjoin-all triple? (part-of qs ws s count) rest) rest
+pub grows-start : {qs ws : List ℕ} {s count : ℕ} (rest : List Triple) → Room qs ws s count → Growing qs ws ws (s + count) s count (with-new qs ws s count rest) rest
 grows-start {ws = ws} {s} {count} rest h = record { kept = kept-refl (s + count) (s + 129) ws; sound = h .sound; total = refl; few = h .few; more = omega arith }
 
 -- a rule's part: nothing stands yet
@@ -49,13 +49,13 @@ module _ {qs ws₀ ws : List ℕ} {u s count : ℕ} {all rest : List Triple} (g 
       }
 
   -- a piece is added: what it is is said over the words as they stand, and over those of the start
-  module _ {ws′ : List ℕ} {r : ℕ} (here here₀ later : List Triple) (d : Done qs ws ws′ (s + count) s r (adjoin-all triple? (part-of qs ws s count) here)) (e : here ≡ here₀) (f : rest ≡ here₀ ++ later) where
+  module _ {ws′ : List ℕ} {r : ℕ} (here here₀ later : List Triple) (d : Adds qs ws ws′ s count r here) (e : here ≡ here₀) (f : rest ≡ here₀ ++ later) where
     kept-both : Kept u (s + 129) ws₀ ws′
     kept-both = kept-trans (g .kept) (d .kept) (omega arith) (g .more) (omega arith) (omega arith)
 
-    whole : adjoin-all triple? (adjoin-all triple? (part-of qs ws s count) here) later ≡ all
+    whole : adjoin-all triple? (with-new qs ws s count here) later ≡ all
     whole =
-        ap (λ (l : List Triple). adjoin-all triple? (adjoin-all triple? (part-of qs ws s count) l) later) e
+        ap (λ (l : List Triple). adjoin-all triple? (with-new qs ws s count l) later) e
         ∙ sym (adjoin-all-append triple? (part-of qs ws s count) here₀ later)
         ∙ ap (adjoin-all triple? (part-of qs ws s count)) (sym f)
         ∙ g .total
@@ -77,7 +77,7 @@ module _ {qs ws₀ ws : List ℕ} {u s count : ℕ} {all rest : List Triple} (g 
           kept = kept-both;
           sound = d .sound;
           few = λ h. absurd (omega arith);
-          many = λ h. omega (arith, d .many m, ap length whole, adjoin-all-longer triple? (adjoin-all triple? (part-of qs ws s count) here) later);
+          many = λ h. omega (arith, d .many m, ap length whole, adjoin-all-longer triple? (with-new qs ws s count here) later);
           bound = d .bound;
         }
 
@@ -87,13 +87,13 @@ unfolding part-of
 rule-added {s = s} all d = let q : s + 0 ≡ s = omega arith in rw q at d
 
 -- ---- one node
-pub none-added : {qs ws : List ℕ} {s count : ℕ} (here : List Triple) → Room qs ws s count → here ≡ [] → Done qs ws ws (s + count) s count (adjoin-all triple? (part-of qs ws s count) here)
+pub none-added : {qs ws : List ℕ} {s count : ℕ} (here : List Triple) → Room qs ws s count → here ≡ [] → Adds qs ws ws s count count here
 none-added here h e = grows-over (grows-start here h) e
 
 pub one-added : {qs ws ws′ : List ℕ} {s count r : ℕ} {n : Node} (t : Triple) (here : List Triple) → Room qs ws s count → Added qs ws ws′ s count n r → triple-of qs ws′ (s + count) ≡ t → here ≡ t ∷ []
-    → Done qs ws ws′ (s + count) s r (adjoin-all triple? (part-of qs ws s count) here)
+    → Adds qs ws ws′ s count r here
 one-added {qs} {ws} {ws′} {s} {count} {r} t here h a e f =
-    let p : part-of qs ws′ s r ≡ adjoin-all triple? (part-of qs ws s count) here = a .part-is ∙ rw (e, f) in
+    let p : part-of qs ws′ s r ≡ with-new qs ws s count here = a .part-is ∙ rw (e, f) in
     record {
       kept = kept-in (added-kept a) (omega arith) (omega (arith, h .few));
       sound = a .sound;

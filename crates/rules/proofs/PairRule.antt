@@ -7,7 +7,6 @@ use mathlib.Core.List.{List, _∷_, [], _++_, List·Memᴰ as In}
 use Prim.Native.Nat.{ℕ, _+_, _-_, _<_, _≤_}
 use native.Mathlib.Nat.{eq-or-lt-of-le}
 use native.Mathlib.Omega.{arith}
-use Rattle.theory.specs.Lists.{adjoin-all}
 use Rattle.theory.specs.Inference.{Triple, triple?, distinct}
 use Rattle.theory.specs.Narrowing.{short?}
 use Rattle.theory.proofs.Distinct.{adjoin-all-old, adjoin-all-new}
@@ -18,7 +17,7 @@ use Rattle.triples.proofs.Triples.{triple-kept}
 use Rattle.triples.proofs.Growing.{part-kept}
 use Rattle.rules.specs.declared.Part.the-variants.{Made, Many, Long}
 use Rattle.rules.specs.PairRules.{of-two, Paired}
-use Rattle.rules.specs.Outcome.{Ruled, Done}
+use Rattle.rules.specs.Outcome.{Ruled, Adds}
 use Rattle.rules.specs.Requirements.{Lies, row-of, rows-of, Pairing, AddRow, AddNewRow, TwoParts}
 use Rattle.rules.proofs.Short.{short-left, short-right, short-distinct}
 use Rattle.rules.proofs.Grows.{Growing, rule-starts, grows-room, grows-over, grows-turn, grows-many}
@@ -83,7 +82,7 @@ module _ {qs ws₀ : List ℕ} {made s p d q e : ℕ} (b : Paired made) (h : Two
             stand = λ j a b t m. g .stand j a b t (subst (λ (xs : List Triple). In t xs) (same-row j (omega arith)) m);
           }
 
-      module _ {ws′ : List ℕ} {r : ℕ} (f : Done qs ws ws′ (s + count) s r (adjoin-all triple? (part-of qs ws s count) (row-of qs ws made i q e))) where
+      module _ {ws′ : List ℕ} {r : ℕ} (f : Adds qs ws ws′ s count r (row-of qs ws made i q e)) where
         -- the rows before stay, and the row of node i is added
         stand-more : r ≤ 128 → (j : ℕ) → p ≤ j → j < i + 1 → (t : Triple) → In t (row-of qs ws₀ made j q e) → In t (part-of qs ws′ s r)
         stand-more m j a b t n =

@@ -7,20 +7,19 @@ use Prim.Native.Nat.{ℕ, _+_, _<_, _≤_}
 use native.Mathlib.Omega.{arith}
 use lib.ListN.{length, set}
 use borrow.Author.Tests.{leb-true}
-use Rattle.theory.specs.Lists.{adjoin-all}
 use Rattle.theory.specs.PathExpr.{size}
-use Rattle.theory.specs.Inference.{Triple, triple?}
+use Rattle.theory.specs.Inference.{Triple}
 use Rattle.theory.specs.Narrowing.{short?}
 use Rattle.rows.specs.Kept.{Kept}
 use Rattle.rows.proofs.Words.{kept-set}
 use Rattle.triples.specs.declared.Node.{Node}
 use Rattle.triples.specs.Table.{word-of, InRange, Loaded, node-at}
 use Rattle.triples.specs.Paths.{triple-of, Sound}
-use Rattle.triples.specs.Parts.{part-of, Candidate, Added}
+use Rattle.triples.specs.Parts.{Candidate, Added}
 use Rattle.triples.proofs.Words.{node-new}
 use Rattle.triples.proofs.Triples.{triple-two, triple-from, triple-to, triple-kept}
 use Rattle.rules.specs.PairRules.{Paired, fitting, giving, ends-of, pair-node, pair-short?}
-use Rattle.rules.specs.Outcome.{Done}
+use Rattle.rules.specs.Outcome.{Adds}
 use Rattle.rules.specs.Requirements.{pair-of, AddPair}
 use Rattle.rules.proofs.TwoLists.{two-one, giving-size, node-gives, fitting-ends, giving-small}
 use Rattle.rules.proofs.Short.{short-guard}
@@ -65,7 +64,7 @@ module _ {qs ws : List ℕ} {made s count i j : ℕ} {x y : Node} (h : AddPair q
   fit : r ≡ fitting made A B
   fit = d ∙ fits-is (h .room .sound) (h .paired) (h .i-below) (h .j-below) lx ly
 
-  pub pair-skipped : r ≡ false → Done qs ws ws (s + count) s count (adjoin-all triple? (part-of qs ws s count) (pair-of qs ws made i j))
+  pub pair-skipped : r ≡ false → Adds qs ws ws s count count (pair-of qs ws made i j)
   pair-skipped f = none-added (pair-of qs ws made i j) (h .room) (two-one made (h .paired) A B ∙ rw (sym fit ∙ f))
 
   module _ (f : r ≡ true) where
@@ -117,5 +116,5 @@ module _ {qs ws : List ℕ} {made s count i j : ℕ} {x y : Node} (h : AddPair q
           };
         }
 
-    pub pair-added : {zs : List ℕ} {c : ℕ} → Added qs ws zs s count (pair-node made i j x y) c → Done qs ws zs (s + count) s c (adjoin-all triple? (part-of qs ws s count) (pair-of qs ws made i j))
+    pub pair-added : {zs : List ℕ} {c : ℕ} → Added qs ws zs s count (pair-node made i j x y) c → Adds qs ws zs s count c (pair-of qs ws made i j)
     pair-added a = one-added (giving made A B) (pair-of qs ws made i j) (h .room) a (rw (a .words-are) pair-triple) (two-one made (h .paired) A B ∙ rw (sym fit ∙ f))

@@ -5,10 +5,9 @@ use mathlib.Core.List.{List, [], _++_}
 use Prim.Native.Nat.{ℕ, suc, _+_, _-_, _<_, _≤_}
 use native.Mathlib.Numerals.{add-one}
 use native.Mathlib.Omega.{arith}
-use Rattle.theory.specs.Lists.{adjoin-all, concat-map, tabulate, range}
-use Rattle.theory.specs.Inference.{Triple, triple?}
-use Rattle.triples.specs.Parts.{part-of}
-use Rattle.rules.specs.Outcome.{Done}
+use Rattle.theory.specs.Lists.{concat-map, tabulate, range}
+use Rattle.theory.specs.Inference.{Triple}
+use Rattle.rules.specs.Outcome.{Done, Adds, with-new}
 use Rattle.rules.specs.Requirements.{Room}
 use Rattle.rules.proofs.Grows.{Growing, grows-start, grows-room, grows-over, grows-turn, grows-many}
 
@@ -31,11 +30,11 @@ pub record Ranging (qs ws₀ ws : List ℕ) (u s count : ℕ) (all : List Triple
   pub grows : Growing qs ws₀ ws u s count all (ahead f j e)
 
 pub ranging-start : {qs ws : List ℕ} {s start : ℕ} (f : ℕ → List Triple) (e : ℕ) → Room qs ws s start
-    → Ranging qs ws ws (s + start) s start (adjoin-all triple? (part-of qs ws s start) (concat-map f (range e))) f 0 e
+    → Ranging qs ws ws (s + start) s start (with-new qs ws s start (concat-map f (range e))) f 0 e
 ranging-start {qs} {ws} {s} {start} f e h =
     record {
       to = omega arith;
-      grows = subst (λ (l : List Triple). Growing qs ws ws (s + start) s start (adjoin-all triple? (part-of qs ws s start) (concat-map f (range e))) l) (sym (ahead-all f e))
+      grows = subst (λ (l : List Triple). Growing qs ws ws (s + start) s start (with-new qs ws s start (concat-map f (range e))) l) (sym (ahead-all f e))
           (grows-start (concat-map f (range e)) h);
     }
 
@@ -46,7 +45,7 @@ module _ {qs ws₀ ws : List ℕ} {u s count : ℕ} {all : List Triple} {f : ℕ
   pub ranging-over : e ≤ j → Done qs ws₀ ws u s count all
   ranging-over l = grows-over (g .grows) (ahead-over f j e l)
 
-  module _ (l : j < e) {ws′ : List ℕ} {r : ℕ} (d : Done qs ws ws′ (s + count) s r (adjoin-all triple? (part-of qs ws s count) (f j))) where
+  module _ (l : j < e) {ws′ : List ℕ} {r : ℕ} (d : Adds qs ws ws′ s count r (f j)) where
     pub ranging-turn : r ≤ 128 → Ranging qs ws₀ ws′ u s r all f (j + 1) e
     ranging-turn m = record { to = omega arith; grows = grows-turn (g .grows) (f j) (f j) (ahead f (j + 1) e) d refl (ahead-next f j e l) m }
 

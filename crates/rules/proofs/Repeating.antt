@@ -5,7 +5,6 @@ use mathlib.Core.Bool.{Bool, true, false, true≢false}
 use mathlib.Core.List.{List, List·Memᴰ as In}
 use Prim.Native.Nat.{ℕ, _+_, _<_, _≤_}
 use native.Mathlib.Omega.{arith}
-use Rattle.theory.specs.Lists.{adjoin-all}
 use Rattle.theory.specs.Inference.{Triple, triple?}
 use Rattle.algorithms.proofs.Growth.{adjoin-all-none}
 use Rattle.theory.proofs.Triples.{triple-eq, triple-refl}
@@ -15,7 +14,7 @@ use Rattle.triples.specs.Table.{Loaded}
 use Rattle.triples.specs.Tests.{Decides}
 use Rattle.triples.specs.Paths.{triple-of, Has}
 use Rattle.triples.specs.Parts.{part-of}
-use Rattle.rules.specs.Outcome.{Done}
+use Rattle.rules.specs.Outcome.{Adds}
 use Rattle.rules.specs.Requirements.{part, row-of, AddNewRow}
 use Rattle.rules.specs.Repeated.{Alike, Repeats}
 use Rattle.rules.proofs.TwoLists.{left-rows}
@@ -43,7 +42,7 @@ found-row {qs} {ws} {made} {p} {i} {j} m l b a t =
 
 -- ---- the row
 pub row-repeated : {qs ws : List ℕ} {made s count p i q e : ℕ} {r : Bool} → AddNewRow qs ws made s count p i q e → Repeats qs ws made p i r → r ≡ true
-    → Done qs ws ws (s + count) s count (adjoin-all triple? (part-of qs ws s count) (row-of qs ws made i q e))
+    → Adds qs ws ws s count count (row-of qs ws made i q e)
 row-repeated {qs} {ws} {made} {s} {count} {p} {i} {q} {e} h f t =
     let w = f .found t in
     let inside : (x : Triple) → In x (row-of qs ws made i q e) → In x (part-of qs ws s count) = λ x m. h .stand (w .node) (w .least) (w .below) x (subst (λ (l : List Triple). In x l) (w .same-rows (part qs ws q e)) m) in

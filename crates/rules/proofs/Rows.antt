@@ -20,7 +20,7 @@ use Rattle.triples.specs.Parts.{part-of}
 use Rattle.triples.proofs.Triples.{triple-kept}
 use Rattle.triples.proofs.Growing.{part-next, part-over}
 use Rattle.rules.specs.PairRules.{of-two, Paired, pair-short?}
-use Rattle.rules.specs.Outcome.{Done}
+use Rattle.rules.specs.Outcome.{Adds, with-new}
 use Rattle.rules.specs.Requirements.{Lies, part, pair-of, row-of, rows-of, Pairing, AddPair, AddRow}
 use Rattle.rules.proofs.TwoLists.{two-join, two-next, two-row, two-none, row-none}
 use Rattle.rules.proofs.Short.{short-append, short-left, short-right}
@@ -104,7 +104,7 @@ module _ {qs ws : List ℕ} {made s p d q e i : ℕ} (h : Pairing qs ws made s) 
 -- ---- the triples of a row
 pub record RowGrowing (qs ws₀ ws : List ℕ) (made s start count i q e j : ℕ) : Type 0 where
   pub to : j ≤ e
-  pub grows : Growing qs ws₀ ws (s + start) s count (adjoin-all triple? (part-of qs ws₀ s start) (row-of qs ws₀ made i q e)) (row-of qs ws₀ made i j e)
+  pub grows : Growing qs ws₀ ws (s + start) s count (with-new qs ws₀ s start (row-of qs ws₀ made i q e)) (row-of qs ws₀ made i j e)
   pub short : short? (row-of qs ws₀ made i j e) ≡ true
 
 module _ {qs ws₀ : List ℕ} {made s start i q e : ℕ} (h : AddRow qs ws₀ made s start i q e) where
@@ -112,7 +112,7 @@ module _ {qs ws₀ : List ℕ} {made s start i q e : ℕ} (h : AddRow qs ws₀ m
   row-start = record { to = h .lies .ordered; grows = grows-start (row-of qs ws₀ made i q e) (h .room); short = h .short }
 
   module _ {ws : List ℕ} {count j : ℕ} (g : RowGrowing qs ws₀ ws made s start count i q e j) where
-    pub row-over : e ≤ j → Done qs ws₀ ws (s + start) s count (adjoin-all triple? (part-of qs ws₀ s start) (row-of qs ws₀ made i q e))
+    pub row-over : e ≤ j → Adds qs ws₀ ws s start count (row-of qs ws₀ made i q e)
     row-over l = grows-over (g .grows) (row-end qs ws₀ made (h .paired) i j e l)
 
     module _ (l : j < e) where
@@ -135,7 +135,7 @@ module _ {qs ws₀ : List ℕ} {made s start i q e : ℕ} (h : AddRow qs ws₀ m
             short = ap short? here ∙ short-left (pair-of qs ws₀ made i j) (row-of qs ws₀ made i (j + 1) e) split;
           }
 
-      module _ {ws′ : List ℕ} {r : ℕ} (d : Done qs ws ws′ (s + count) s r (adjoin-all triple? (part-of qs ws s count) (pair-of qs ws made i j))) where
+      module _ {ws′ : List ℕ} {r : ℕ} (d : Adds qs ws ws′ s count r (pair-of qs ws made i j)) where
         pub row-turn : r ≤ 128 → RowGrowing qs ws₀ ws′ made s start r i q e (j + 1)
         row-turn m =
             record {
@@ -144,12 +144,12 @@ module _ {qs ws₀ : List ℕ} {made s start i q e : ℕ} (h : AddRow qs ws₀ m
               short = short-right (pair-of qs ws₀ made i j) (row-of qs ws₀ made i (j + 1) e) split;
             }
 
-        pub row-many : 128 < r → Done qs ws₀ ws′ (s + start) s r (adjoin-all triple? (part-of qs ws₀ s start) (row-of qs ws₀ made i q e))
+        pub row-many : 128 < r → Adds qs ws₀ ws′ s start r (row-of qs ws₀ made i q e)
         row-many m = grows-many (g .grows) (pair-of qs ws made i j) (pair-of qs ws₀ made i j) (row-of qs ws₀ made i (j + 1) e) d here next m
 
 -- ---- a row of joins is one turn of the growth of a closure's walks
 pub row-grown : (qs ws : List ℕ) (s count i q e : ℕ) → s ≤ i → i < s + count
-    → adjoin-all triple? (part-of qs ws s count) (row-of qs ws 128 i q e) ≡ grown (part qs ws q e) (part-of qs ws s count) (i - s)
+    → with-new qs ws s count (row-of qs ws 128 i q e) ≡ grown (part qs ws q e) (part-of qs ws s count) (i - s)
 unfolding part-of symbol-numbered
 row-grown qs ws s count i q e a b =
     let z : s + (i - s) ≡ i = omega arith in

@@ -3,15 +3,13 @@
 use mathlib.Core.Path.{_≡_, refl, sym, ap, ap₂, _∙_}
 use mathlib.Core.Bool.{true, _&&_}
 use mathlib.Core.List.{List, [], append-nil}
-use Prim.Native.Nat.{ℕ, _+_, _-_, _<_, _≤_}
+use Prim.Native.Nat.{ℕ, _-_, _<_, _≤_}
 use native.Mathlib.Omega.{arith}
-use Rattle.theory.specs.Lists.{adjoin-all}
-use Rattle.theory.specs.Inference.{Triple, triple?, distinct}
+use Rattle.theory.specs.Inference.{Triple, distinct}
 use Rattle.theory.specs.Narrowing.{short?}
-use Rattle.triples.specs.Parts.{part-of}
 use Rattle.triples.proofs.Growing.{part-kept}
 use Rattle.rules.specs.declared.Part.the-variants.{Made, Many}
-use Rattle.rules.specs.Outcome.{Ruled, Done}
+use Rattle.rules.specs.Outcome.{Ruled, Adds}
 use Rattle.rules.specs.Requirements.{part, rows-of, Unite, AddCopies}
 use Rattle.rules.proofs.TwoLists.{two-union}
 use Rattle.rules.proofs.Short.{short-append, short-distinct}
@@ -34,7 +32,7 @@ module _ {qs ws : List ℕ} {s p d q e : ℕ} (h : Unite qs ws s p d q e) where
   pub first-asks : AddCopies qs ws s 0 p d
   first-asks = record { room = h .two .room; lies = record { ordered = h .two .left .ordered; below = omega (arith, h .two .left .below) } }
 
-  module _ {ws₁ : List ℕ} {a : ℕ} (f : Done qs ws ws₁ (s + 0) s a (adjoin-all triple? (part-of qs ws s 0) (part qs ws p d))) where
+  module _ {ws₁ : List ℕ} {a : ℕ} (f : Adds qs ws ws₁ s 0 a (part qs ws p d)) where
     pub first-many : 128 < a → Ruled qs ws ws₁ s (distinct (rows-of qs ws 129 p d q e)) Many
     first-many m = ruled-many short (grows-many start xs xs ys f refl (two-union xs ys) m) m
 
@@ -45,7 +43,7 @@ module _ {qs ws : List ℕ} {s p d q e : ℕ} (h : Unite qs ws s p d q e) where
       pub second-asks : AddCopies qs ws₁ s a q e
       second-asks = record { room = grows-room grown (h .two .room); lies = record { ordered = h .two .right .ordered; below = omega (arith, h .two .right .below) } }
 
-      module _ {ws₂ : List ℕ} {b : ℕ} (g : Done qs ws₁ ws₂ (s + a) s b (adjoin-all triple? (part-of qs ws₁ s a) (part qs ws₁ q e))) where
+      module _ {ws₂ : List ℕ} {b : ℕ} (g : Adds qs ws₁ ws₂ s a b (part qs ws₁ q e)) where
         here : part qs ws₁ q e ≡ part qs ws q e
         here = part-kept (grown .kept) qs q (e - q) (omega (arith, h .two .right .below, h .two .right .ordered))
 

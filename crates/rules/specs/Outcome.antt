@@ -41,6 +41,10 @@ pub record Done (qs ws ws′ : List ℕ) (u s r : ℕ) (all : List Triple) : Typ
   pub many : 128 < r → 128 < length all
   pub bound : r ≤ 129
 
--- `new` is added to the part of `count` triples from s on, which has come to r triples
+-- the part of `count` triples from s on, and `new` added to it
+abbrev pub with-new : List ℕ → List ℕ → ℕ → ℕ → List Triple → List Triple
+with-new qs ws s count new = adjoin-all triple? (part-of qs ws s count) new
+
+-- it has come to r triples
 abbrev pub Adds : List ℕ → List ℕ → List ℕ → ℕ → ℕ → ℕ → List Triple → Type 0
-Adds qs ws ws′ s count r new = Done qs ws ws′ (s + count) s r (adjoin-all triple? (part-of qs ws s count) new)
+Adds qs ws ws′ s count r new = Done qs ws ws′ (s + count) s r (with-new qs ws s count new)

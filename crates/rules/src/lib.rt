@@ -4,13 +4,11 @@ use triples::Node;
 ghost use mathlib.Core.Path.{_≡_};
 ghost use Prim.Native.Nat.{_+_, _<_, _≤_};
 ghost use lib.ListN.{length};
-ghost use Rattle.theory.specs.Lists.{adjoin-all};
-ghost use Rattle.theory.specs.Inference.{triple?, distinct};
+ghost use Rattle.theory.specs.Inference.{distinct};
 ghost use Rattle.theory.specs.Narrowing.{short?};
 ghost use Rattle.triples.specs.Paths.{Has};
-ghost use Rattle.triples.specs.Parts.{part-of};
 ghost use Rattle.rules.specs.PairRules.{Paired, fitting, giving, ends-of, pair-node, pair-short?};
-ghost use Rattle.rules.specs.Outcome.{Ruled, Done, Adds};
+ghost use Rattle.rules.specs.Outcome.{Ruled, Adds};
 ghost use Rattle.rules.specs.Requirements.{Lies, part, pair-of, row-of, rows-of, Pairing, AddPair, AddRow, AddNewRow, TwoParts, Unite, AddCopies};
 ghost use Rattle.rules.specs.Repeated.{Alike, Repeats};
 ghost use Rattle.rules.specs.EdgeTriples.{edge-at, edges-from, edges-of, leaf-path, AddEdge, AddEdges};
@@ -184,7 +182,7 @@ fn add_pair(
     j: usize,
 ) -> usize
     requires { ⌜ AddPair (now question) (now words) made s count i j ⌝ }
-    ensures { λ r. ⌜ Done (now (question .entry)) (now (words .entry)) (now (words .exit)) (s + count) s r (adjoin-all triple? (part-of (now (question .entry)) (now (words .entry)) s count) (pair-of (now (question .entry)) (now (words .entry)) made i j)) ⌝ }
+    ensures { λ r. ⌜ Adds (now (question .entry)) (now (words .entry)) (now (words .exit)) s count r (pair-of (now (question .entry)) (now (words .entry)) made i j) ⌝ }
 {
     let x = triples::load(words, i);
     let y = triples::load(words, j);
@@ -206,7 +204,7 @@ pub fn add_row(
     e: usize,
 ) -> usize
     requires { ⌜ AddRow (now question) (now words) made s start i q e ⌝ }
-    ensures { λ r. ⌜ Done (now (question .entry)) (now (words .entry)) (now (words .exit)) (s + start) s r (adjoin-all triple? (part-of (now (question .entry)) (now (words .entry)) s start) (row-of (now (question .entry)) (now (words .entry)) made i q e)) ⌝ }
+    ensures { λ r. ⌜ Adds (now (question .entry)) (now (words .entry)) (now (words .exit)) s start r (row-of (now (question .entry)) (now (words .entry)) made i q e) ⌝ }
 {
     let mut count = start;
     let mut j = q;
@@ -233,7 +231,7 @@ fn add_new_row(
     e: usize,
 ) -> usize
     requires { ⌜ AddNewRow (now question) (now words) made s count p i q e ⌝ }
-    ensures { λ r. ⌜ Done (now (question .entry)) (now (words .entry)) (now (words .exit)) (s + count) s r (adjoin-all triple? (part-of (now (question .entry)) (now (words .entry)) s count) (row-of (now (question .entry)) (now (words .entry)) made i q e)) ⌝ }
+    ensures { λ r. ⌜ Adds (now (question .entry)) (now (words .entry)) (now (words .exit)) s count r (row-of (now (question .entry)) (now (words .entry)) made i q e) ⌝ }
 {
     if repeats(words, s + count, question, made, p, i) {
         return count;
@@ -282,7 +280,7 @@ pub fn add_copies(
     e: usize,
 ) -> usize
     requires { ⌜ AddCopies (now question) (now words) s start q e ⌝ }
-    ensures { λ r. ⌜ Done (now (question .entry)) (now (words .entry)) (now (words .exit)) (s + start) s r (adjoin-all triple? (part-of (now (question .entry)) (now (words .entry)) s start) (part (now (question .entry)) (now (words .entry)) q e)) ⌝ }
+    ensures { λ r. ⌜ Adds (now (question .entry)) (now (words .entry)) (now (words .exit)) s start r (part (now (question .entry)) (now (words .entry)) q e) ⌝ }
 {
     let mut count = start;
     let mut j = q;

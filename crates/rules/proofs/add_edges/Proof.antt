@@ -1,11 +1,9 @@
 -- `rules::add_edges` meets its contract: a turn adds the triples from kind a, and those from the kinds after a are what is left to add.
 -- Assumes nothing.
+use Rattle.rules.specs.Outcome.{with-new}
 use Rattle.rules.proofs.Edges.{edges-start, from-asks}
 use Rattle.rules.proofs.Ranging.{Ranging, ranging-turn, ranging-many, ranging-over}
 use Rattle.rules.specs.EdgeTriples.{edges-from, edges-of, leaf-path}
-use Rattle.triples.specs.Parts.{part-of}
-use Rattle.theory.specs.Inference.{triple?}
-use Rattle.theory.specs.Lists.{adjoin-all}
 use borrow.Author.Needs.{needs}
 use Prim.Native.Nat.{_+_, _-_}
 use Rattle.rules.proofs.add_edges.Statement.{statement}
@@ -16,7 +14,7 @@ use Rattle.rules.proofs.add_edges_from.Reads as add-edges-from-reads
 
 abbrev Inv-loop : tie.InvT-loop
 Inv-loop words₀ question matrix kinds node s start count₀ a₀ words count a =
-    Ranging question words₀ words (s + start) s count (adjoin-all triple? (part-of question words₀ s start) (edges-of matrix (leaf-path question node) kinds))
+    Ranging question words₀ words (s + start) s count (with-new question words₀ s start (edges-of matrix (leaf-path question node) kinds))
     (edges-from matrix (leaf-path question node) kinds) a kinds
 
 abbrev μ-loop : tie.MeasureT-loop

@@ -1,11 +1,9 @@
 -- `rules::add_edges_from` meets its contract: a turn adds the triple to kind b, where the matrix has it, and those to the kinds after b are left; a word of 0 has none.
 -- Assumes nothing.
+use Rattle.rules.specs.Outcome.{with-new}
 use Rattle.rules.proofs.Edges.{from-start, from-skipped, edge-asks}
 use Rattle.rules.proofs.Ranging.{Ranging, ranging-turn, ranging-many, ranging-over}
 use Rattle.rules.specs.EdgeTriples.{edge-at, edges-from, leaf-path}
-use Rattle.triples.specs.Parts.{part-of}
-use Rattle.theory.specs.Inference.{triple?}
-use Rattle.theory.specs.Lists.{adjoin-all}
 use borrow.Author.Needs.{needs}
 use Prim.Native.Nat.{_+_, _-_}
 use Rattle.rules.proofs.add_edges_from.Statement.{statement}
@@ -16,7 +14,7 @@ use Rattle.rules.proofs.add_edge.Reads as add-edge-reads
 
 abbrev Inv-loop : tie.InvT-loop
 Inv-loop words₀ question matrix kinds node s start a count₀ b₀ words count b =
-    Ranging question words₀ words (s + start) s count (adjoin-all triple? (part-of question words₀ s start) (edges-from matrix (leaf-path question node) kinds (a .0)))
+    Ranging question words₀ words (s + start) s count (with-new question words₀ s start (edges-from matrix (leaf-path question node) kinds (a .0)))
     (edge-at matrix (leaf-path question node) (a .0)) b kinds
 
 abbrev μ-loop : tie.MeasureT-loop

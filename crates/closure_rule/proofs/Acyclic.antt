@@ -11,7 +11,7 @@ use Rattle.theory.specs.Inference.{Triple, triple, distinct, reach, acyclic?, f
 use Rattle.triples.specs.declared.Node.{Node}
 use Rattle.triples.specs.Table.{Loaded}
 use Rattle.triples.specs.Paths.{triple-of}
-use Rattle.triples.specs.Parts.{Candidate, Added}
+use Rattle.triples.specs.Parts.{Candidate, Added, span}
 use Rattle.triples.proofs.Triples.{triple-kept, triple-from, triple-to}
 use Rattle.triples.proofs.Growing.{part-next, part-over}
 use Rattle.rules.specs.Outcome.{Done}
@@ -27,7 +27,7 @@ pub record AcyclicGrowing (qs ws₀ ws : List ℕ) (s p d count j : ℕ) : Type 
   pub fewer : p + count ≤ j
   pub grows : Growing qs ws₀ ws s s count (distinct (free 64 (part qs ws₀ p d))) (filter (acyclic? (reach 64 (part qs ws₀ p d))) (part qs ws₀ j d))
 
-module _ {qs ws₀ xs : List ℕ} {s p d : ℕ} (h : CopyAcyclic qs ws₀ xs s p d) where
+module _ {qs ws₀ xs : List ℕ} {s p d : ℕ} (h : CopyAcyclic qs ws₀ xs s (span p d)) where
   abbrev test : Triple → Bool
   test = acyclic? (reach 64 (part qs ws₀ p d))
 

@@ -23,7 +23,7 @@ use Rattle.symbols.specs.Symbols.{symbol-numbered}
 use Rattle.rows.specs.Kept.{Kept}
 use Rattle.rows.proofs.Words.{kept-refl, kept-trans}
 use Rattle.triples.specs.Paths.{triple-of, Sound}
-use Rattle.triples.specs.Parts.{part-of}
+use Rattle.triples.specs.Parts.{part-of, span}
 use Rattle.triples.proofs.Growing.{length-part, part-kept}
 use Rattle.rules.specs.Outcome.{Done, Adds}
 use Rattle.rules.specs.Requirements.{part, row-of, AddRow}
@@ -105,7 +105,7 @@ module _ {qs ws₀ : List ℕ} {s f : ℕ} (h : GrowWalks qs ws₀ s f) where
       row-walk : (t : Triple) → In t (row-of qs ws 128 i s (s + f)) → In t (walks 24 fs fs)
       row-walk t m = longer-walk fs (h .short) (g .walk (triple-of qs ws i) at-i) (subst (λ (ys : List Triple). In t ys) row m)
 
-      pub walks-asks : AddRow qs ws 128 s count i s (s + f)
+      pub walks-asks : AddRow qs ws 128 s count i (span s (s + f))
       walks-asks =
           record {
             paired = record { least = omega arith; most = omega arith; no-union = λ e. absurd (omega arith) };

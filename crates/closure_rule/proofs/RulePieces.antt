@@ -15,7 +15,7 @@ use Rattle.algorithms.proofs.Growth.{filter-norepeat, distinct-whole, closure-d
 use Rattle.rows.specs.Kept.{Kept}
 use Rattle.rows.proofs.Words.{kept-trans}
 use Rattle.triples.specs.Paths.{original}
-use Rattle.triples.specs.Parts.{part-of}
+use Rattle.triples.specs.Parts.{part-of, span}
 use Rattle.rules.specs.declared.Part.the-variants.{Made, Many, Long}
 use Rattle.rules.specs.Outcome.{Ruled, Done, Adds, with-new}
 use Rattle.rules.specs.Requirements.{part}
@@ -26,7 +26,7 @@ use Rattle.kind_graph.specs.Sizes.{Part}
 use Rattle.closure_rule.specs.Requirements.{Closing, CopyAcyclic, GrowWalks, kept-node}
 use Rattle.closure_rule.proofs.Keeping.{copied-size, kept-leaf, kept-edges}
 
-module _ {qs ws₀ : List ℕ} {s p d o n : ℕ} (h : Closing qs ws₀ s p d o n) where
+module _ {qs ws₀ : List ℕ} {s p d o n : ℕ} (h : Closing qs ws₀ s (span p d) o n) where
   abbrev ts : List Triple
   ts = part qs ws₀ p d
 
@@ -39,7 +39,7 @@ module _ {qs ws₀ : List ℕ} {s p d o n : ℕ} (h : Closing qs ws₀ s p d o n
   abbrev all : List Triple
   all = distinct (of-closure 64 path ts)
 
-  pub rule-copies : {xs : List ℕ} → KindGraph (part qs ws₀ p d) xs → CopyAcyclic qs ws₀ xs s p d
+  pub rule-copies : {xs : List ℕ} → KindGraph (part qs ws₀ p d) xs → CopyAcyclic qs ws₀ xs s (span p d)
   rule-copies l = record { room = h .room; lies = h .lies; few = h .few; linked = l }
 
   module _ {ws₁ : List ℕ} {f : ℕ} (c : Done qs ws₀ ws₁ s s f (distinct (free 64 (part qs ws₀ p d))) × (f ≤ 128)) where
@@ -49,7 +49,7 @@ module _ {qs ws₀ : List ℕ} {s p d o n : ℕ} (h : Closing qs ws₀ s p d o n
     part-is : part-of qs ws₁ s f ≡ fs
     part-is = c .0 .few (c .1) ∙ distinct-whole fs norepeat
 
-    pub rule-walks : Part qs ws₁ s (s + f)
+    pub rule-walks : Part qs ws₁ (span s (s + f))
     rule-walks = record { sound = c .0 .sound; in-table = omega (arith, h .room .room, c .0 .kept .len); ordered = omega arith }
 
     module _ {r : Bool} (k : r ≡ short? (walks 24 (part-of qs ws₁ s (s + f - s)) (part-of qs ws₁ s (s + f - s)))) where

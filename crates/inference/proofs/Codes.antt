@@ -22,7 +22,7 @@ use Rattle.rules.specs.Outcome.{Ruled}
 use Rattle.rules.proofs.TwoLists.{two-join, two-op}
 use Rattle.rules.proofs.SheetSteps.{marks-step}
 use Rattle.kind_graph.proofs.WiderGraph.{closure-wider}
-use Rattle.inference.specs.declared.Span.{Span}
+use Rattle.inference.specs.declared.Operand.{Operand}
 use Rattle.inference.specs.Turns.{of-code, origin-of}
 use Rattle.inference.specs.Questions.{Sheeted}
 
@@ -40,7 +40,7 @@ unfolding arity
 arity-two c l m = rw (le-ltb c 128 l, ne-eqb c 133 (omega arith))
 
 -- ---- where the symbols of its part start
-module _ (c i : ℕ) (x : Span) where
+module _ (c i : ℕ) (x : Operand) where
   pub origin-step : c < 128 → origin-of c i x ≡ i
   unfolding origin-of
   origin-step l = rw (lt-ltb c 128 l)

@@ -23,18 +23,19 @@ use Rattle.question.specs.Form.{question-symbols}
 use Rattle.rows.specs.Kept.{Kept}
 use Rattle.rows.proofs.Words.{kept-refl, kept-trans}
 use Rattle.triples.specs.Paths.{original}
+use Rattle.triples.specs.Parts.{span, triples-in}
 use Rattle.rules.specs.declared.Part.{Part}
 use Rattle.rules.specs.declared.Part.the-variants.{Made, Many, Long}
 use Rattle.rules.specs.Outcome.{outcome, fault-of, Ruled}
 use Rattle.rules.proofs.RuleOutcome.{outcome-fault}
-use Rattle.inference.specs.declared.Span.{Span}
+use Rattle.inference.specs.declared.Operand.{Operand}
 use Rattle.inference.specs.declared.Inferred.the-variants.{Triples, Refused}
-use Rattle.inference.specs.Turns.{triples-in, of-code, made-of, origin-of}
+use Rattle.inference.specs.Turns.{of-code, made-of, origin-of}
 use Rattle.inference.specs.Questions.{symbols-of, Asking, Sheeted, Nodes, Infers}
-use Rattle.inference.proofs.Stacks.{Standing, standing-new, no-span, Stacked, bottom, above, stacked-kept, stacked-set}
+use Rattle.inference.proofs.Stacks.{Standing, standing-new, no-operand, Stacked, bottom, above, stacked-kept, stacked-set}
 use Rattle.inference.proofs.Turning.{symbols-from, from-next, of-next, Running, Turn, turn-at}
 
-pub running-start : {qs ws t : List ℕ} {count K : ℕ} (h : Asking qs ws count K) → Running qs ws ws t count K (h .path) (replicate 33 no-span) 0 0 0
+pub running-start : {qs ws t : List ℕ} {count K : ℕ} (h : Asking qs ws count K) → Running qs ws ws t count K (h .path) (replicate 33 no-operand) 0 0 0
 running-start {qs} {ws} {t} {count} h =
     record {
       kept = kept-refl 0 4097 ws;
@@ -51,21 +52,21 @@ running-start {qs} {ws} {t} {count} h =
       left = λ S r o. refl;
     }
 
-module _ {qs ws₀ ws t : List ℕ} {count K depth used i : ℕ} {xs : List Span} (h : Asking qs ws₀ count K) (g : Running qs ws₀ ws t count K (h .path) xs depth used i) where
+module _ {qs ws₀ ws t : List ℕ} {count K depth used i : ℕ} {xs : List Operand} (h : Asking qs ws₀ count K) (g : Running qs ws₀ ws t count K (h .path) xs depth used i) where
   -- ---- a symbol, which takes k operands
   module _ (l : i < count) {k : ℕ} (takes : k ≡ arity (getD qs i 0)) {ws′ : List ℕ} {r : Part}
-      (f : Ruled qs ws ws′ used (made-of qs ws t K (getD qs i 0) i (getD xs (depth - k) no-span) (getD xs (depth - k + 1) no-span)) r) where
+      (f : Ruled qs ws ws′ used (made-of qs ws t K (getD qs i 0) i (getD xs (depth - k) no-operand) (getD xs (depth - k + 1) no-operand)) r) where
     abbrev b : ℕ
     b = depth - k
 
     abbrev u : Turn qs ws t K xs (g .stack) (getD qs i 0) depth used i b
     u = turn-at h g l takes
 
-    abbrev x : Span
-    x = getD xs b no-span
+    abbrev x : Operand
+    x = getD xs b no-operand
 
     abbrev given : List Triple
-    given = of-code t K (getD qs i 0) (original qs (x .from) (i - x .from)) (triples-in qs ws x) (triples-in qs ws (getD xs (b + 1) no-span))
+    given = of-code t K (getD qs i 0) (original qs (x .from) (i - x .from)) (triples-in qs ws (x .nodes)) (triples-in qs ws (getD xs (b + 1) no-operand .nodes))
 
     abbrev ss : List Symbol
     ss = symbols-from qs count (i + 1)
@@ -108,16 +109,16 @@ module _ {qs ws₀ ws t : List ℕ} {count K depth used i : ℕ} {xs : List Span
     pub running-long : r ≡ Long → Infers qs ws₀ ws′ t count K (Refused (TooLong i))
     running-long e = refuses (TooLong i) (λ o. ap (λ (a : Part). unless (fault-of a) i o) e)
 
-    pub running-more : {n o : ℕ} → r ≡ Made n → o ≡ origin-of (getD qs i 0) i (getD xs b no-span)
-        → Running qs ws₀ ws′ t count K (h .path) (set xs b (record { start = used; end = used + n; from = o })) (b + 1) (used + n) (i + 1)
+    pub running-more : {n o : ℕ} → r ≡ Made n → o ≡ origin-of (getD qs i 0) i (getD xs b no-operand)
+        → Running qs ws₀ ws′ t count K (h .path) (set xs b (record { nodes = span used (used + n); from = o })) (b + 1) (used + n) (i + 1)
     running-more {n} {o} e at =
         record {
           kept = kept-more;
           stack = st;
           deep = omega (arith, u .deep);
           stacked = above
-              (subst (λ (y : Span). Standing qs ws′ t K (used + n) y (u .top)) placed (standing-new given f e (u .is)))
-              (ap (λ (y : Span). y .from) (sym placed) ∙ at ∙ u .origin)
+              (subst (λ (y : Operand). Standing qs ws′ t K (used + n) y (u .top)) placed (standing-new given f e (u .is)))
+              (ap (λ (y : Operand). y .from) (sym placed) ∙ at ∙ u .origin)
               (stacked-set b new (omega (arith, u .deep)) (stacked-kept (f .kept) (omega arith) (u .stacked)));
           sound = f .sound n e;
           small = omega (arith, g .small, f .few n e);
@@ -132,11 +133,11 @@ module _ {qs ws₀ ws t : List ℕ} {count K depth used i : ℕ} {xs : List Span
           left = λ S k a. sym (by-outcome S k a ∙ ap (λ (p : Part). unless (fault-of p) i (refuse (part-fault S) (i + 1) (ended ss st) a)) e);
         }
       where
-        new : Span
-        new = record { start = used; end = used + n; from = o }
+        new : Operand
+        new = record { nodes = span used (used + n); from = o }
 
-        placed : new ≡ getD (set xs b new) (length (u .below)) no-span
-        placed = sym (ap (λ (k : ℕ). getD (set xs b new) k no-span) (sym (u .deep)) ∙ getD-set-same xs b new no-span (omega (arith, g .long, g .fewer, u .takes, h .few)))
+        placed : new ≡ getD (set xs b new) (length (u .below)) no-operand
+        placed = sym (ap (λ (k : ℕ). getD (set xs b new) k no-operand) (sym (u .deep)) ∙ getD-set-same xs b new no-operand (omega (arith, g .long, g .fewer, u .takes, h .few)))
 
   -- ---- the end
   module _ (l : count ≤ i) where
@@ -146,27 +147,27 @@ module _ {qs ws₀ ws t : List ℕ} {count K depth used i : ℕ} {xs : List Span
     alone : g .stack ≡ h .path ∷ []
     alone = let e = ap (λ (ks : List Symbol). read ks (g .stack)) (sym none-left) ∙ g .ahead in cc
 
-    last : Stacked qs ws t K used xs (h .path ∷ []) → Standing qs ws t K used (getD xs 0 no-span) (h .path)
+    last : Stacked qs ws t K used xs (h .path ∷ []) → Standing qs ws t K used (getD xs 0 no-operand) (h .path)
     last (above w e below) = w
 
-    pub running-end : Infers qs ws₀ ws t count K (Triples (getD xs 0 no-span .start) (getD xs 0 no-span .end))
+    pub running-end : Infers qs ws₀ ws t count K (Triples (getD xs 0 no-operand .nodes .start) (getD xs 0 no-operand .nodes .end))
     running-end =
         record {
           kept = g .kept;
           nodes = λ s e z.
-              let a : getD xs 0 no-span .start ≡ s = cc in
-              let b : getD xs 0 no-span .end ≡ e = cc in
-              subst (λ (k : ℕ). Nodes qs ws k e) a (subst (Nodes qs ws (getD xs 0 no-span .start)) b nodes);
+              let a : getD xs 0 no-operand .nodes .start ≡ s = cc in
+              let b : getD xs 0 no-operand .nodes .end ≡ e = cc in
+              subst (λ (k : ℕ). Nodes qs ws k e) a (subst (Nodes qs ws (getD xs 0 no-operand .nodes .start)) b nodes);
           found = λ S k q m. let e : h .path ≡ q = cc in (
             λ o. sym (g .left S k o) ∙ ap (λ (ks : List Symbol). refuse (part-fault S) i (ended ks (g .stack)) o) none-left,
             top .is S k ∙ ap (triples S) e,
           );
         }
       where
-        top : Standing qs ws t K used (getD xs 0 no-span) (h .path)
+        top : Standing qs ws t K used (getD xs 0 no-operand) (h .path)
         top = last (subst (Stacked qs ws t K used xs) alone (g .stacked))
 
-        nodes : Nodes qs ws (getD xs 0 no-span .start) (getD xs 0 no-span .end)
+        nodes : Nodes qs ws (getD xs 0 no-operand .nodes .start) (getD xs 0 no-operand .nodes .end)
         nodes =
             record {
               ordered = top .lies .ordered;

@@ -23,12 +23,12 @@ use Rattle.triples.specs.Paths.{Sound}
 use Rattle.triples.proofs.Codes.{step-numbered, closure-numbered}
 use Rattle.rules.specs.PairRules.{of-two}
 use Rattle.rules.specs.Requirements.{Room}
-use Rattle.inference.specs.declared.Span.{Span}
+use Rattle.inference.specs.declared.Operand.{Operand}
 use Rattle.inference.specs.Turns.{made-of, origin-of, TurnAsks}
 use Rattle.inference.specs.Questions.{symbols-of, Asking, Sheeted}
 use Rattle.inference.proofs.Codes.{arity-step, arity-closure, arity-two, origin-step, origin-operator, of-step-code, of-closure-code, of-two-code, binary, step-triples, closure-triples}
 use Rattle.inference.proofs.Originals.{symbols-length, top-back, top-original, top-copied}
-use Rattle.inference.proofs.Stacks.{Standing, no-span, Stacked, above, one-found, two-found}
+use Rattle.inference.proofs.Stacks.{Standing, no-operand, Stacked, above, one-found, two-found}
 
 -- ---- the symbols
 -- those from the i-th on
@@ -42,7 +42,7 @@ pub of-next : (qs : List ℕ) (i : ℕ) → i < length qs → symbols-of qs (i +
 of-next qs i l = rw (add-one i) (ap question-symbols (take-suc qs i 0 l) ∙ map-append _ (take i qs) (getD qs i 0 ∷ []))
 
 -- ---- what holds at the loop's head: i symbols are read, and the rest makes the path and has what is left of the refusals
-pub record Running (qs ws₀ ws t : List ℕ) (count K : ℕ) (path : PathExpr) (xs : List Span) (depth used i : ℕ) : Type 0 where
+pub record Running (qs ws₀ ws t : List ℕ) (count K : ℕ) (path : PathExpr) (xs : List Operand) (depth used i : ℕ) : Type 0 where
   pub kept : Kept 0 4097 ws₀ ws
   pub stack : Stack
   pub deep : depth ≡ length stack
@@ -57,18 +57,18 @@ pub record Running (qs ws₀ ws t : List ℕ) (count K : ℕ) (path : PathExpr) 
   pub left : (S : Sheet) → Sheeted t K S → (o : Narrowing) → refuse (part-fault S) i (ended (symbols-from qs count i) stack) o ≡ refuse (part-fault S) 0 (ended (symbols-of qs count) []) o
 
 -- ---- the symbol with code c takes the parts from b on, which leaves the stack `below`, and makes the path `top`
-pub record Turn (qs ws t : List ℕ) (K : ℕ) (xs : List Span) (st : Stack) (c depth used i b : ℕ) : Type 0 where
+pub record Turn (qs ws t : List ℕ) (K : ℕ) (xs : List Operand) (st : Stack) (c depth used i b : ℕ) : Type 0 where
   pub below : Stack
   pub top : PathExpr
   pub pushes : push (symbol-numbered c 0) st ≡ some (top ∷ below)
   pub takes : depth ≡ b + arity c
   pub deep : b ≡ length below
   pub stacked : Stacked qs ws t K used xs below
-  pub origin : origin-of c i (getD xs b no-span) ≡ length (symbols below)
-  pub asks : TurnAsks qs ws K c used i (getD xs b no-span) (getD xs (b + 1) no-span)
-  pub is : (S : Sheet) → Sheeted t K S → made-of qs ws t K c i (getD xs b no-span) (getD xs (b + 1) no-span) ≡ triples S top
+  pub origin : origin-of c i (getD xs b no-operand) ≡ length (symbols below)
+  pub asks : TurnAsks qs ws K c used i (getD xs b no-operand) (getD xs (b + 1) no-operand)
+  pub is : (S : Sheet) → Sheeted t K S → made-of qs ws t K c i (getD xs b no-operand) (getD xs (b + 1) no-operand) ≡ triples S top
 
-module _ {qs ws₀ ws t : List ℕ} {count K depth used i : ℕ} {xs : List Span} (h : Asking qs ws₀ count K) (g : Running qs ws₀ ws t count K (h .path) xs depth used i) (l : i < count) where
+module _ {qs ws₀ ws t : List ℕ} {count K depth used i : ℕ} {xs : List Operand} (h : Asking qs ws₀ count K) (g : Running qs ws₀ ws t count K (h .path) xs depth used i) (l : i < count) where
   abbrev c : ℕ
   c = getD qs i 0
 
@@ -121,7 +121,7 @@ module _ {qs ws₀ ws t : List ℕ} {count K depth used i : ℕ} {xs : List Span
 
   closure-over : c ≡ 133 → (p : PathExpr) (rest : Stack) → g .stack ≡ p ∷ rest → Stacked qs ws t K used xs (p ∷ rest) → T (depth - arity c)
   closure-over q p rest e (above w f below) =
-      let o = getD xs (length rest) no-span .from in
+      let o = getD xs (length rest) no-operand .from in
       let so-far : symbols (p ∷ rest) ≡ symbols-of qs i = ap symbols (sym e) ∙ g .so-far in
       let back : o ≤ i = top-back qs p rest o i in-array so-far f in
       let d : length rest ≡ depth - arity c = omega (arith, arity-closure c q, g .deep, ap length e) in
@@ -162,7 +162,7 @@ module _ {qs ws₀ ws t : List ℕ} {count K depth used i : ℕ} {xs : List Span
 
   two-over : (m : 128 ≤ c) (n : c < 133) (q p : PathExpr) (rest : Stack) → g .stack ≡ q ∷ p ∷ rest → Stacked qs ws t K used xs (q ∷ p ∷ rest) → T (depth - arity c)
   two-over m n q p rest e (above v₀ f₀ (above w f below)) =
-      let v = subst (λ (k : ℕ). Standing qs ws t K used (getD xs k no-span) q) (sym (add-one (length rest))) v₀ in
+      let v = subst (λ (k : ℕ). Standing qs ws t K used (getD xs k no-operand) q) (sym (add-one (length rest))) v₀ in
       let d : length rest ≡ depth - arity c = omega (arith, arity-two c m n, g .deep, ap length e) in
       subst T d (record {
         below = rest;

@@ -1,6 +1,7 @@
 // The triples of a question, symbol by symbol, over the table of nodes.
 use fields::Refusal;
 use rules::Part;
+use triples::Span;
 ghost use mathlib.Core.Path.{_≡_};
 ghost use Rattle.rules.specs.Outcome.{Ruled};
 ghost use Rattle.inference.specs.Turns.{TurnAsks, origin-of, made-of};
@@ -13,10 +14,9 @@ pub enum Inferred {
     Refused(Refusal),
 }
 
-// A part of the question: its nodes from `start` up to `end`, and where its symbols start.
-pub struct Span {
-    pub start: usize,
-    pub end: usize,
+// A part of the question: its nodes, and where its symbols start.
+pub struct Operand {
+    pub nodes: Span,
     pub from: usize,
 }
 
@@ -24,9 +24,8 @@ pub struct Span {
 const STACK: usize = question::MOST_SYMBOLS + 1;
 
 // No part yet.
-const NONE: Span = Span {
-    start: 0,
-    end: 0,
+const NONE: Operand = Operand {
+    nodes: Span { start: 0, end: 0 },
     from: 0,
 };
 
@@ -39,8 +38,8 @@ fn rule(
     c: u8,
     used: usize,
     i: usize,
-    x: Span,
-    y: Span,
+    x: Operand,
+    y: Operand,
 ) -> Part
     requires { ⌜ TurnAsks (now question) (now words) kinds c used i x y ⌝ }
     ensures { λ r. ⌜ Ruled (now (question .entry)) (now (words .entry)) (now (words .exit)) used (made-of (now (question .entry)) (now (words .entry)) (now (table .entry)) kinds c i x y) r ⌝ }
@@ -49,33 +48,16 @@ fn rule(
         return rules::step_rule(words, question, table, kinds, c as usize, used);
     }
     if c == symbols::CLOSURE {
-        return closure_rule::closure_rule(
-            words,
-            question,
-            used,
-            x.start,
-            x.end,
-            x.from,
-            i - x.from,
-        );
+        return closure_rule::closure_rule(words, question, used, x.nodes, x.from, i - x.from);
     }
     if c == symbols::UNION {
-        return rules::union_rule(words, question, used, x.start, x.end, y.start, y.end);
+        return rules::union_rule(words, question, used, x.nodes, y.nodes);
     }
-    rules::pair_rule(
-        words,
-        question,
-        c as usize,
-        used,
-        x.start,
-        x.end,
-        y.start,
-        y.end,
-    )
+    rules::pair_rule(words, question, c as usize, used, x.nodes, y.nodes)
 }
 
 // Where the symbols of the new part start: a step's here, an operator's where those of its first operand do.
-fn origin(c: u8, i: usize, x: Span) -> usize
+fn origin(c: u8, i: usize, x: Operand) -> usize
     ensures { λ r. ⌜ r ≡ origin-of c i x ⌝ }
 {
     if c < symbols::STEPS {
@@ -111,9 +93,12 @@ pub fn infer(
                 return Inferred::Refused(Refusal::TooMany(i));
             }
             Part::Made(n) => {
-                parts[b] = Span {
+                let nodes = Span {
                     start: used,
                     end: used + n,
+                };
+                parts[b] = Operand {
+                    nodes,
                     from: origin(c, i, x),
                 };
                 depth = b + 1;
@@ -122,5 +107,6 @@ pub fn infer(
         }
     }
     let q = parts[0];
-    Inferred::Triples(q.start, q.end)
+    let nodes = q.nodes;
+    Inferred::Triples(nodes.start, nodes.end)
 }

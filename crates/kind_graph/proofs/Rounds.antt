@@ -20,7 +20,7 @@ use Rattle.rows.proofs.Words.{le-or-lt}
 use Rattle.triples.specs.declared.Node.{Node}
 use Rattle.triples.specs.Table.{Loaded}
 use Rattle.triples.specs.Paths.{triple-of}
-use Rattle.triples.specs.Parts.{part-of}
+use Rattle.triples.specs.Parts.{part-of, span}
 use Rattle.triples.proofs.Triples.{triple-from, triple-to}
 use Rattle.triples.proofs.Growing.{part-next, part-over}
 use Rattle.kind_graph.specs.Sizes.{Part, largest, to-kind, extended, size-of, weight, Raised, Raising, AtMost, Small}
@@ -68,7 +68,7 @@ round-turn {w} {all} {rest} {t} later {xs} {ys} {zs} {k} {v} r e kt vt d =
           omega arith);
     }
 
-module _ {qs ws : List ℕ} {s e : ℕ} (h : Part qs ws s e) where
+module _ {qs ws : List ℕ} {s e : ℕ} (h : Part qs ws (span s e)) where
   abbrev from : ℕ → List Triple
   from i = part-of qs ws i (e - i)
 

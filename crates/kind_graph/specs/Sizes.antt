@@ -7,14 +7,19 @@ use Prim.Native.Nat.{ℕ, zero, suc, _+_, _≤_, max}
 use lib.Dec.{eqb}
 use lib.ListN.{length, getD}
 use Rattle.theory.specs.PathExpr.{size}
-use Rattle.theory.specs.Inference.{Triple}
+use Rattle.theory.specs.Inference.{Triple, walks}
+use Rattle.triples.specs.declared.Span.{Span}
 use Rattle.triples.specs.Paths.{Sound}
 
--- the nodes from s to e of a sound table
-pub record Part (qs ws : List ℕ) (s e : ℕ) : Type 0 where
-  pub sound : Sound qs ws e
-  pub in-table : e ≤ length ws
-  pub ordered : s ≤ e
+-- the nodes xs of a sound table
+pub record Part (qs ws : List ℕ) (xs : Span) : Type 0 where
+  pub sound : Sound qs ws (xs .end)
+  pub in-table : xs .end ≤ length ws
+  pub ordered : xs .start ≤ xs .end
+
+-- all walks over the triples ts whose sizes are asked for
+abbrev pub all-walks : List Triple → List Triple
+all-walks ts = walks 24 ts ts
 
 -- ---- weights
 abbrev pub largest : (Triple → ℕ) → List Triple → ℕ

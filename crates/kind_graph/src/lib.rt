@@ -1,15 +1,15 @@
 // What the rule of a closure asks of the graph of a part's kinds, and whether its walks are short.
 use fields::Kind;
+use triples::Span;
 ghost use mathlib.Core.Path.{_≡_};
-ghost use Prim.Native.Nat.{_-_, _<_, _≤_};
+ghost use Prim.Native.Nat.{_<_, _≤_};
 ghost use lib.ListN.{length};
-ghost use Rattle.theory.specs.Inference.{walks};
 ghost use Rattle.theory.specs.Narrowing.{short?};
 ghost use Rattle.rows.specs.Row.{row-bit, Row, mask-of};
 ghost use Rattle.triples.specs.Tests.{Decides};
-ghost use Rattle.triples.specs.Parts.{part-of};
+ghost use Rattle.triples.specs.Parts.{triples-in};
 ghost use Rattle.kind_graph.specs.Kinds.{Edges, KindGraph, TellsAcyclic};
-ghost use Rattle.kind_graph.specs.Sizes.{Part, extended, size-of, weight, Raised, Raising, AtMost, Small};
+ghost use Rattle.kind_graph.specs.Sizes.{Part, all-walks, extended, size-of, weight, Raised, Raising, AtMost, Small};
 
 // How many kinds there are: a graph of them has a word for each.
 pub const KINDS: usize = fields::KINDS as usize;
@@ -20,14 +20,14 @@ pub const GRAPH: usize = 2 * KINDS;
 // The most triples of a walk whose size is still asked for, but the first: one of more has more than 48 symbols.
 const ROUNDS: usize = 24;
 
-// Sets bit (from, to) for each triple of the nodes s to e.
-fn edges(words: &[u64], question: &[u8], s: usize, e: usize, work: &mut [u64])
-    requires { ⌜ (s ≤ e) × (e ≤ length (now words)) × (length (now work) ≡ 128) ⌝ }
-    ensures { λ _. ⌜ Edges (part-of (now (question .entry)) (now (words .entry)) s (e - s)) (now (work .exit)) ⌝ }
+// Sets bit (from, to) for each triple of the nodes xs.
+fn edges(words: &[u64], question: &[u8], xs: Span, work: &mut [u64])
+    requires { ⌜ (xs .start ≤ xs .end) × (xs .end ≤ length (now words)) × (length (now work) ≡ 128) ⌝ }
+    ensures { λ _. ⌜ Edges (triples-in (now (question .entry)) (now (words .entry)) xs) (now (work .exit)) ⌝ }
 {
     rows::clear(work, 0, KINDS);
-    let mut i = s;
-    while i < e {
+    let mut i = xs.start;
+    while i < xs.end {
         let x = triples::load(words, i);
         relation::set_pair(work, 0, KINDS, 1, x.from.0 as usize, x.to.0 as usize);
         i += 1;
@@ -56,14 +56,14 @@ fn double(work: &mut [u64])
     rows::copy(work, KINDS, &half, 0, KINDS);
 }
 
-// Word 64 + a: the kinds to which a walk over the nodes from s to e leads from kind a.
+// Word 64 + a: the kinds to which a walk over the nodes xs leads from kind a.
 // Word a: those to which one leads that meets a cyclic kind.
-pub fn graph(words: &[u64], question: &[u8], s: usize, e: usize, work: &mut [u64])
-    requires { ⌜ (s ≤ e) × (e ≤ length (now words)) × (length (now work) ≡ 128) ⌝ }
-    ensures { λ _. ⌜ KindGraph (part-of (now (question .entry)) (now (words .entry)) s (e - s)) (now (work .exit)) ⌝ }
+pub fn graph(words: &[u64], question: &[u8], xs: Span, work: &mut [u64])
+    requires { ⌜ (xs .start ≤ xs .end) × (xs .end ≤ length (now words)) × (length (now work) ≡ 128) ⌝ }
+    ensures { λ _. ⌜ KindGraph (triples-in (now (question .entry)) (now (words .entry)) xs) (now (work .exit)) ⌝ }
 {
     let mut mask = [0u64; 1];
-    edges(words, question, s, e, work);
+    edges(words, question, xs, work);
     transitive_closure::closure(work, 0, KINDS, 1);
     cyclic(&mut mask, work);
     double(work);
@@ -105,13 +105,13 @@ fn extend(m: u64, size: usize) -> u64
     m + (size as u64) + 1
 }
 
-// The largest path of the nodes from s to e, for each kind that they end in.
-fn first_round(words: &[u64], question: &[u8], s: usize, e: usize, next: &mut [u64])
-    requires { ⌜ Part (now question) (now words) s e × (length (now next) ≡ 64) ⌝ }
-    ensures { λ _. ⌜ Raising size-of (part-of (now (question .entry)) (now (words .entry)) s (e - s)) (now (next .entry)) (now (next .exit)) ⌝ }
+// The largest path of the nodes xs, for each kind that they end in.
+fn first_round(words: &[u64], question: &[u8], xs: Span, next: &mut [u64])
+    requires { ⌜ Part (now question) (now words) xs × (length (now next) ≡ 64) ⌝ }
+    ensures { λ _. ⌜ Raising size-of (triples-in (now (question .entry)) (now (words .entry)) xs) (now (next .entry)) (now (next .exit)) ⌝ }
 {
-    let mut i = s;
-    while i < e {
+    let mut i = xs.start;
+    while i < xs.end {
         let x = triples::load(words, i);
         raise(next, x.to, x.size as u64);
         i += 1;
@@ -119,12 +119,12 @@ fn first_round(words: &[u64], question: &[u8], s: usize, e: usize, next: &mut [u
 }
 
 // The same of walks with one triple more, by the sizes in `best` of those without.
-fn round(words: &[u64], question: &[u8], s: usize, e: usize, best: &[u64], next: &mut [u64])
-    requires { ⌜ Part (now question) (now words) s e × (length (now best) ≡ 64) × (length (now next) ≡ 64) × Small (now best) ⌝ }
-    ensures { λ _. ⌜ Raising (weight (now (best .entry))) (part-of (now (question .entry)) (now (words .entry)) s (e - s)) (now (next .entry)) (now (next .exit)) ⌝ }
+fn round(words: &[u64], question: &[u8], xs: Span, best: &[u64], next: &mut [u64])
+    requires { ⌜ Part (now question) (now words) xs × (length (now best) ≡ 64) × (length (now next) ≡ 64) × Small (now best) ⌝ }
+    ensures { λ _. ⌜ Raising (weight (now (best .entry))) (triples-in (now (question .entry)) (now (words .entry)) xs) (now (next .entry)) (now (next .exit)) ⌝ }
 {
-    let mut i = s;
-    while i < e {
+    let mut i = xs.start;
+    while i < xs.end {
         let x = triples::load(words, i);
         let k = x.from.0 as usize;
         raise(next, x.to, extend(best[k], x.size));
@@ -146,13 +146,13 @@ fn at_most(best: &[u64], m: u64) -> bool
     true
 }
 
-// Has each walk over the nodes from s to e a path of at most 48 symbols? One of more than 25 triples has more; where there is none of n, there is none of more.
-pub fn walks_short(words: &[u64], question: &[u8], s: usize, e: usize) -> bool
-    requires { ⌜ Part (now question) (now words) s e ⌝ }
-    ensures { λ r. ⌜ r ≡ short? (walks 24 (part-of (now (question .entry)) (now (words .entry)) s (e - s)) (part-of (now (question .entry)) (now (words .entry)) s (e - s))) ⌝ }
+// Has each walk over the nodes xs a path of at most 48 symbols? One of more than 25 triples has more; where there is none of n, there is none of more.
+pub fn walks_short(words: &[u64], question: &[u8], xs: Span) -> bool
+    requires { ⌜ Part (now question) (now words) xs ⌝ }
+    ensures { λ r. ⌜ r ≡ short? (all-walks (triples-in (now (question .entry)) (now (words .entry)) xs)) ⌝ }
 {
     let mut best = [0u64; KINDS];
-    first_round(words, question, s, e, &mut best);
+    first_round(words, question, xs, &mut best);
     if !at_most(&best, 48) {
         return false;
     }
@@ -162,7 +162,7 @@ pub fn walks_short(words: &[u64], question: &[u8], s: usize, e: usize) -> bool
             return true;
         }
         let mut next = [0u64; KINDS];
-        round(words, question, s, e, &best, &mut next);
+        round(words, question, xs, &best, &mut next);
         if !at_most(&next, 48) {
             return false;
         }

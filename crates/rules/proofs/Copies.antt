@@ -14,7 +14,7 @@ use Rattle.rows.proofs.Words.{le-or-lt, kept-set}
 use Rattle.triples.specs.declared.Node.{Node}
 use Rattle.triples.specs.Table.{word-of, InRange, Loaded, node-at}
 use Rattle.triples.specs.Paths.{original, triple-of, Good, Has}
-use Rattle.triples.specs.Parts.{Candidate, Added}
+use Rattle.triples.specs.Parts.{Candidate, Added, span}
 use Rattle.triples.proofs.Words.{node-new}
 use Rattle.triples.proofs.Triples.{triple-two, triple-from, triple-to, triple-kept, path-step, path-kept}
 use Rattle.triples.proofs.Codes.{step-numbered, closure-numbered}
@@ -111,7 +111,7 @@ pub record CopiesGrowing (qs ws₀ ws : List ℕ) (s start count q e j : ℕ) : 
   pub to : j ≤ e
   pub grows : Growing qs ws₀ ws (s + start) s count (with-new qs ws₀ s start (part qs ws₀ q e)) (part qs ws₀ j e)
 
-module _ {qs ws₀ : List ℕ} {s start q e : ℕ} (h : AddCopies qs ws₀ s start q e) where
+module _ {qs ws₀ : List ℕ} {s start q e : ℕ} (h : AddCopies qs ws₀ s start (span q e)) where
   pub copies-start : CopiesGrowing qs ws₀ ws₀ s start start q e q
   copies-start = record { to = h .lies .ordered; grows = grows-start (part qs ws₀ q e) (h .room) }
 

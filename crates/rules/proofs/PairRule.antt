@@ -12,7 +12,7 @@ use Rattle.theory.specs.Narrowing.{short?}
 use Rattle.theory.proofs.Distinct.{adjoin-all-old, adjoin-all-new}
 use Rattle.theory.proofs.Triples.{triple-eq}
 use Rattle.rows.proofs.Words.{kept-refl}
-use Rattle.triples.specs.Parts.{part-of}
+use Rattle.triples.specs.Parts.{part-of, span}
 use Rattle.triples.proofs.Triples.{triple-kept}
 use Rattle.triples.proofs.Growing.{part-kept}
 use Rattle.rules.specs.declared.Part.the-variants.{Made, Many, Long}
@@ -32,11 +32,11 @@ pub record RowsGrowing (qs ws₀ ws : List ℕ) (made s count p d q e i : ℕ) :
   pub short : short? (rows-of qs ws₀ made i d q e) ≡ true
   pub stand : (j : ℕ) → p ≤ j → j < i → (t : Triple) → In t (row-of qs ws₀ made j q e) → In t (part-of qs ws s count)
 
-module _ {qs ws₀ : List ℕ} {made s p d q e : ℕ} (b : Paired made) (h : TwoParts qs ws₀ s p d q e) where
+module _ {qs ws₀ : List ℕ} {made s p d q e : ℕ} (b : Paired made) (h : TwoParts qs ws₀ s (span p d) (span q e)) where
   abbrev cs : List Triple
   cs = rows-of qs ws₀ made p d q e
 
-  pub rule-table : Pairing qs ws₀ made s × Lies s p d × Lies s q e
+  pub rule-table : Pairing qs ws₀ made s × Lies s (span p d) × Lies s (span q e)
   rule-table =
       let z : s + 0 ≡ s = omega arith in
       (record { paired = b; sound = rw z at (h .room .sound); in-table = omega (arith, h .room .room) }, h .left, h .right)
@@ -64,7 +64,7 @@ module _ {qs ws₀ : List ℕ} {made s p d q e : ℕ} (b : Paired made) (h : Two
       here : row-of qs ws made i q e ≡ row-of qs ws₀ made i q e
       here = same-row i l
 
-      asks-row : AddRow qs ws made s count i q e
+      asks-row : AddRow qs ws made s count i (span q e)
       asks-row =
           record {
             paired = b;
@@ -74,7 +74,7 @@ module _ {qs ws₀ : List ℕ} {made s p d q e : ℕ} (b : Paired made) (h : Two
             short = ap short? here ∙ short-left (row-of qs ws₀ made i q e) (rows-of qs ws₀ made (i + 1) d q e) split;
           }
 
-      pub rule-asks : AddNewRow qs ws made s count p i q e
+      pub rule-asks : AddNewRow qs ws made s count p i (span q e)
       rule-asks =
           record {
             row = asks-row;

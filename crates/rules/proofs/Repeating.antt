@@ -13,7 +13,7 @@ use Rattle.triples.specs.declared.Node.{Node}
 use Rattle.triples.specs.Table.{Loaded}
 use Rattle.triples.specs.Tests.{Decides}
 use Rattle.triples.specs.Paths.{triple-of, Has}
-use Rattle.triples.specs.Parts.{part-of}
+use Rattle.triples.specs.Parts.{part-of, span}
 use Rattle.rules.specs.Outcome.{Adds}
 use Rattle.rules.specs.Requirements.{part, row-of, AddNewRow}
 use Rattle.rules.specs.Repeated.{Alike, Repeats}
@@ -41,7 +41,7 @@ found-row {qs} {ws} {made} {p} {i} {j} m l b a t =
     }
 
 -- ---- the row
-pub row-repeated : {qs ws : List ℕ} {made s count p i q e : ℕ} {r : Bool} → AddNewRow qs ws made s count p i q e → Repeats qs ws made p i r → r ≡ true
+pub row-repeated : {qs ws : List ℕ} {made s count p i q e : ℕ} {r : Bool} → AddNewRow qs ws made s count p i (span q e) → Repeats qs ws made p i r → r ≡ true
     → Adds qs ws ws s count count (row-of qs ws made i q e)
 row-repeated {qs} {ws} {made} {s} {count} {p} {i} {q} {e} h f t =
     let w = f .found t in

@@ -16,7 +16,7 @@ use Rattle.symbols.specs.Symbols.{symbol-numbered}
 use Rattle.triples.specs.declared.Node.{Node}
 use Rattle.triples.specs.Table.{Loaded}
 use Rattle.triples.specs.Paths.{triple-of}
-use Rattle.triples.specs.Parts.{part-of}
+use Rattle.triples.specs.Parts.{part-of, span}
 use Rattle.triples.proofs.Triples.{triple-kept}
 use Rattle.triples.proofs.Growing.{part-next, part-over}
 use Rattle.rules.specs.PairRules.{of-two, Paired, pair-short?}
@@ -62,7 +62,7 @@ module _ {qs ws : List ℕ} {made s i q e j : ℕ} (h : Pairing qs ws made s) (g
   pub row-shorter : e ≤ j → true ≡ short? (row-of qs ws made i q e)
   row-shorter l = sym (g .left ∙ ap short? (row-end qs ws made (h .paired) i j e l))
 
-  module _ (b : i < s) (p : Lies s q e) (l : j < e) {x y : Node} (lx : Loaded ws i x) (ly : Loaded ws j y) {r : Bool} (d : r ≡ pair-short? made x y) where
+  module _ (b : i < s) (p : Lies s (span q e)) (l : j < e) {x y : Node} (lx : Loaded ws i x) (ly : Loaded ws j y) {r : Bool} (d : r ≡ pair-short? made x y) where
     is-short : r ≡ short? (pair-of qs ws made i j)
     is-short = d ∙ pair-short-is (h .sound) (h .paired) b (omega (arith, p .below)) lx ly
 
@@ -107,7 +107,7 @@ pub record RowGrowing (qs ws₀ ws : List ℕ) (made s start count i q e j : ℕ
   pub grows : Growing qs ws₀ ws (s + start) s count (with-new qs ws₀ s start (row-of qs ws₀ made i q e)) (row-of qs ws₀ made i j e)
   pub short : short? (row-of qs ws₀ made i j e) ≡ true
 
-module _ {qs ws₀ : List ℕ} {made s start i q e : ℕ} (h : AddRow qs ws₀ made s start i q e) where
+module _ {qs ws₀ : List ℕ} {made s start i q e : ℕ} (h : AddRow qs ws₀ made s start i (span q e)) where
   pub row-start : RowGrowing qs ws₀ ws₀ made s start start i q e q
   row-start = record { to = h .lies .ordered; grows = grows-start (row-of qs ws₀ made i q e) (h .room); short = h .short }
 

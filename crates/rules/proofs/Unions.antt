@@ -8,6 +8,7 @@ use native.Mathlib.Omega.{arith}
 use Rattle.theory.specs.Inference.{Triple, distinct}
 use Rattle.theory.specs.Narrowing.{short?}
 use Rattle.triples.proofs.Growing.{part-kept}
+use Rattle.triples.specs.Parts.{span}
 use Rattle.rules.specs.declared.Part.the-variants.{Made, Many}
 use Rattle.rules.specs.Outcome.{Ruled, Adds}
 use Rattle.rules.specs.Requirements.{part, rows-of, Unite, AddCopies}
@@ -16,7 +17,7 @@ use Rattle.rules.proofs.Short.{short-append, short-distinct}
 use Rattle.rules.proofs.Grows.{Growing, rule-starts, grows-room, grows-over, grows-turn, grows-many}
 use Rattle.rules.proofs.RuleOutcome.{ruled-many, ruled-made}
 
-module _ {qs ws : List ℕ} {s p d q e : ℕ} (h : Unite qs ws s p d q e) where
+module _ {qs ws : List ℕ} {s p d q e : ℕ} (h : Unite qs ws s (span p d) (span q e)) where
   abbrev xs : List Triple
   xs = part qs ws p d
 
@@ -29,7 +30,7 @@ module _ {qs ws : List ℕ} {s p d q e : ℕ} (h : Unite qs ws s p d q e) where
   start : Growing qs ws ws s s 0 (distinct (rows-of qs ws 129 p d q e)) (rows-of qs ws 129 p d q e)
   start = rule-starts (rows-of qs ws 129 p d q e) (h .two .room)
 
-  pub first-asks : AddCopies qs ws s 0 p d
+  pub first-asks : AddCopies qs ws s 0 (span p d)
   first-asks = record { room = h .two .room; lies = record { ordered = h .two .left .ordered; below = omega (arith, h .two .left .below) } }
 
   module _ {ws₁ : List ℕ} {a : ℕ} (f : Adds qs ws ws₁ s 0 a (part qs ws p d)) where
@@ -40,7 +41,7 @@ module _ {qs ws : List ℕ} {s p d q e : ℕ} (h : Unite qs ws s p d q e) where
       grown : Growing qs ws ws₁ s s a (distinct (rows-of qs ws 129 p d q e)) (part qs ws q e)
       grown = grows-turn start xs xs ys f refl (two-union xs ys) m
 
-      pub second-asks : AddCopies qs ws₁ s a q e
+      pub second-asks : AddCopies qs ws₁ s a (span q e)
       second-asks = record { room = grows-room grown (h .two .room); lies = record { ordered = h .two .right .ordered; below = omega (arith, h .two .right .below) } }
 
       module _ {ws₂ : List ℕ} {b : ℕ} (g : Adds qs ws₁ ws₂ s a b (part qs ws₁ q e)) where

@@ -8,13 +8,14 @@ use lib.ListN.{length}
 use Rattle.theory.specs.Inference.{Triple}
 use Rattle.theory.specs.Narrowing.{short?}
 use Rattle.triples.specs.Paths.{triple-of, Sound}
-use Rattle.triples.specs.Parts.{part-of}
+use Rattle.triples.specs.declared.Span.{Span}
+use Rattle.triples.specs.Parts.{part-of, triples-in}
 use Rattle.rules.specs.PairRules.{of-two, Paired}
 
--- nodes p to d lie below u
-pub record Lies (u p d : ℕ) : Type 0 where
-  pub ordered : p ≤ d
-  pub below : d ≤ u
+-- the nodes xs lie below u
+pub record Lies (u : ℕ) (xs : Span) : Type 0 where
+  pub ordered : xs .start ≤ xs .end
+  pub below : xs .end ≤ u
 
 -- a part of `count` nodes grows from s on, with room for a 129th
 pub record Room (qs ws : List ℕ) (s count : ℕ) : Type 0 where
@@ -27,7 +28,7 @@ pub record Room (qs ws : List ℕ) (s count : ℕ) : Type 0 where
 abbrev pub part : List ℕ → List ℕ → ℕ → ℕ → List Triple
 part qs ws p d = part-of qs ws p (d - p)
 
--- what node i gives with node j, with nodes q to e; what nodes p to d give with nodes q to e
+-- what node i gives with node j, with the nodes q to e or ys; what the nodes p to d or xs give with them
 abbrev pub pair-of : List ℕ → List ℕ → ℕ → ℕ → ℕ → List Triple
 pair-of qs ws made i j = of-two made (triple-of qs ws i ∷ []) (triple-of qs ws j ∷ [])
 
@@ -36,6 +37,12 @@ row-of qs ws made i q e = of-two made (triple-of qs ws i ∷ []) (part qs ws q e
 
 abbrev pub rows-of : List ℕ → List ℕ → ℕ → ℕ → ℕ → ℕ → ℕ → List Triple
 rows-of qs ws made p d q e = of-two made (part qs ws p d) (part qs ws q e)
+
+abbrev pub row-in : List ℕ → List ℕ → ℕ → ℕ → Span → List Triple
+row-in qs ws made i ys = row-of qs ws made i (ys .start) (ys .end)
+
+abbrev pub rows-in : List ℕ → List ℕ → ℕ → Span → Span → List Triple
+rows-in qs ws made xs ys = rows-of qs ws made (xs .start) (xs .end) (ys .start) (ys .end)
 
 -- ---- the pass over the sizes
 -- a sound table of s nodes
@@ -52,31 +59,31 @@ pub record AddPair (qs ws : List ℕ) (made s count i j : ℕ) : Type 0 where
   pub j-below : j < s + count
   pub short : short? (pair-of qs ws made i j) ≡ true
 
-pub record AddRow (qs ws : List ℕ) (made s count i q e : ℕ) : Type 0 where
+pub record AddRow (qs ws : List ℕ) (made s count i : ℕ) (ys : Span) : Type 0 where
   pub paired : Paired made
   pub room : Room qs ws s count
   pub i-below : i < s + count
-  pub lies : Lies (s + count) q e
-  pub short : short? (row-of qs ws made i q e) ≡ true
+  pub lies : Lies (s + count) ys
+  pub short : short? (row-in qs ws made i ys) ≡ true
 
--- all that the nodes p to i give with the nodes q to e stands in the part
-pub record AddNewRow (qs ws : List ℕ) (made s count p i q e : ℕ) : Type 0 where
-  pub row : AddRow qs ws made s count i q e
+-- all that the nodes p to i give with the nodes ys stands in the part
+pub record AddNewRow (qs ws : List ℕ) (made s count p i : ℕ) (ys : Span) : Type 0 where
+  pub row : AddRow qs ws made s count i ys
   pub from : p ≤ i
-  pub stand : (j : ℕ) → p ≤ j → j < i → (t : Triple) → In t (row-of qs ws made j q e) → In t (part-of qs ws s count)
+  pub stand : (j : ℕ) → p ≤ j → j < i → (t : Triple) → In t (row-in qs ws made j ys) → In t (part-of qs ws s count)
 
 -- two parts below s
-pub record TwoParts (qs ws : List ℕ) (s p d q e : ℕ) : Type 0 where
+pub record TwoParts (qs ws : List ℕ) (s : ℕ) (xs ys : Span) : Type 0 where
   pub room : Room qs ws s 0
-  pub left : Lies s p d
-  pub right : Lies s q e
+  pub left : Lies s xs
+  pub right : Lies s ys
 
 -- two parts of short paths
-pub record Unite (qs ws : List ℕ) (s p d q e : ℕ) : Type 0 where
-  pub two : TwoParts qs ws s p d q e
-  pub left-short : short? (part qs ws p d) ≡ true
-  pub right-short : short? (part qs ws q e) ≡ true
+pub record Unite (qs ws : List ℕ) (s : ℕ) (xs ys : Span) : Type 0 where
+  pub two : TwoParts qs ws s xs ys
+  pub left-short : short? (triples-in qs ws xs) ≡ true
+  pub right-short : short? (triples-in qs ws ys) ≡ true
 
-pub record AddCopies (qs ws : List ℕ) (s count q e : ℕ) : Type 0 where
+pub record AddCopies (qs ws : List ℕ) (s count : ℕ) (ys : Span) : Type 0 where
   pub room : Room qs ws s count
-  pub lies : Lies (s + count) q e
+  pub lies : Lies (s + count) ys

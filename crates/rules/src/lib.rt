@@ -1,15 +1,17 @@
 // The rules of inference that make a part of the table of nodes: of a sheet's table, and of parts of the table.
 use fields::Kind;
 use triples::Node;
+use triples::Span;
 ghost use mathlib.Core.Path.{_≡_};
 ghost use Prim.Native.Nat.{_+_, _<_, _≤_};
 ghost use lib.ListN.{length};
 ghost use Rattle.theory.specs.Inference.{distinct};
 ghost use Rattle.theory.specs.Narrowing.{short?};
 ghost use Rattle.triples.specs.Paths.{Has};
+ghost use Rattle.triples.specs.Parts.{triples-in};
 ghost use Rattle.rules.specs.PairRules.{Paired, fitting, giving, ends-of, pair-node, pair-short?};
 ghost use Rattle.rules.specs.Outcome.{Ruled, Adds};
-ghost use Rattle.rules.specs.Requirements.{Lies, part, pair-of, row-of, rows-of, Pairing, AddPair, AddRow, AddNewRow, TwoParts, Unite, AddCopies};
+ghost use Rattle.rules.specs.Requirements.{Lies, pair-of, row-in, rows-in, Pairing, AddPair, AddRow, AddNewRow, TwoParts, Unite, AddCopies};
 ghost use Rattle.rules.specs.Repeated.{Alike, Repeats};
 ghost use Rattle.rules.specs.EdgeTriples.{edge-at, edges-from, edges-of, leaf-path, AddEdge, AddEdges};
 ghost use Rattle.rules.specs.StepTriples.{of-marks, StepRow, StepMatrix, Stepping};
@@ -88,22 +90,14 @@ fn pair_short(made: usize, x: Node, y: Node) -> bool
 
 // ---- sizes: 13
 
-// Has each path that node i gives with nodes q to e at most 48 symbols?
-fn row_short(
-    words: &[u64],
-    question: &[u8],
-    made: usize,
-    s: usize,
-    i: usize,
-    q: usize,
-    e: usize,
-) -> bool
-    requires { ⌜ Pairing (now question) (now words) made s × (i < s) × Lies s q e ⌝ }
-    ensures { λ r. ⌜ r ≡ short? (row-of (now (question .entry)) (now (words .entry)) made i q e) ⌝ }
+// Has each path that node i gives with the nodes ys at most 48 symbols?
+fn row_short(words: &[u64], question: &[u8], made: usize, s: usize, i: usize, ys: Span) -> bool
+    requires { ⌜ Pairing (now question) (now words) made s × (i < s) × Lies s ys ⌝ }
+    ensures { λ r. ⌜ r ≡ short? (row-in (now (question .entry)) (now (words .entry)) made i ys) ⌝ }
 {
     let x = triples::load(words, i);
-    let mut j = q;
-    while j < e {
+    let mut j = ys.start;
+    while j < ys.end {
         let y = triples::load(words, j);
         if !pair_short(made, x, y) {
             return false;
@@ -113,23 +107,14 @@ fn row_short(
     true
 }
 
-// The same for each of the nodes p to d in place of i.
-fn rows_short(
-    words: &[u64],
-    question: &[u8],
-    made: usize,
-    s: usize,
-    p: usize,
-    d: usize,
-    q: usize,
-    e: usize,
-) -> bool
-    requires { ⌜ Pairing (now question) (now words) made s × Lies s p d × Lies s q e ⌝ }
-    ensures { λ r. ⌜ r ≡ short? (rows-of (now (question .entry)) (now (words .entry)) made p d q e) ⌝ }
+// The same for each of the nodes xs in place of i.
+fn rows_short(words: &[u64], question: &[u8], made: usize, s: usize, xs: Span, ys: Span) -> bool
+    requires { ⌜ Pairing (now question) (now words) made s × Lies s xs × Lies s ys ⌝ }
+    ensures { λ r. ⌜ r ≡ short? (rows-in (now (question .entry)) (now (words .entry)) made xs ys) ⌝ }
 {
-    let mut i = p;
-    while i < d {
-        if !row_short(words, question, made, s, i, q, e) {
+    let mut i = xs.start;
+    while i < xs.end {
+        if !row_short(words, question, made, s, i, ys) {
             return false;
         }
         i += 1;
@@ -192,7 +177,7 @@ fn add_pair(
     triples::add(words, question, s, count, paired(made, i, j, x, y))
 }
 
-// Adds what node i gives with each of the nodes q to e, up to the 129th; the new count.
+// Adds what node i gives with each of the nodes ys, up to the 129th; the new count.
 pub fn add_row(
     words: &mut [u64],
     question: &[u8],
@@ -200,15 +185,14 @@ pub fn add_row(
     s: usize,
     start: usize,
     i: usize,
-    q: usize,
-    e: usize,
+    ys: Span,
 ) -> usize
-    requires { ⌜ AddRow (now question) (now words) made s start i q e ⌝ }
-    ensures { λ r. ⌜ Adds (now (question .entry)) (now (words .entry)) (now (words .exit)) s start r (row-of (now (question .entry)) (now (words .entry)) made i q e) ⌝ }
+    requires { ⌜ AddRow (now question) (now words) made s start i ys ⌝ }
+    ensures { λ r. ⌜ Adds (now (question .entry)) (now (words .entry)) (now (words .exit)) s start r (row-in (now (question .entry)) (now (words .entry)) made i ys) ⌝ }
 {
     let mut count = start;
-    let mut j = q;
-    while j < e {
+    let mut j = ys.start;
+    while j < ys.end {
         count = add_pair(words, question, made, s, count, i, j);
         if triples::MOST < count {
             return count;
@@ -227,39 +211,36 @@ fn add_new_row(
     count: usize,
     p: usize,
     i: usize,
-    q: usize,
-    e: usize,
+    ys: Span,
 ) -> usize
-    requires { ⌜ AddNewRow (now question) (now words) made s count p i q e ⌝ }
-    ensures { λ r. ⌜ Adds (now (question .entry)) (now (words .entry)) (now (words .exit)) s count r (row-of (now (question .entry)) (now (words .entry)) made i q e) ⌝ }
+    requires { ⌜ AddNewRow (now question) (now words) made s count p i ys ⌝ }
+    ensures { λ r. ⌜ Adds (now (question .entry)) (now (words .entry)) (now (words .exit)) s count r (row-in (now (question .entry)) (now (words .entry)) made i ys) ⌝ }
 {
     if repeats(words, s + count, question, made, p, i) {
         return count;
     }
-    add_row(words, question, made, s, count, i, q, e)
+    add_row(words, question, made, s, count, i, ys)
 }
 
-// The rule of the operator `made` (join, both, a branch) for nodes p to d and nodes q to e: its part is made from s on.
+// The rule of the operator `made` (join, both, a branch) for the nodes xs and ys: its part is made from s on.
 pub fn pair_rule(
     words: &mut [u64],
     question: &[u8],
     made: usize,
     s: usize,
-    p: usize,
-    d: usize,
-    q: usize,
-    e: usize,
+    xs: Span,
+    ys: Span,
 ) -> Part
-    requires { ⌜ Paired made × TwoParts (now question) (now words) s p d q e ⌝ }
-    ensures { λ r. ⌜ Ruled (now (question .entry)) (now (words .entry)) (now (words .exit)) s (distinct (rows-of (now (question .entry)) (now (words .entry)) made p d q e)) r ⌝ }
+    requires { ⌜ Paired made × TwoParts (now question) (now words) s xs ys ⌝ }
+    ensures { λ r. ⌜ Ruled (now (question .entry)) (now (words .entry)) (now (words .exit)) s (distinct (rows-in (now (question .entry)) (now (words .entry)) made xs ys)) r ⌝ }
 {
-    if !rows_short(words, question, made, s, p, d, q, e) {
+    if !rows_short(words, question, made, s, xs, ys) {
         return Part::Long;
     }
     let mut count = 0;
-    let mut i = p;
-    while i < d {
-        count = add_new_row(words, question, made, s, count, p, i, q, e);
+    let mut i = xs.start;
+    while i < xs.end {
+        count = add_new_row(words, question, made, s, count, xs.start, i, ys);
         if triples::MOST < count {
             return Part::Many;
         }
@@ -270,21 +251,14 @@ pub fn pair_rule(
 
 // ---- union
 
-// Adds a copy of each of the nodes q to e, up to the 129th; the new count.
-pub fn add_copies(
-    words: &mut [u64],
-    question: &[u8],
-    s: usize,
-    start: usize,
-    q: usize,
-    e: usize,
-) -> usize
-    requires { ⌜ AddCopies (now question) (now words) s start q e ⌝ }
-    ensures { λ r. ⌜ Adds (now (question .entry)) (now (words .entry)) (now (words .exit)) s start r (part (now (question .entry)) (now (words .entry)) q e) ⌝ }
+// Adds a copy of each of the nodes ys, up to the 129th; the new count.
+fn add_copies(words: &mut [u64], question: &[u8], s: usize, start: usize, ys: Span) -> usize
+    requires { ⌜ AddCopies (now question) (now words) s start ys ⌝ }
+    ensures { λ r. ⌜ Adds (now (question .entry)) (now (words .entry)) (now (words .exit)) s start r (triples-in (now (question .entry)) (now (words .entry)) ys) ⌝ }
 {
     let mut count = start;
-    let mut j = q;
-    while j < e {
+    let mut j = ys.start;
+    while j < ys.end {
         let n = triples::load(words, j);
         count = triples::add(words, question, s, count, n);
         if triples::MOST < count {
@@ -295,24 +269,16 @@ pub fn add_copies(
     count
 }
 
-// The rule of union for nodes p to d and nodes q to e: its part is made from s on.
-pub fn union_rule(
-    words: &mut [u64],
-    question: &[u8],
-    s: usize,
-    p: usize,
-    d: usize,
-    q: usize,
-    e: usize,
-) -> Part
-    requires { ⌜ Unite (now question) (now words) s p d q e ⌝ }
-    ensures { λ r. ⌜ Ruled (now (question .entry)) (now (words .entry)) (now (words .exit)) s (distinct (rows-of (now (question .entry)) (now (words .entry)) 129 p d q e)) r ⌝ }
+// The rule of union for the nodes xs and ys: its part is made from s on.
+pub fn union_rule(words: &mut [u64], question: &[u8], s: usize, xs: Span, ys: Span) -> Part
+    requires { ⌜ Unite (now question) (now words) s xs ys ⌝ }
+    ensures { λ r. ⌜ Ruled (now (question .entry)) (now (words .entry)) (now (words .exit)) s (distinct (rows-in (now (question .entry)) (now (words .entry)) 129 xs ys)) r ⌝ }
 {
-    let a = add_copies(words, question, s, 0, p, d);
+    let a = add_copies(words, question, s, 0, xs);
     if triples::MOST < a {
         return Part::Many;
     }
-    let b = add_copies(words, question, s, a, q, e);
+    let b = add_copies(words, question, s, a, ys);
     if triples::MOST < b {
         return Part::Many;
     }

@@ -3,17 +3,25 @@
 -- Assumes nothing.
 use mathlib.Core.Path.{_≡_}
 use mathlib.Core.List.{List}
-use Prim.Native.Nat.{ℕ, _+_, _<_, _≤_}
+use Prim.Native.Nat.{ℕ, _+_, _-_, _<_, _≤_}
 use lib.ListN.{length, set}
 use Rattle.theory.specs.Lists.{adjoin, tabulate}
 use Rattle.theory.specs.Inference.{Triple, triple?}
 use Rattle.triples.specs.declared.Node.{Node}
+use Rattle.triples.specs.declared.Span.{Span}
 use Rattle.triples.specs.Table.{word-of, InRange}
 use Rattle.triples.specs.Paths.{triple-of, Good, Sound}
 
 -- the triples of n nodes from s on
 unfoldable pub part-of : List ℕ → List ℕ → ℕ → ℕ → List Triple
 part-of qs ws s n = tabulate (triple-of qs ws) s n
+
+-- the nodes s to e; the triples of a span of nodes
+abbrev pub span : ℕ → ℕ → Span
+span s e = record { start = s; end = e }
+
+abbrev pub triples-in : List ℕ → List ℕ → Span → List Triple
+triples-in qs ws x = part-of qs ws (x .start) (x .end - x .start)
 
 -- node n may be put at the end of the part of `count` nodes from s on
 pub record Candidate (qs ws : List ℕ) (s count : ℕ) (n : Node) : Type 0 where

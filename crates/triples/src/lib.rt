@@ -46,6 +46,12 @@ pub struct Node {
     pub to: Kind,
 }
 
+// The nodes from `start` on, up to `end`, which is left out.
+pub struct Span {
+    pub start: usize,
+    pub end: usize,
+}
+
 pub fn load(words: &[u64], i: usize) -> Node
     requires { ⌜ i < length (now words) ⌝ }
     ensures { λ r. ⌜ Loaded (now (words .entry)) i r ⌝ }

@@ -26,8 +26,8 @@ slice-aggregate-copy-acyclic c = search needs
 copy-acyclic-requires : tie.Need-copy-acyclic-requires
 copy-acyclic-requires c κs = rule-copies (c .before .before .before .before .before .before .before .before .pre) (c .before .before .before .graph .ensures)
 
-add-walks-short : tie.Need-add-walks-short
-add-walks-short c = search needs
+add-t22 : tie.Need-add-t22
+add-t22 c = search needs
 
 walks-short-requires : tie.Need-walks-short-requires
 walks-short-requires c κs = rule-walks (c .before .before .before .before .before .before .before .before .before .before .before .before .pre) (c .before .before .before .copy-acyclic .ensures)
@@ -121,7 +121,7 @@ closure-rule-spec =
     graph-requires
     slice-aggregate-copy-acyclic
     copy-acyclic-requires
-    add-walks-short
+    add-t22
     walks-short-requires
     same-length
     returns

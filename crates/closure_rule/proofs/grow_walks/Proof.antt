@@ -10,19 +10,19 @@ use Rattle.rules.proofs.add_row.Reads as add-row-reads
 use Rattle.closure_rule.proofs.Growing.{WalksGrowing, walks-start, walks-asks, walks-turn, walks-many, walks-over}
 
 abbrev Inv-loop : tie.InvT-loop
-Inv-loop words₀ question s f count₀ i₀ words count i = WalksGrowing question words₀ words s f count i
+Inv-loop words₀ question s f first count₀ i₀ words count i = WalksGrowing question words₀ words s f count i
 
 abbrev μ-loop : tie.MeasureT-loop
-μ-loop words₀ question s f count₀ i₀ words count i = s + 129 - i
+μ-loop words₀ question s f first count₀ i₀ words count i = s + 129 - i
+
+add-t8 : tie.Need-add-t8 Inv-loop μ-loop
+add-t8 c = search needs
 
 loop-holds : tie.Need-loop-holds Inv-loop μ-loop
 loop-holds c = walks-start (c .before .before .pre)
 
 add-loop : tie.Need-add-loop Inv-loop μ-loop
 add-loop c = search needs
-
-add-add-row : tie.Need-add-add-row Inv-loop μ-loop
-add-add-row c = search needs
 
 add-row-requires : tie.Need-add-row-requires Inv-loop μ-loop
 add-row-requires c κs = walks-asks (c .before .before .before .before .before .pre) (c .before .before .loop .inv) (c .before .loop-test .taken)
@@ -64,9 +64,9 @@ grow-walks-spec =
     (tie.spec
     Inv-loop
     μ-loop
+    add-t8
     loop-holds
     add-loop
-    add-add-row
     add-row-requires
     same-length
     returns

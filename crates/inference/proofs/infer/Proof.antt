@@ -88,8 +88,8 @@ returns-2 c =
 enum-known-n : tie.Need-enum-known-n Inv-loop μ-loop
 enum-known-n c = search needs
 
-add-t31 : tie.Need-add-t31 Inv-loop μ-loop
-add-t31 c = omega (arith, c .before .before .before .before .before .rule .ensures .few (c .before .n .given .0 .0) (c .before .n .given .1))
+add-t34 : tie.Need-add-t34 Inv-loop μ-loop
+add-t34 c = omega (arith, c .before .before .before .before .before .rule .ensures .few (c .before .n .given .0 .0) (c .before .n .given .1))
 
 origin-requires : tie.Need-origin-requires Inv-loop μ-loop
 origin-requires c κs = search needs
@@ -128,7 +128,7 @@ same-length-3 : tie.Need-same-length-3 Inv-loop μ-loop
 same-length-3 c = search needs
 
 returns-3 : tie.Need-returns-3 Inv-loop μ-loop
-returns-3 c = running-end (c .before .before .loop .inv .0) (c .before .before .loop .inv .1) (c .before .loop-test .left)
+returns-3 c = running-end (c .before .before .before .loop .inv .0) (c .before .before .before .loop .inv .1) (c .before .before .loop-test .left)
 
 pub infer-spec : {M : Type 1} → statement M
 infer-spec =
@@ -154,7 +154,7 @@ infer-spec =
     same-length-2
     returns-2
     enum-known-n
-    add-t31
+    add-t34
     origin-requires
     mul-parts
     array-set-from-parts

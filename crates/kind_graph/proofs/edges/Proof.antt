@@ -1,7 +1,7 @@
 -- `kind_graph::edges` meets its contract: the pairs set so far, with the triples of the nodes from i on, are the edges of the whole part.
 -- Assumes nothing.
 use Rattle.kind_graph.proofs.Linking.{Linking, link-start, edges-next, edges-end}
-use Rattle.triples.specs.Parts.{part-of}
+use Rattle.triples.specs.Parts.{part-of, triples-in}
 use borrow.Author.Needs.{needs}
 use Prim.Native.Nat.{_-_, _≤_}
 use native.Mathlib.Omega.{arith}
@@ -14,10 +14,10 @@ use Rattle.relation.proofs.set_pair.Reads as set-pair-reads
 use Rattle.rows.proofs.clear.Reads as clear-reads
 
 abbrev Inv-loop : tie.InvT-loop
-Inv-loop words question s e work₀ i₀ work i = (s ≤ i) × (i ≤ e) × Linking (part-of question words s (e - s)) (part-of question words i (e - i)) work
+Inv-loop words question xs work₀ i₀ work i = (xs .start ≤ i) × (i ≤ xs .end) × Linking (triples-in question words xs) (part-of question words i (xs .end - i)) work
 
 abbrev μ-loop : tie.MeasureT-loop
-μ-loop words question s e work₀ i₀ work i = e - i
+μ-loop words question xs work₀ i₀ work i = xs .end - i
 
 clear-requires : tie.Need-clear-requires Inv-loop μ-loop
 clear-requires c κs = search needs
@@ -40,8 +40,8 @@ set-pair-requires c κs = search needs
 add-i : tie.Need-add-i Inv-loop μ-loop
 add-i c =
     let c7 = c .before .before .before .before .before .before .before in
-    let c16 = c7 .before .before .before .before .before .before .before .before .before in
-    omega (arith, c7 .loop-test .taken, c16 .fits .e)
+    let c17 = c7 .before .before .before .before .before .before .before .before .before .before in
+    omega (arith, c7 .if1 .taken, c17 .pre .1)
 
 loop-less : tie.Need-loop-less Inv-loop μ-loop
 loop-less c = search needs
@@ -51,19 +51,18 @@ loop-again c =
     let c2 = c .before .before in
     let c6 = c2 .before .before .before .before in
     let c7 = c6 .before in
-    let c8 = c7 .before in
-    let c16 = c8 .before .before .before .before .before .before .before .before in
-    let a = c16 .args in
-    (omega arith, omega arith, edges-next (a .question .now) (a .words .now) (a .s) (a .e) (c7 .loop-test .taken) (c6 .load .ensures) (c8 .loop .inv .2) (c2 .set-pair .ensures))
+    let c9 = c7 .before .before in
+    let c17 = c9 .before .before .before .before .before .before .before .before in
+    let a = c17 .args in
+    (omega arith, omega arith, edges-next (a .question .now) (a .words .now) (a .xs .start) (a .xs .end) (c7 .if1 .taken) (c6 .load .ensures) (c9 .loop .inv .2) (c2 .set-pair .ensures))
 
 same-length : tie.Need-same-length Inv-loop μ-loop
 same-length c = search needs
 
 returns : tie.Need-returns Inv-loop μ-loop
 returns c =
-    let c9 = c .before .before .before .before .before .before .before .before .before in
-    let a = c9 .args in
-    edges-end (a .question .now) (a .words .now) (a .s) (a .e) (c .loop-test .left) (c .before .loop .inv .2)
+    let a = c .before .before .before .before .before .before .before .before .before .before .args in
+    edges-end (a .question .now) (a .words .now) (a .xs .start) (a .xs .end) (c .if1 .left) (c .before .before .loop .inv .2)
 
 pub edges-spec : {M : Type 1} → statement M
 edges-spec =

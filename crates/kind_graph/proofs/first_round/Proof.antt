@@ -2,7 +2,7 @@
 -- Assumes nothing.
 use Rattle.kind_graph.proofs.Rounds.{Going, round-start, round-next, round-end, size-is}
 use Rattle.kind_graph.specs.Sizes.{size-of}
-use Rattle.triples.specs.Parts.{part-of}
+use Rattle.triples.specs.Parts.{part-of, triples-in}
 use borrow.Author.Needs.{needs}
 use Prim.Native.Nat.{_-_, _≤_}
 use native.Mathlib.Omega.{arith}
@@ -14,10 +14,10 @@ use Rattle.triples.proofs.load.Reads as load-reads
 use Rattle.kind_graph.proofs.raise.Reads as raise-reads
 
 abbrev Inv-loop : tie.InvT-loop
-Inv-loop words question s e next₀ i₀ next i = (s ≤ i) × (i ≤ e) × Going size-of (part-of question words s (e - s)) (part-of question words i (e - i)) next₀ next
+Inv-loop words question xs next₀ i₀ next i = (xs .start ≤ i) × (i ≤ xs .end) × Going size-of (triples-in question words xs) (part-of question words i (xs .end - i)) next₀ next
 
 abbrev μ-loop : tie.MeasureT-loop
-μ-loop words question s e next₀ i₀ next i = e - i
+μ-loop words question xs next₀ i₀ next i = xs .end - i
 
 loop-holds : tie.Need-loop-holds Inv-loop μ-loop
 loop-holds c = (omega arith, omega arith, round-start size-of _ _)
@@ -36,16 +36,16 @@ loop-less c = search needs
 
 loop-again : tie.Need-loop-again Inv-loop μ-loop
 loop-again c =
-    let h = c .before .before .before .before .before .before .before .before .before .before .pre .0 in
-    let l = c .before .before .before .before .before .loop-test .taken in
+    let h = c .before .before .before .before .before .before .before .before .before .before .before .pre .0 in
+    let l = c .before .before .before .before .before .if1 .taken in
     let x = c .before .before .before .before .load .ensures in
-    (omega arith, omega arith, round-next h l x (size-is h l x) (c .before .before .before .before .before .before .loop .inv .2) (c .before .before .raise .ensures))
+    (omega arith, omega arith, round-next h l x (size-is h l x) (c .before .before .before .before .before .before .before .loop .inv .2) (c .before .before .raise .ensures))
 
 same-length : tie.Need-same-length Inv-loop μ-loop
 same-length c = search needs
 
 returns : tie.Need-returns Inv-loop μ-loop
-returns c = round-end (c .before .before .before .before .before .pre .0) (c .loop-test .left) (c .before .loop .inv .2)
+returns c = round-end (c .before .before .before .before .before .before .pre .0) (c .if1 .left) (c .before .before .loop .inv .2)
 
 pub first-round-spec : {M : Type 1} → statement M
 first-round-spec =

@@ -2,7 +2,7 @@
 -- Assumes nothing.
 use Rattle.kind_graph.proofs.Rounds.{Going, round-start, round-next, round-end, weight-is}
 use Rattle.kind_graph.specs.Sizes.{weight}
-use Rattle.triples.specs.Parts.{part-of}
+use Rattle.triples.specs.Parts.{part-of, triples-in}
 use borrow.Author.Needs.{needs}
 use Prim.Native.Nat.{_-_, _≤_}
 use native.Mathlib.Omega.{arith}
@@ -15,10 +15,11 @@ use Rattle.kind_graph.proofs.extend.Reads as extend-reads
 use Rattle.kind_graph.proofs.raise.Reads as raise-reads
 
 abbrev Inv-loop : tie.InvT-loop
-Inv-loop words question s e best next₀ i₀ next i = (s ≤ i) × (i ≤ e) × Going (weight best) (part-of question words s (e - s)) (part-of question words i (e - i)) next₀ next
+Inv-loop words question xs best next₀ i₀ next i =
+    (xs .start ≤ i) × (i ≤ xs .end) × Going (weight best) (triples-in question words xs) (part-of question words i (xs .end - i)) next₀ next
 
 abbrev μ-loop : tie.MeasureT-loop
-μ-loop words question s e best next₀ i₀ next i = e - i
+μ-loop words question xs best next₀ i₀ next i = xs .end - i
 
 loop-holds : tie.Need-loop-holds Inv-loop μ-loop
 loop-holds c = (omega arith, omega arith, round-start _ _ _)
@@ -36,7 +37,7 @@ shared-slice-read-extend : tie.Need-shared-slice-read-extend Inv-loop μ-loop
 shared-slice-read-extend c = search needs
 
 extend-requires : tie.Need-extend-requires Inv-loop μ-loop
-extend-requires c κs = (c .before .before .before .before .before .before .before .before .before .before .pre .3 _, c .before .before .before .load .ensures .size-small)
+extend-requires c κs = (c .before .before .before .before .before .before .before .before .before .before .before .pre .3 _, c .before .before .before .load .ensures .size-small)
 
 raise-requires : tie.Need-raise-requires Inv-loop μ-loop
 raise-requires c κs = search needs
@@ -53,18 +54,18 @@ loop-again c =
     let c3 = c2 .before in
     let c7 = c3 .before .before .before .before in
     let c8 = c7 .before in
-    let c9 = c8 .before in
-    let c14 = c9 .before .before .before .before .before in
-    let h = c14 .pre .0 in
-    let l = c8 .loop-test .taken in
+    let c10 = c8 .before .before in
+    let c15 = c10 .before .before .before .before .before in
+    let h = c15 .pre .0 in
+    let l = c8 .if1 .taken in
     let x = c7 .load .ensures in
-    (omega arith, omega arith, round-next h l x (weight-is h l x (c14 .args .best .now) (c3 .extend .ensures)) (c9 .loop .inv .2) (c2 .raise .ensures))
+    (omega arith, omega arith, round-next h l x (weight-is h l x (c15 .args .best .now) (c3 .extend .ensures)) (c10 .loop .inv .2) (c2 .raise .ensures))
 
 same-length : tie.Need-same-length Inv-loop μ-loop
 same-length c = search needs
 
 returns : tie.Need-returns Inv-loop μ-loop
-returns c = round-end (c .before .before .before .before .before .before .pre .0) (c .loop-test .left) (c .before .loop .inv .2)
+returns c = round-end (c .before .before .before .before .before .before .before .pre .0) (c .if1 .left) (c .before .before .loop .inv .2)
 
 pub round-spec : {M : Type 1} → statement M
 round-spec =

@@ -1,7 +1,7 @@
 -- `kind_graph::walks_short` meets its contract: each round has the largest walks of one triple more, and after a round without a walk there are none.
 -- Assumes nothing.
 use Rattle.kind_graph.proofs.Rounds.{Rounds, first-long, rounds-start, rounds-turn, rounds-long, rounds-over, rounds-none, rounds-small}
-use Rattle.triples.specs.Parts.{part-of}
+use Rattle.triples.specs.Parts.{triples-in}
 use borrow.Author.Tests.{not-true, not-false}
 use mathlib.Core.Path.{refl}
 use borrow.Author.Needs.{needs}
@@ -16,10 +16,10 @@ use Rattle.kind_graph.proofs.first_round.Reads as first-round-reads
 use Rattle.kind_graph.proofs.round.Reads as round-reads
 
 abbrev Inv-loop : tie.InvT-loop
-Inv-loop words question s e best₀ n₀ best n = (n ≤ 24) × Rounds (part-of question words s (e - s)) n best
+Inv-loop words question xs best₀ n₀ best n = (n ≤ 24) × Rounds (triples-in question words xs) n best
 
 abbrev μ-loop : tie.MeasureT-loop
-μ-loop words question s e best₀ n₀ best n = 24 - n
+μ-loop words question xs best₀ n₀ best n = 24 - n
 
 slice-aggregate-first-round : tie.Need-slice-aggregate-first-round Inv-loop μ-loop
 slice-aggregate-first-round c = search needs

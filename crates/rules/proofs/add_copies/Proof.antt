@@ -11,23 +11,23 @@ use Rattle.triples.proofs.add.Reads as add-reads
 use Rattle.triples.proofs.load.Reads as load-reads
 
 abbrev Inv-loop : tie.InvT-loop
-Inv-loop words₀ question s start q e count₀ j₀ words count j = CopiesGrowing question words₀ words s start count q e j
+Inv-loop words₀ question s start ys count₀ j₀ words count j = CopiesGrowing question words₀ words s start count (ys .start) (ys .end) j
 
 abbrev μ-loop : tie.MeasureT-loop
-μ-loop words₀ question s start q e count₀ j₀ words count j = e - j
+μ-loop words₀ question s start ys count₀ j₀ words count j = ys .end - j
 
 loop-holds : tie.Need-loop-holds Inv-loop μ-loop
 loop-holds c = copies-start (c .before .before .pre)
 
 load-requires : tie.Need-load-requires Inv-loop μ-loop
-load-requires c κs = copies-load (c .before .before .before .before .before .pre) (c .before .before .loop .inv) (c .before .loop-test .taken)
+load-requires c κs = copies-load (c .before .before .before .before .before .before .pre) (c .before .before .before .loop .inv) (c .before .if1 .taken)
 
 add-requires : tie.Need-add-requires Inv-loop μ-loop
 add-requires c κs =
     let c3 = c .before .before .before in
-    let c4 = c3 .before in
-    let c7 = c4 .before .before .before in
-    copies-asks (c7 .pre) (c4 .loop .inv) (c3 .loop-test .taken) (c .before .load .ensures)
+    let c5 = c3 .before .before in
+    let c8 = c5 .before .before .before in
+    copies-asks (c8 .pre) (c5 .loop .inv) (c3 .if1 .taken) (c .before .load .ensures)
 
 same-length : tie.Need-same-length Inv-loop μ-loop
 same-length c = search needs
@@ -37,9 +37,9 @@ returns c =
     let c3 = c .before .before .before in
     let c5 = c3 .before .before in
     let c7 = c5 .before .before in
-    let c8 = c7 .before in
-    let c11 = c8 .before .before .before in
-    copies-many (c11 .pre) (c8 .loop .inv) (c7 .loop-test .taken) (c5 .load .ensures) (c3 .add .ensures) (c .if1 .taken)
+    let c9 = c7 .before .before in
+    let c12 = c9 .before .before .before in
+    copies-many (c12 .pre) (c9 .loop .inv) (c7 .if1 .taken) (c5 .load .ensures) (c3 .add .ensures) (c .if2 .taken)
 
 add-j : tie.Need-add-j Inv-loop μ-loop
 add-j c = search needs
@@ -52,15 +52,15 @@ loop-again c =
     let c3 = c .before .before .before in
     let c5 = c3 .before .before in
     let c7 = c5 .before .before in
-    let c8 = c7 .before in
-    let c11 = c8 .before .before .before in
-    copies-turn (c11 .pre) (c8 .loop .inv) (c7 .loop-test .taken) (c5 .load .ensures) (c3 .add .ensures) (c .if1 .left)
+    let c9 = c7 .before .before in
+    let c12 = c9 .before .before .before in
+    copies-turn (c12 .pre) (c9 .loop .inv) (c7 .if1 .taken) (c5 .load .ensures) (c3 .add .ensures) (c .if2 .left)
 
 same-length-2 : tie.Need-same-length-2 Inv-loop μ-loop
 same-length-2 c = search needs
 
 returns-2 : tie.Need-returns-2 Inv-loop μ-loop
-returns-2 c = copies-over (c .before .before .before .before .pre) (c .before .loop .inv) (c .loop-test .left)
+returns-2 c = copies-over (c .before .before .before .before .before .pre) (c .before .before .loop .inv) (c .if1 .left)
 
 pub add-copies-spec : {M : Type 1} → statement M
 add-copies-spec =

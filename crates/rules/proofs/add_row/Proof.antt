@@ -10,16 +10,16 @@ use Rattle.rules.proofs.add_row.Lts as lts
 use Rattle.rules.proofs.add_pair.Reads as add-pair-reads
 
 abbrev Inv-loop : tie.InvT-loop
-Inv-loop words₀ question made s start i q e count₀ j₀ words count j = RowGrowing question words₀ words made s start count i q e j
+Inv-loop words₀ question made s start i ys count₀ j₀ words count j = RowGrowing question words₀ words made s start count i (ys .start) (ys .end) j
 
 abbrev μ-loop : tie.MeasureT-loop
-μ-loop words₀ question made s start i q e count₀ j₀ words count j = e - j
+μ-loop words₀ question made s start i ys count₀ j₀ words count j = ys .end - j
 
 loop-holds : tie.Need-loop-holds Inv-loop μ-loop
 loop-holds c = row-start (c .before .before .pre)
 
 add-pair-requires : tie.Need-add-pair-requires Inv-loop μ-loop
-add-pair-requires c κs = row-asks (c .before .before .before .before .before .pre) (c .before .before .loop .inv) (c .before .loop-test .taken)
+add-pair-requires c κs = row-asks (c .before .before .before .before .before .before .pre) (c .before .before .before .loop .inv) (c .before .if1 .taken)
 
 same-length : tie.Need-same-length Inv-loop μ-loop
 same-length c = search needs
@@ -28,9 +28,9 @@ returns : tie.Need-returns Inv-loop μ-loop
 returns c =
     let c3 = c .before .before .before in
     let c5 = c3 .before .before in
-    let c6 = c5 .before in
-    let c9 = c6 .before .before .before in
-    row-many (c9 .pre) (c6 .loop .inv) (c5 .loop-test .taken) (c3 .add-pair .ensures) (c .if1 .taken)
+    let c7 = c5 .before .before in
+    let c10 = c7 .before .before .before in
+    row-many (c10 .pre) (c7 .loop .inv) (c5 .if1 .taken) (c3 .add-pair .ensures) (c .if2 .taken)
 
 add-j : tie.Need-add-j Inv-loop μ-loop
 add-j c = search needs
@@ -42,15 +42,15 @@ loop-again : tie.Need-loop-again Inv-loop μ-loop
 loop-again c =
     let c3 = c .before .before .before in
     let c5 = c3 .before .before in
-    let c6 = c5 .before in
-    let c9 = c6 .before .before .before in
-    row-turn (c9 .pre) (c6 .loop .inv) (c5 .loop-test .taken) (c3 .add-pair .ensures) (c .if1 .left)
+    let c7 = c5 .before .before in
+    let c10 = c7 .before .before .before in
+    row-turn (c10 .pre) (c7 .loop .inv) (c5 .if1 .taken) (c3 .add-pair .ensures) (c .if2 .left)
 
 same-length-2 : tie.Need-same-length-2 Inv-loop μ-loop
 same-length-2 c = search needs
 
 returns-2 : tie.Need-returns-2 Inv-loop μ-loop
-returns-2 c = row-over (c .before .before .before .before .pre) (c .before .loop .inv) (c .loop-test .left)
+returns-2 c = row-over (c .before .before .before .before .before .pre) (c .before .before .loop .inv) (c .if1 .left)
 
 pub add-row-spec : {M : Type 1} → statement M
 add-row-spec =

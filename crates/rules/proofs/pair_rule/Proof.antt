@@ -13,10 +13,10 @@ use Rattle.rules.proofs.add_new_row.Reads as add-new-row-reads
 use Rattle.rules.proofs.rows_short.Reads as rows-short-reads
 
 abbrev Inv-loop : tie.InvT-loop
-Inv-loop words₀ question made s p d q e count₀ i₀ words count i = RowsGrowing question words₀ words made s count p d q e i
+Inv-loop words₀ question made s xs ys count₀ i₀ words count i = RowsGrowing question words₀ words made s count (xs .start) (xs .end) (ys .start) (ys .end) i
 
 abbrev μ-loop : tie.MeasureT-loop
-μ-loop words₀ question made s p d q e count₀ i₀ words count i = d - i
+μ-loop words₀ question made s xs ys count₀ i₀ words count i = xs .end - i
 
 rows-short-requires : tie.Need-rows-short-requires Inv-loop μ-loop
 rows-short-requires c κs = rule-table (c .before .before .before .pre .0) (c .before .before .before .pre .1)
@@ -32,9 +32,9 @@ loop-holds c = rule-start (c .before .before .before .before .before .pre .0) (c
 
 add-new-row-requires : tie.Need-add-new-row-requires Inv-loop μ-loop
 add-new-row-requires c κs =
-    let c2 = c .before .before in
-    let c8 = c2 .before .before .before .before .before .before in
-    rule-asks (c8 .pre .0) (c8 .pre .1) (c2 .loop .inv) (c .before .loop-test .taken)
+    let c3 = c .before .before .before in
+    let c9 = c3 .before .before .before .before .before .before in
+    rule-asks (c9 .pre .0) (c9 .pre .1) (c3 .loop .inv) (c .before .if2 .taken)
 
 same-length-2 : tie.Need-same-length-2 Inv-loop μ-loop
 same-length-2 c = search needs
@@ -43,11 +43,11 @@ returns-2 : tie.Need-returns-2 Inv-loop μ-loop
 returns-2 c =
     let c3 = c .before .before .before in
     let c5 = c3 .before .before in
-    let c6 = c5 .before in
-    let c7 = c6 .before in
+    let c7 = c5 .before .before in
     let c8 = c7 .before in
-    let c12 = c8 .before .before .before .before in
-    rule-many (c12 .pre .0) (c12 .pre .1) (c6 .loop .inv) (c5 .loop-test .taken) (c3 .add-new-row .ensures) (sym (c8 .rows-short .ensures) ∙ not-false _ (c7 .if1 .left)) (c .if2 .taken)
+    let c9 = c8 .before in
+    let c13 = c9 .before .before .before .before in
+    rule-many (c13 .pre .0) (c13 .pre .1) (c7 .loop .inv) (c5 .if2 .taken) (c3 .add-new-row .ensures) (sym (c9 .rows-short .ensures) ∙ not-false _ (c8 .if1 .left)) (c .if3 .taken)
 
 add-i : tie.Need-add-i Inv-loop μ-loop
 add-i c = search needs
@@ -59,9 +59,9 @@ loop-again : tie.Need-loop-again Inv-loop μ-loop
 loop-again c =
     let c3 = c .before .before .before in
     let c5 = c3 .before .before in
-    let c6 = c5 .before in
-    let c12 = c6 .before .before .before .before .before .before in
-    rule-turn (c12 .pre .0) (c12 .pre .1) (c6 .loop .inv) (c5 .loop-test .taken) (c3 .add-new-row .ensures) (c .if2 .left)
+    let c7 = c5 .before .before in
+    let c13 = c7 .before .before .before .before .before .before in
+    rule-turn (c13 .pre .0) (c13 .pre .1) (c7 .loop .inv) (c5 .if2 .taken) (c3 .add-new-row .ensures) (c .if3 .left)
 
 same-length-3 : tie.Need-same-length-3 Inv-loop μ-loop
 same-length-3 c = search needs
@@ -70,8 +70,9 @@ returns-3 : tie.Need-returns-3 Inv-loop μ-loop
 returns-3 c =
     let c2 = c .before .before in
     let c3 = c2 .before in
-    let c7 = c3 .before .before .before .before in
-    rule-over (c7 .pre .0) (c7 .pre .1) (c .before .loop .inv) (sym (c3 .rows-short .ensures) ∙ not-false _ (c2 .if1 .left)) (c .loop-test .left)
+    let c4 = c3 .before in
+    let c8 = c4 .before .before .before .before in
+    rule-over (c8 .pre .0) (c8 .pre .1) (c2 .loop .inv) (sym (c4 .rows-short .ensures) ∙ not-false _ (c3 .if1 .left)) (c .if2 .left)
 
 pub pair-rule-spec : {M : Type 1} → statement M
 pair-rule-spec =

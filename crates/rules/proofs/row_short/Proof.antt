@@ -12,10 +12,10 @@ use Rattle.triples.proofs.load.Reads as load-reads
 use Rattle.rules.proofs.pair_short.Reads as pair-short-reads
 
 abbrev Inv-loop : tie.InvT-loop
-Inv-loop words question made s i q e x j₀ j = RowLeft question words made i q e j
+Inv-loop words question made s i ys x j₀ j = RowLeft question words made i (ys .start) (ys .end) j
 
 abbrev μ-loop : tie.MeasureT-loop
-μ-loop words question made s i q e x j₀ j = e - j
+μ-loop words question made s i ys x j₀ j = ys .end - j
 
 load-requires : tie.Need-load-requires Inv-loop μ-loop
 load-requires c κs = search needs
@@ -33,10 +33,10 @@ returns : tie.Need-returns Inv-loop μ-loop
 returns c =
     let c2 = c .before .before in
     let c3 = c2 .before in
-    let c4 = c3 .before in
-    let c5 = c4 .before in
-    let c8 = c5 .before .before .before in
-    row-long (c8 .pre .0) (c4 .loop .inv) (c8 .pre .1) (c8 .pre .2) (c3 .loop-test .taken) (c5 .load .ensures) (c2 .load2 .ensures) (c .before .pair-short .ensures) (not-true _ (c .if1 .taken))
+    let c5 = c3 .before .before in
+    let c6 = c5 .before in
+    let c9 = c6 .before .before .before in
+    row-long (c9 .pre .0) (c5 .loop .inv) (c9 .pre .1) (c9 .pre .2) (c3 .if1 .taken) (c6 .load .ensures) (c2 .load2 .ensures) (c .before .pair-short .ensures) (not-true _ (c .if2 .taken))
 
 add-j : tie.Need-add-j Inv-loop μ-loop
 add-j c = search needs
@@ -48,13 +48,13 @@ loop-again : tie.Need-loop-again Inv-loop μ-loop
 loop-again c =
     let c2 = c .before .before in
     let c3 = c2 .before in
-    let c4 = c3 .before in
-    let c5 = c4 .before in
-    let c8 = c5 .before .before .before in
-    row-goes (c8 .pre .0) (c4 .loop .inv) (c8 .pre .1) (c8 .pre .2) (c3 .loop-test .taken) (c5 .load .ensures) (c2 .load2 .ensures) (c .before .pair-short .ensures) (not-false _ (c .if1 .left))
+    let c5 = c3 .before .before in
+    let c6 = c5 .before in
+    let c9 = c6 .before .before .before in
+    row-goes (c9 .pre .0) (c5 .loop .inv) (c9 .pre .1) (c9 .pre .2) (c3 .if1 .taken) (c6 .load .ensures) (c2 .load2 .ensures) (c .before .pair-short .ensures) (not-false _ (c .if2 .left))
 
 returns-2 : tie.Need-returns-2 Inv-loop μ-loop
-returns-2 c = row-shorter (c .before .before .before .before .before .pre .0) (c .before .loop .inv) (c .loop-test .left)
+returns-2 c = row-shorter (c .before .before .before .before .before .before .pre .0) (c .before .before .loop .inv) (c .if1 .left)
 
 pub row-short-spec : {M : Type 1} → statement M
 row-short-spec =

@@ -11,10 +11,10 @@ use Rattle.rules.proofs.rows_short.Lts as lts
 use Rattle.rules.proofs.row_short.Reads as row-short-reads
 
 abbrev Inv-loop : tie.InvT-loop
-Inv-loop words question made s p d q e i₀ i = RowsLeft question words made p d q e i
+Inv-loop words question made s xs ys i₀ i = RowsLeft question words made (xs .start) (xs .end) (ys .start) (ys .end) i
 
 abbrev μ-loop : tie.MeasureT-loop
-μ-loop words question made s p d q e i₀ i = d - i
+μ-loop words question made s xs ys i₀ i = xs .end - i
 
 loop-holds : tie.Need-loop-holds Inv-loop μ-loop
 loop-holds c = rows-left _ _ _ _ _ _ _ (c .before .before .pre .1 .ordered)
@@ -25,9 +25,9 @@ row-short-requires c κs = search needs
 returns : tie.Need-returns Inv-loop μ-loop
 returns c =
     let c2 = c .before .before in
-    let c3 = c2 .before in
-    let c6 = c3 .before .before .before in
-    rows-long (c6 .pre .0) (c3 .loop .inv) (c2 .loop-test .taken) (c .before .row-short .ensures) (not-true _ (c .if1 .taken))
+    let c4 = c2 .before .before in
+    let c7 = c4 .before .before .before in
+    rows-long (c7 .pre .0) (c4 .loop .inv) (c2 .if1 .taken) (c .before .row-short .ensures) (not-true _ (c .if2 .taken))
 
 add-i : tie.Need-add-i Inv-loop μ-loop
 add-i c = search needs
@@ -38,12 +38,12 @@ loop-less c = search needs
 loop-again : tie.Need-loop-again Inv-loop μ-loop
 loop-again c =
     let c2 = c .before .before in
-    let c3 = c2 .before in
-    let c6 = c3 .before .before .before in
-    rows-go (c6 .pre .0) (c3 .loop .inv) (c2 .loop-test .taken) (c .before .row-short .ensures) (not-false _ (c .if1 .left))
+    let c4 = c2 .before .before in
+    let c7 = c4 .before .before .before in
+    rows-go (c7 .pre .0) (c4 .loop .inv) (c2 .if1 .taken) (c .before .row-short .ensures) (not-false _ (c .if2 .left))
 
 returns-2 : tie.Need-returns-2 Inv-loop μ-loop
-returns-2 c = rows-shorter (c .before .before .before .before .pre .0) (c .before .loop .inv) (c .loop-test .left)
+returns-2 c = rows-shorter (c .before .before .before .before .before .pre .0) (c .before .before .loop .inv) (c .if1 .left)
 
 pub rows-short-spec : {M : Type 1} → statement M
 rows-short-spec =

@@ -61,12 +61,18 @@ loop-less c = search needs
 
 loop-again : tie.Need-loop-again Inv-loop μ-loop
 loop-again c =
-    let l = c .before .before .before .before .before .step-link .ensures .0 in
-    let i = c .before .before .before .loop .inv .1 in
-    let h = c .before .before .before .before .if1 .left in
-    let n = c .before .before .before .before .before .before .pre .0 in
-    let p = c .before .permits .ensures in
-    (omega arith, ⊎-elim (λ w. rw (w .2, w .1 .ensures) (row-yes _ _ _ l _ h n p i (w .0 .taken))) (λ w. rw (w .1) (row-no _ _ _ l _ h n p i (w .0 .left))) (c .if2 .came))
+    let c3 = c .before .before .before in
+    let c4 = c3 .before in
+    let c5 = c4 .before in
+    let c6 = c5 .before in
+    let a = c6 .args .a .0 in
+    let l = c5 .step-link .ensures .0 in
+    let b = c3 .loop .b in
+    let p = c .before .permits .ensures in (
+      omega arith,
+      ⊎-elim (λ w. rw (w .2, w .1 .ensures) (row-yes _ _ a l b (c4 .if1 .left) (c6 .pre .0) p (c3 .loop .inv .1) (w .0 .taken)))
+          (λ w. rw (w .1) (row-no _ _ a l b (c4 .if1 .left) (c6 .pre .0) p (c3 .loop .inv .1) (w .0 .left))) (c .if2 .came),
+    )
 
 returns-2 : tie.Need-returns-2 Inv-loop μ-loop
 returns-2 c = row-over (c .before .loop .inv .1) (c .loop-test .left)

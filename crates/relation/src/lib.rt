@@ -1,5 +1,6 @@
 // Relations on up to 1,024 records in words that are lent: n rows of w words, the relation at word b.
 // An operation of two relations leaves its result in the first one's place and changes no other word.
+use rows::Merge;
 ghost use mathlib.Core.Path.{_≡_};
 ghost use mathlib.Core.Bool.{true, _&&_, _||_};
 ghost use Prim.Native.Nat.{ℕ, _+_, _*_, _/_, _<_, _≤_};
@@ -154,7 +155,7 @@ pub fn union(work: &mut [u64], p: usize, q: usize, n: usize, w: usize)
     requires { ⌜ (p + n * w ≤ q) × (q + n * w ≤ length (now work)) × (w ≤ 16) ⌝ }
     ensures { λ _. ⌜ Made p n w (op? n union (pair-at (now (work .entry)) p w) (pair-at (now (work .entry)) q w)) (now (work .entry)) (now (work .exit)) ⌝ }
 {
-    rows::unite_within(work, p, q, n * w);
+    rows::merge_within(Merge::Unite, work, p, q, n * w);
 }
 
 // The relation at p loses the pairs that the one at q lacks.
@@ -162,7 +163,7 @@ pub fn intersection(work: &mut [u64], p: usize, q: usize, n: usize, w: usize)
     requires { ⌜ (p + n * w ≤ q) × (q + n * w ≤ length (now work)) × (w ≤ 16) ⌝ }
     ensures { λ _. ⌜ Made p n w (op? n conjunction (pair-at (now (work .entry)) p w) (pair-at (now (work .entry)) q w)) (now (work .entry)) (now (work .exit)) ⌝ }
 {
-    rows::restrict_within(work, p, q, n * w);
+    rows::merge_within(Merge::Restrict, work, p, q, n * w);
 }
 
 // The word of a mask for the m records from g on: those from which a pair of the relation at q leads.

@@ -1,22 +1,22 @@
 -- The union of a row's words, which is 0 where each of them is.
 -- Assumes nothing.
 use mathlib.Core.Path.{_≡_, refl, sym, ap, _∙_}
-use mathlib.Core.Bool.{Bool, not, _&&_}
+use mathlib.Core.Bool.{true, false, not}
 use mathlib.Core.List.{List}
 use mathlib.Core.Logic.{⊎-elim}
 use Prim.Native.Nat.{ℕ, _+_, _*_, _/_, _%_, _^_, _<_}
-use native.Mathlib.Nat.{zero-add}
 use native.Mathlib.Omega.{arith}
 use borrow.Author.Count.{below-more}
 use borrow.Author.Tests.{eq-eqb, ne-eqb}
-use lib.Bits.{bitOr, bitAnd, or-add-and, and-le-l, and-le-r}
+use lib.Bits.{bitOr, or-add-and, and-le-l, and-le-r}
 use lib.Dec.{eqb}
 use lib.ListN.{getD}
 use Rattle.theory.specs.Lists.{some?, range}
 use Rattle.bits.specs.Bit.{bitOf}
-use Rattle.bits.proofs.Bits.{bit-and}
-use Rattle.rows.specs.Row.{row-bit, common}
-use Rattle.rows.proofs.Rows.{eq-or-ne, row-none, row-some}
+use Rattle.bits.proofs.Bits.{bit-zero, some-bit}
+use Rattle.rows.specs.Row.{row-bit}
+use Rattle.rows.proofs.Ranges.{some-none, some-one}
+use Rattle.rows.proofs.Rows.{eq-or-ne}
 
 -- v is the union of the words g 0 to g (j - 1)
 pub record Folded (g : ℕ → ℕ) (j v : ℕ) : Type 0 where
@@ -44,30 +44,29 @@ folded-more g j v f l =
           (eq-or-ne v 0);
     }
 
--- the row has a bit where the union has one
-folded-some : {n v : ℕ} (f : ℕ → Bool) (g : ℕ → ℕ) (w : ℕ) → ((t : ℕ) → t / 64 < w → f t ≡ bitOf (g (t / 64)) (t % 64)) → Folded g n v → n ≡ w → not (eqb v 0) ≡ some? f (range (64 * w))
-folded-some {v = v} f g w b p q =
-    ⊎-elim
-    (λ e. ap not (eq-eqb v 0 e) ∙ sym (row-none f g w b (λ j h. p .none e j (omega arith))))
-    (λ m. let y = p .some m in let lt = y .1 in ap not (ne-eqb v 0 m) ∙ sym (row-some f g w b (y .0) (omega arith) (y .2) (y .3)))
-    (eq-or-ne v 0)
-
--- ---- of a row, and of what a row and two masks have
+-- ---- of a row
 abbrev pub row-words : List ℕ → ℕ → ℕ → ℕ
 row-words xs r i = getD xs (r + i) 0
 
-abbrev pub common-words : List ℕ → ℕ → List ℕ → List ℕ → ℕ → ℕ
-common-words xs r ps qs i = bitAnd (getD xs (r + i) 0) (bitAnd (getD ps i 0) (getD qs i 0))
+-- it has no bit if its words are 0, and one if some word is not
+module _ (xs : List ℕ) (r w : ℕ) where
+  row-none : ((j : ℕ) → j < w → row-words xs r j ≡ 0) → some? (row-bit xs r) (range (64 * w)) ≡ false
+  unfolding row-bit
+  row-none e = some-none (row-bit xs r) (64 * w) (λ t h. ap (λ (x : ℕ). bitOf x (t % 64)) (e (t / 64) (omega arith)) ∙ bit-zero (t % 64))
 
+  row-some : (j : ℕ) → j < w → row-words xs r j < 2 ^ 64 → (row-words xs r j ≡ 0 → ⊥) → some? (row-bit xs r) (range (64 * w)) ≡ true
+  unfolding row-bit
+  row-some j h l n =
+      let b = some-bit 64 (row-words xs r j) l n in
+      let lt = b .1 in
+      let d : (64 * j + b .0) / 64 ≡ j = omega arith in
+      let m : (64 * j + b .0) % 64 ≡ b .0 = omega arith in
+      some-one (row-bit xs r) (64 * w) (64 * j + b .0) (omega arith) (rw (d, m) (b .2))
+
+-- the row has a bit where the union has one
 pub folded-any : {n v : ℕ} (xs : List ℕ) (r w : ℕ) → Folded (row-words xs r) n v → n ≡ w → not (eqb v 0) ≡ some? (row-bit xs r) (range (64 * w))
-unfolding row-bit
-folded-any xs r w = folded-some (row-bit xs r) (row-words xs r) w (λ t h. refl)
-
-pub common-bit : (xs : List ℕ) (r : ℕ) (ps qs : List ℕ) (t : ℕ) → common xs r ps qs t ≡ bitOf (common-words xs r ps qs (t / 64)) (t % 64)
-unfolding row-bit
-common-bit xs r ps qs t =
-    sym (bit-and (getD xs (r + t / 64) 0) (bitAnd (getD ps (t / 64) 0) (getD qs (t / 64) 0)) (t % 64)
-    ∙ ap (λ (b : Bool). row-bit xs r t && b) (bit-and (getD ps (t / 64) 0) (getD qs (t / 64) 0) (t % 64) ∙ rw (zero-add (t / 64))))
-
-pub folded-common : {n v : ℕ} (xs : List ℕ) (r : ℕ) (ps qs : List ℕ) (w : ℕ) → Folded (common-words xs r ps qs) n v → n ≡ w → not (eqb v 0) ≡ some? (common xs r ps qs) (range (64 * w))
-folded-common xs r ps qs w = folded-some (common xs r ps qs) (common-words xs r ps qs) w (λ t h. common-bit xs r ps qs t)
+folded-any {v = v} xs r w p q =
+    ⊎-elim
+    (λ e. ap not (eq-eqb v 0 e) ∙ sym (row-none xs r w (λ j h. p .none e j (omega arith))))
+    (λ m. let y = p .some m in let lt = y .1 in ap not (ne-eqb v 0 m) ∙ sym (row-some xs r w (y .0) (omega arith) (y .2) (y .3)))
+    (eq-or-ne v 0)

@@ -1,18 +1,28 @@
 -- The first bit that a row and two masks have, word by word.
 -- Assumes nothing.
 use mathlib.Core.Path.{_≡_, sym, ap, _∙_}
-use mathlib.Core.Bool.{Bool, false}
+use mathlib.Core.Bool.{Bool, false, _&&_}
 use mathlib.Core.List.{List}
 use mathlib.Core.Logic.{⊎-elim}
 use Prim.Native.Nat.{ℕ, _+_, _*_, _/_, _%_, _≤_, _<_}
+use native.Mathlib.Nat.{zero-add}
 use native.Mathlib.Omega.{arith}
+use lib.Bits.{bitAnd}
+use lib.ListN.{getD}
 use Rattle.bits.specs.Bit.{bitOf, Lowest}
-use Rattle.bits.proofs.Bits.{bit-zero}
-use Rattle.theory.specs.Lists.{some?, range}
-use Rattle.rows.specs.Row.{common, Least}
+use Rattle.bits.proofs.Bits.{bit-zero, bit-and}
+use Rattle.rows.specs.Row.{row-bit, common, Least}
 use Rattle.rows.proofs.Words.{le-or-lt}
-use Rattle.rows.proofs.Ranges.{some-no}
-use Rattle.rows.proofs.Folded.{common-words, common-bit}
+
+-- what word i of the row and of both masks have in common
+abbrev common-words : List ℕ → ℕ → List ℕ → List ℕ → ℕ → ℕ
+common-words xs r ps qs i = bitAnd (getD xs (r + i) 0) (bitAnd (getD ps i 0) (getD qs i 0))
+
+common-bit : (xs : List ℕ) (r : ℕ) (ps qs : List ℕ) (t : ℕ) → common xs r ps qs t ≡ bitOf (common-words xs r ps qs (t / 64)) (t % 64)
+unfolding row-bit
+common-bit xs r ps qs t =
+    sym (bit-and (getD xs (r + t / 64) 0) (bitAnd (getD ps (t / 64) 0) (getD qs (t / 64) 0)) (t % 64)
+    ∙ ap (λ (b : Bool). row-bit xs r t && b) (bit-and (getD ps (t / 64) 0) (getD qs (t / 64) 0) (t % 64) ∙ rw (zero-add (t / 64))))
 
 module _ (xs : List ℕ) (r : ℕ) (ps qs : List ℕ) where
   abbrev f : ℕ → Bool
@@ -55,6 +65,3 @@ module _ (xs : List ℕ) (r : ℕ) (ps qs : List ℕ) where
   -- none has
   pub least-none : (n i : ℕ) → Passed i → i ≡ n → Least f (64 * n) (64 * n)
   least-none n i p e = record { most = omega arith; here = λ k. absurd (omega arith); below = λ t k. p t (omega arith) }
-
-  pub least-no : (n : ℕ) → some? f (range (64 * n)) ≡ false → Least f (64 * n) (64 * n)
-  least-no n e = record { most = omega arith; here = λ k. absurd (omega arith); below = λ t k. some-no f (64 * n) t e k }

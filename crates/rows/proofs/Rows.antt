@@ -4,7 +4,7 @@ use mathlib.Core.Path.{_≡_, refl, sym, ap, _∙_}
 use mathlib.Core.Bool.{Bool, true, false, _&&_, _||_, not, and-true, or-false}
 use mathlib.Core.List.{List}
 use mathlib.Core.Logic.{_⊎_, inl, inr, ⊎-elim}
-use Prim.Native.Nat.{ℕ, _+_, _*_, _/_, _%_, _^_, _≤_, _<_}
+use Prim.Native.Nat.{ℕ, _+_, _/_, _%_, _^_, _≤_, _<_}
 use native.Mathlib.Omega.{arith}
 use native.Mathlib.Nat.{zero-add, eq-or-lt-of-le}
 use lib.Bits.{bitOr, bitAnd}
@@ -13,12 +13,13 @@ use lib.ListN.{length, getD, set}
 use lib.Seq.{getD-set-same, getD-set-other}
 use borrow.Author.Tests.{eq-eqb, ne-eqb}
 use Rattle.bits.specs.Bit.{bitOf, withBit, without}
-use Rattle.bits.proofs.Bits.{bit-zero, bit-or, bit-and, bit-pow, bit-with, bit-without, some-bit}
-use Rattle.theory.specs.Lists.{some?, range}
+use Rattle.bits.proofs.Bits.{bit-zero, bit-or, bit-and, bit-pow, bit-with, bit-without}
 use Rattle.rows.specs.Kept.{Kept, Wrote}
 use Rattle.rows.specs.Row.{row-bit, Row, Put}
+use Rattle.rows.specs.Merged.{merged-word, merged-bit}
+use Rattle.rows.specs.declared.Merge.{Merge}
+use Rattle.rows.specs.declared.Merge.the-variants.{Copy, Unite, Restrict, Exclude}
 use Rattle.rows.proofs.Words.{kept-refl, kept-trans, kept-in, kept-set, le-or-lt}
-use Rattle.rows.proofs.Ranges.{some-none, some-one}
 
 -- a row that lies outside what changed is as it was
 pub kept-bit : {lo hi : ℕ} {xs ys : List ℕ} (r w t : ℕ) → Kept lo hi xs ys → (r + w ≤ lo) ⊎ (hi ≤ r) → t / 64 < w → row-bit ys r t ≡ row-bit xs r t
@@ -46,22 +47,21 @@ module _ {d w : ℕ} {xs ys : List ℕ} where
   unfolding row-bit
   row-zero p = record { kept = p .kept; bit = λ t h. ap (λ (x : ℕ). bitOf x (t % 64)) (p .word (t / 64) h) ∙ bit-zero (t % 64) }
 
+-- a merged word has the merged bits
+bit-merged : (how : Merge) (a b k : ℕ) → bitOf (merged-word how a b) k ≡ merged-bit how (bitOf a k) (bitOf b k)
+unfolding without
+bit-merged Copy a b k = refl
+bit-merged Unite a b k = bit-or a b k
+bit-merged Restrict a b k = bit-and a b k
+bit-merged Exclude a b k = bit-without a b k
+
 module _ {d w : ℕ} {xs ys : List ℕ} (rs : List ℕ) (s : ℕ) where
-  pub row-copy : Wrote d w (λ j. getD rs (s + j) 0) xs ys → Row d w (row-bit rs s) xs ys
+  pub row-merged : (how : Merge) → Wrote d w (λ j. merged-word how (getD xs (d + j) 0) (getD rs (s + j) 0)) xs ys → Row d w (λ t. merged-bit how (row-bit xs d t) (row-bit rs s t)) xs ys
   unfolding row-bit
-  row-copy p = record { kept = p .kept; bit = λ t h. ap (λ (x : ℕ). bitOf x (t % 64)) (p .word (t / 64) h) }
-
-  pub row-or : Wrote d w (λ j. bitOr (getD xs (d + j) 0) (getD rs (s + j) 0)) xs ys → Row d w (λ t. row-bit xs d t || row-bit rs s t) xs ys
-  unfolding row-bit
-  row-or p = record { kept = p .kept; bit = λ t h. ap (λ (x : ℕ). bitOf x (t % 64)) (p .word (t / 64) h) ∙ bit-or (getD xs (d + t / 64) 0) (getD rs (s + t / 64) 0) (t % 64) }
-
-  pub row-and : Wrote d w (λ j. bitAnd (getD xs (d + j) 0) (getD rs (s + j) 0)) xs ys → Row d w (λ t. row-bit xs d t && row-bit rs s t) xs ys
-  unfolding row-bit
-  row-and p = record { kept = p .kept; bit = λ t h. ap (λ (x : ℕ). bitOf x (t % 64)) (p .word (t / 64) h) ∙ bit-and (getD xs (d + t / 64) 0) (getD rs (s + t / 64) 0) (t % 64) }
-
-  pub row-without : Wrote d w (λ j. without (getD xs (d + j) 0) (getD rs (s + j) 0)) xs ys → Row d w (λ t. row-bit xs d t && not (row-bit rs s t)) xs ys
-  unfolding row-bit
-  row-without p = record { kept = p .kept; bit = λ t h. ap (λ (x : ℕ). bitOf x (t % 64)) (p .word (t / 64) h) ∙ bit-without (getD xs (d + t / 64) 0) (getD rs (s + t / 64) 0) (t % 64) }
+  row-merged how p = record {
+    kept = p .kept;
+    bit = λ t h. ap (λ (x : ℕ). bitOf x (t % 64)) (p .word (t / 64) h) ∙ bit-merged how (getD xs (d + t / 64) 0) (getD rs (s + t / 64) 0) (t % 64);
+  }
 
   pub row-masked : (ms : List ℕ) → Wrote d w (λ j. bitOr (getD xs (d + j) 0) (bitAnd (getD rs (s + j) 0) (getD ms j 0))) xs ys
       → Row d w (λ t. row-bit xs d t || (row-bit rs s t && row-bit ms 0 t)) xs ys
@@ -108,16 +108,3 @@ put-yes t p e w h = rw e (p w h)
 
 pub put-no : {b : Bool} (t : ℕ) (xs : List ℕ) → b ≡ false → Put 0 t (λ j. row-bit xs 0 j || (b && eqb j t)) xs xs
 put-no t xs e w h = rw e (row-is (row-same 0 w xs) (λ j l. sym (or-false (row-bit xs 0 j))))
-
--- ---- whether a row has a bit, where word i of it is g i: no, if its words are 0; yes, if one is not
-module _ (f : ℕ → Bool) (g : ℕ → ℕ) (w : ℕ) (bits : (t : ℕ) → t / 64 < w → f t ≡ bitOf (g (t / 64)) (t % 64)) where
-  pub row-none : ((j : ℕ) → j < w → g j ≡ 0) → some? f (range (64 * w)) ≡ false
-  row-none e = some-none f (64 * w) (λ t h. bits t (omega arith) ∙ ap (λ (x : ℕ). bitOf x (t % 64)) (e (t / 64) (omega arith)) ∙ bit-zero (t % 64))
-
-  pub row-some : (j : ℕ) → j < w → g j < 2 ^ 64 → (g j ≡ 0 → ⊥) → some? f (range (64 * w)) ≡ true
-  row-some j h l n =
-      let b = some-bit 64 (g j) l n in
-      let lt = b .1 in
-      let d : (64 * j + b .0) / 64 ≡ j = omega arith in
-      let m : (64 * j + b .0) % 64 ≡ b .0 = omega arith in
-      some-one f (64 * w) (64 * j + b .0) (omega arith) (bits (64 * j + b .0) (omega arith) ∙ rw (d, m) (b .2))

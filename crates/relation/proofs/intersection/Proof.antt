@@ -7,20 +7,20 @@ use Rattle.relation.proofs.intersection.Statement.{statement}
 use Rattle.relation.proofs.intersection.Tie as tie
 use Rattle.relation.proofs.intersection.Reads as reads
 use Rattle.relation.proofs.intersection.Lts as lts
-use Rattle.rows.proofs.restrict_within.Reads as restrict-within-reads
+use Rattle.rows.proofs.merge_within.Reads as merge-within-reads
 
-mul-restrict-within : tie.Need-mul-restrict-within
-mul-restrict-within c = search needs
+mul-merge-within : tie.Need-mul-merge-within
+mul-merge-within c = search needs
 
-restrict-within-requires : tie.Need-restrict-within-requires
-restrict-within-requires c κs = search needs
+merge-within-requires : tie.Need-merge-within-requires
+merge-within-requires c κs = search needs
 
 same-length : tie.Need-same-length
 same-length c = search needs
 
 returns : tie.Need-returns
-returns c = both-whole _&&_ (c .before .before .before .before .before .args .q) (c .before .before .restrict-within .ensures)
+returns c = both-whole _&&_ (c .before .before .before .before .before .args .q) (c .before .before .merge-within .ensures)
 
 pub intersection-spec : {M : Type 1} → statement M
 intersection-spec =
-    tie.close (tie.spec mul-restrict-within restrict-within-requires same-length returns)
+    tie.close (tie.spec mul-merge-within merge-within-requires same-length returns)

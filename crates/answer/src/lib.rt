@@ -28,17 +28,15 @@ ghost use Rattle.answer.specs.Internal.{Adds};
 // The relations of the work words: those of a stack, and the steps that are held past them.
 pub const RELATIONS: usize = chains::STACKED + chains::HELD;
 
-// The bits of a word, and what a number of records is rounded up by.
-const BITS: usize = 64;
-
-const ROUND_UP: usize = BITS - 1;
+// What a number of records is rounded up by.
+const ROUND_UP: usize = rows::BITS - 1;
 
 // The words of a row of n records.
 pub fn row_words(n: usize) -> usize
     requires { ⌜ n ≤ 1024 ⌝ }
     ensures { λ w. ⌜ w ≡ row-words n ⌝ }
 {
-    (n + ROUND_UP) / BITS
+    (n + ROUND_UP) / rows::BITS
 }
 
 // 14; or the pairs of the path of `count` codes, as the answer's words.

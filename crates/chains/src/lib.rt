@@ -1,6 +1,8 @@
 // Members that are chains of steps: a step, and then any number of a step and a join through a set. Each step is loaded once, and held past
 // the relations of a stack for the members to come. A chain is then a route over those relations, which is walked record by record from the
 // from set: a row goes through all links in a few words, and no relation is made on the way.
+use rows::BITS;
+use rows::WIDEST;
 ghost use mathlib.Core.Path.{_≡_};
 ghost use mathlib.Core.Bool.{true, false, _&&_, _||_};
 ghost use mathlib.Core.Option.{some};
@@ -20,19 +22,16 @@ ghost use Rattle.chains.specs.Route.{routed, Routed, Leads, between, Gai
 // How many steps are held: as many relations as the work words have past those of a stack.
 pub const HELD: usize = 4;
 
-// The relations of a stack, past which they lie.
-pub const STACKED: usize = 24;
+// The relations of a stack, past which they lie: as many as a member can have steps.
+pub const STACKED: usize = STEPS;
 
 // The number in place of a step's where none is held.
 pub const NONE: u8 = 255;
 
-// The most steps of a chain, and the words of the masks between them.
-pub const STEPS: usize = 24;
+// The most steps of a member, each but the first with an operator, and the words of the masks between them.
+pub const STEPS: usize = fields::MEMBER_SYMBOLS / 2;
 
-pub const MASKS: usize = STEPS * ROW;
-
-// The words of the largest registers' rows.
-const ROW: usize = 16;
+pub const MASKS: usize = STEPS * WIDEST;
 
 // Whether the symbols of a member are a chain.
 fn chained(numbers: &[u8], first: usize, size: usize) -> bool
@@ -123,9 +122,9 @@ fn link(
         return false;
     }
     bases[j + 1] = (STACKED + k) * (n * w);
-    let mut mask = [0u64; ROW];
+    let mut mask = [0u64; WIDEST];
     kind_rows::records_of(&mut mask, kinds, w, set);
-    rows::copy(masks, ROW * j, &mask, 0, w);
+    rows::copy(masks, WIDEST * j, &mask, 0, w);
     true
 }
 
@@ -235,7 +234,7 @@ fn walk_row(
 {
     relation::take_row(row, work, bases[0] + s * w, work, bases[1], n, w, masks, 0);
     for j in 1..m {
-        relation::follow(row, work, bases[j + 1], n, w, masks, ROW * j);
+        relation::follow(row, work, bases[j + 1], n, w, masks, WIDEST * j);
     }
 }
 
@@ -259,7 +258,7 @@ fn add_row(
         rows::unite_masked(answer, s * w, work, bases[0] + s * w, to, w);
         return;
     }
-    let mut row = [0u64; ROW];
+    let mut row = [0u64; WIDEST];
     walk_row(&mut row, work, s, n, w, bases, masks, m);
     rows::unite_masked(answer, s * w, &row, 0, to, w);
 }
@@ -285,7 +284,7 @@ fn add_word(
     let mut p = 0;
     while y != 0 {
         let k = bits::lowest(y);
-        add_row(answer, work, 64 * i + p + k, n, w, bases, masks, m, to);
+        add_row(answer, work, BITS * i + p + k, n, w, bases, masks, m, to);
         p = p + k + 1;
         y = (y >> k) >> 1;
     }
@@ -329,8 +328,8 @@ pub fn add_pairs(
     ensures { λ _. ⌜ Made 0 n w (λ s t. pair-at (now (answer .entry)) 0 w s t || (routed (now (work .entry)) (now (bases .entry)) (now (masks .entry)) n w m s t
         && (in-set (now (kinds .entry)) w from s && in-set (now (kinds .entry)) w to t))) (now (answer .entry)) (now (answer .exit)) ⌝ }
 {
-    let mut sources = [0u64; ROW];
-    let mut targets = [0u64; ROW];
+    let mut sources = [0u64; WIDEST];
+    let mut targets = [0u64; WIDEST];
     kind_rows::records_of(&mut sources, kinds, w, from);
     kind_rows::records_of(&mut targets, kinds, w, to);
     add_rows(answer, work, n, w, bases, masks, m, &sources, &targets);

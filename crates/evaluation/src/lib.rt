@@ -21,6 +21,9 @@ ghost use Rattle.relation.specs.Pairs.{pair-at, Made, Clean};
 ghost use Rattle.evaluation.specs.Ground.{Ground, direction, leads?, closes?, symbols-in, MakePath};
 ghost use Rattle.evaluation.specs.Stack.{binary?, Applicable, Applied, Evaluated};
 
+// A word with all bits.
+const ALL: u64 = 0xffffffffffffffff;
+
 // The number of a kind.
 pub fn wide(k: Kind) -> usize
     ensures { λ r. ⌜ r ≡ k .0 ⌝ }
@@ -47,7 +50,7 @@ pub fn kind_mask(mask: &mut [u64], register: &[u8], n: usize, w: usize, set: u64
     ensures { λ _. ⌜ Row 0 w (mask-of (λ t. has set (kind (register-in (now (register .entry))) t)) n) (now (mask .entry)) (now (mask .exit)) ⌝ }
 {
     for i in 0..w {
-        let g = 64 * i;
+        let g = rows::BITS * i;
         mask[i] = kind_word(register, g, rows::in_word(n, g), set);
     }
 }
@@ -118,7 +121,7 @@ fn join(work: &mut [u64], p: usize, q: usize, n: usize, w: usize, register: &[u8
     requires { ⌜ (p + n * w ≤ q) × (q + n * w ≤ length (now work)) × Ground (now register) n w × Clean (now work) p n w ⌝ }
     ensures { λ _. ⌜ Made p n w (binary? (register-in (now (register .entry))) (s-join any) (pair-at (now (work .entry)) p w) (pair-at (now (work .entry)) q w)) (now (work .entry)) (now (work .exit)) ⌝ }
 {
-    let mask = [18446744073709551615u64; 16];
+    let mask = [ALL; rows::WIDEST];
     relation::join(work, p, q, n, w, &mask);
 }
 
@@ -127,7 +130,7 @@ fn join_through(work: &mut [u64], p: usize, q: usize, n: usize, w: usize, regist
     requires { ⌜ (p + n * w ≤ q) × (q + n * w ≤ length (now work)) × Ground (now register) n w × Clean (now work) p n w ⌝ }
     ensures { λ _. ⌜ Made p n w (binary? (register-in (now (register .entry))) (s-join (through set)) (pair-at (now (work .entry)) p w) (pair-at (now (work .entry)) q w)) (now (work .entry)) (now (work .exit)) ⌝ }
 {
-    let mut mask = [0u64; 16];
+    let mut mask = [0u64; rows::WIDEST];
     kind_mask(&mut mask, register, n, w, set);
     relation::join(work, p, q, n, w, &mask);
 }

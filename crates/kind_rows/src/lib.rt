@@ -10,7 +10,7 @@ ghost use Rattle.kind_rows.specs.Kinds.{KindRows, in-set};
 const KINDS: usize = fields::KINDS as usize;
 
 // The words of a table for the largest registers.
-pub const TABLE: usize = 1024;
+pub const TABLE: usize = KINDS * rows::WIDEST;
 
 // The table becomes that of a register of n records, in rows of w words.
 pub fn fill(kinds: &mut [u64], register: &[u8], n: usize, w: usize)

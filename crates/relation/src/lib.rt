@@ -42,12 +42,12 @@ fn take_aside(row: &mut [u64], work: &[u64], q: usize, n: usize, w: usize, g: us
     requires { ⌜ (w ≤ length (now row)) × (w ≤ 16) × (q + n * w ≤ length (now work)) × ((i : ℕ) → bitOf v i ≡ true → g + i < n) ⌝ }
     ensures { λ _. ⌜ Row 0 w (taken (now (row .entry)) (now (work .entry)) q w g v 64) (now (row .entry)) (now (row .exit)) ⌝ }
 {
-    let mut all = [0u64; 16];
+    let mut all = [0u64; rows::WIDEST];
     take_bits(&mut all, work, q, n, w, g, v);
     rows::unite(row, 0, &all, 0, w);
 }
 
-// As `take_word`, for a word of many bits. Of constant length where `rows::copy` is.
+// As `take_word`, for a word of many bits: where rows are as long as most are, by loops of constant length.
 pub fn gather(row: &mut [u64], work: &[u64], q: usize, n: usize, w: usize, g: usize, v: u64)
     requires { ⌜ (w ≤ length (now row)) × (q + n * w ≤ length (now work)) × ((i : ℕ) → bitOf v i ≡ true → g + i < n) ⌝ }
     ensures { λ _. ⌜ Row 0 w (taken (now (row .entry)) (now (work .entry)) q w g v 64) (now (row .entry)) (now (row .exit)) ⌝ }
@@ -57,7 +57,7 @@ pub fn gather(row: &mut [u64], work: &[u64], q: usize, n: usize, w: usize, g: us
         2 => take_aside(row, work, q, n, 2, g, v),
         4 => take_aside(row, work, q, n, 4, g, v),
         8 => take_aside(row, work, q, n, 8, g, v),
-        16 => take_aside(row, work, q, n, 16, g, v),
+        rows::WIDEST => take_aside(row, work, q, n, rows::WIDEST, g, v),
         _ => take_bits(row, work, q, n, w, g, v),
     }
 }
@@ -68,8 +68,8 @@ pub fn take_word(row: &mut [u64], work: &[u64], q: usize, n: usize, w: usize, g:
     requires { ⌜ (w ≤ length (now row)) × (q + n * w ≤ length (now work)) × ((i : ℕ) → bitOf v i ≡ true → g + i < n) ⌝ }
     ensures { λ _. ⌜ Row 0 w (taken (now (row .entry)) (now (work .entry)) q w g v 64) (now (row .entry)) (now (row .exit)) ⌝ }
 {
-    if w == 16 {
-        take_bits(row, work, q, n, 16, g, v);
+    if w == rows::WIDEST {
+        take_bits(row, work, q, n, rows::WIDEST, g, v);
         return;
     }
     gather(row, work, q, n, w, g, v);
@@ -102,7 +102,7 @@ pub fn take_row(
 {
     for i in 0..w {
         let v = from[d + i] & mask[m + i];
-        take_some(row, work, q, n, w, 64 * i, v);
+        take_some(row, work, q, n, w, rows::BITS * i, v);
     }
 }
 
@@ -112,7 +112,7 @@ pub fn follow(row: &mut [u64], work: &[u64], q: usize, n: usize, w: usize, mask:
     ensures { λ _. ⌜ Row 0 w (λ t. some? (λ z. row-bit (now (row .entry)) 0 z && (pair-at (now (work .entry)) q w z t && row-bit (now (mask .entry)) m z)) (range n))
         (now (row .entry)) (now (row .exit)) ⌝ }
 {
-    let mut next = [0u64; 16];
+    let mut next = [0u64; rows::WIDEST];
     take_row(&mut next, row, 0, work, q, n, w, mask, m);
     rows::copy(row, 0, &next, 0, w);
 }
@@ -123,7 +123,7 @@ fn follow_row(work: &mut [u64], d: usize, q: usize, n: usize, w: usize, mask: &[
     ensures { λ _. ⌜ Row d w (λ t. some? (λ z. row-bit (now (work .entry)) d z && (pair-at (now (work .entry)) q w z t && row-bit (now (mask .entry)) 0 z)) (range n))
         (now (work .entry)) (now (work .exit)) ⌝ }
 {
-    let mut joined = [0u64; 16];
+    let mut joined = [0u64; rows::WIDEST];
     take_row(&mut joined, work, d, work, q, n, w, mask, 0);
     rows::copy(work, d, &joined, 0, w);
 }
@@ -209,7 +209,7 @@ pub fn branch_right(work: &mut [u64], p: usize, q: usize, n: usize, w: usize)
     requires { ⌜ (p + n * w ≤ q) × (q + n * w ≤ length (now work)) × (w ≤ 16) × (n ≤ 64 * w) × Clean (now work) p n w × Clean (now work) q n w ⌝ }
     ensures { λ _. ⌜ Made p n w (op? n branch-right (pair-at (now (work .entry)) p w) (pair-at (now (work .entry)) q w)) (now (work .entry)) (now (work .exit)) ⌝ }
 {
-    let mut mask = [0u64; 16];
+    let mut mask = [0u64; rows::WIDEST];
     sources(&mut mask, work, q, n, w);
     keep_targets(work, p, n, w, &mask);
 }
@@ -218,7 +218,7 @@ fn copy_row(work: &mut [u64], d: usize, s: usize, w: usize)
     requires { ⌜ (d + w ≤ s) × (s + w ≤ length (now work)) × (w ≤ 16) ⌝ }
     ensures { λ _. ⌜ Row d w (row-bit (now (work .entry)) s) (now (work .entry)) (now (work .exit)) ⌝ }
 {
-    let mut row = [0u64; 16];
+    let mut row = [0u64; rows::WIDEST];
     rows::copy(&mut row, 0, work, s, w);
     rows::copy(work, d, &row, 0, w);
 }

@@ -9,12 +9,20 @@ ghost use Rattle.rows.specs.Kept.{Wrote};
 ghost use Rattle.rows.specs.Row.{row-bit, Row, Put, common, Least};
 ghost use Rattle.rows.specs.Merged.{merged-word, merged-bit};
 
+// The bits of a word.
+pub const BITS: usize = 64;
+
+// The words of the widest rows, and the most records of a row.
+pub const WIDEST: usize = 16;
+
+pub const RECORDS: usize = BITS * WIDEST;
+
 // Bit t of the row at r.
 pub fn has(words: &[u64], r: usize, t: usize) -> bool
     requires { ⌜ r + t / 64 < length (now words) ⌝ }
     ensures { λ b. ⌜ b ≡ row-bit (now (words .entry)) r t ⌝ }
 {
-    bits::bit(words[r + t / 64], t % 64)
+    bits::bit(words[r + t / BITS], t % BITS)
 }
 
 // Sets bit t of the row at d.
@@ -22,8 +30,8 @@ pub fn set(words: &mut [u64], d: usize, t: usize)
     requires { ⌜ d + t / 64 < length (now words) ⌝ }
     ensures { λ _. ⌜ Put d t (λ j. row-bit (now (words .entry)) d j || eqb j t) (now (words .entry)) (now (words .exit)) ⌝ }
 {
-    let a = d + t / 64;
-    words[a] = bits::with_bit(words[a], t % 64);
+    let a = d + t / BITS;
+    words[a] = bits::with_bit(words[a], t % BITS);
 }
 
 // Clears bit t of the row at d.
@@ -31,8 +39,8 @@ pub fn unset(words: &mut [u64], d: usize, t: usize)
     requires { ⌜ d + t / 64 < length (now words) ⌝ }
     ensures { λ _. ⌜ Put d t (λ j. row-bit (now (words .entry)) d j && not (eqb j t)) (now (words .entry)) (now (words .exit)) ⌝ }
 {
-    let a = d + t / 64;
-    words[a] = bits::without_bit(words[a], t % 64);
+    let a = d + t / BITS;
+    words[a] = bits::without_bit(words[a], t % BITS);
 }
 
 // Sets bit t of the row at the start, if b is true.
@@ -61,10 +69,10 @@ pub fn in_word(n: usize, g: usize) -> usize
     ensures { λ m. ⌜ (m ≤ 64) × (g + m ≤ n) × (m < 64 → g + m ≡ n) ⌝ }
 {
     let m = n - g;
-    if m < 64 {
+    if m < BITS {
         return m;
     }
-    64
+    BITS
 }
 
 // Whether the row of n words at r has a bit. The loop unites the words: with no early exit it can be vectorised.
@@ -87,10 +95,10 @@ pub fn first(words: &[u64], r: usize, a: &[u64], b: &[u64], n: usize) -> usize
     for i in 0..n {
         let v = words[r + i] & (a[i] & b[i]);
         if v != 0 {
-            return 64 * i + bits::lowest(v);
+            return BITS * i + bits::lowest(v);
         }
     }
-    64 * n
+    BITS * n
 }
 
 // What becomes of a word, or of a row, that another one is merged into: it becomes the other, takes in the other's bits, loses the bits

@@ -1,6 +1,9 @@
 // The transitive closure of a relation in lent words, at the cost of its rows. Rows are finished one after the other: a row takes in the
 // rows of the records that it has. A finished row brings with it all that its own records lead to, so that these need not be gone through.
 // Any order is right. The rows are finished as a depth-first search leaves them, so that most find finished ones to take in.
+use rows::BITS;
+use rows::RECORDS;
+use rows::WIDEST;
 ghost use mathlib.Core.Path.{_≡_};
 ghost use mathlib.Core.Bool.{true, false, _&&_, _||_};
 ghost use Prim.Native.Nat.{ℕ, _+_, _*_, _/_, _%_, _<_, _≤_};
@@ -46,8 +49,8 @@ fn take_all_finished(
     ensures { λ _. ⌜ Took w (in-word (now (work .entry)) b w i v) (λ t. in-word (now (work .entry)) b w i v t || (eqb (t / 64) i && bitOf v (t % 64)))
         (now (row .entry)) (now (left .entry)) (now (row .exit)) (now (left .exit)) ⌝ }
 {
-    let mut all = [0u64; 16];
-    relation::gather(&mut all, work, b, n, w, 64 * i, v);
+    let mut all = [0u64; WIDEST];
+    relation::gather(&mut all, work, b, n, w, BITS * i, v);
     rows::unite(row, 0, &all, 0, w);
     rows::exclude(left, 0, &all, 0, w);
     let x = left[i];
@@ -95,13 +98,25 @@ fn step(
     ensures { λ g. ⌜ Stepped (now (work .entry)) b n w s (now (row .entry)) (now (left .entry)) (now (row .exit)) (now (left .exit)) g ⌝ }
 {
     let k = rows::first(row, 0, left, finished, w);
-    if k < 64 * w {
+    if k < BITS * w {
         take_finished(row, left, work, b + k * w, w, k);
-        take_rest(row, left, work, live, pending, finished, b, n, w, s, k / 64);
+        take_rest(
+            row,
+            left,
+            work,
+            live,
+            pending,
+            finished,
+            b,
+            n,
+            w,
+            s,
+            k / BITS,
+        );
         return true;
     }
     let z = rows::first(row, 0, left, left, w);
-    if z < 64 * w {
+    if z < BITS * w {
         take_pending(row, left, work, b + z * w, w, z);
         return true;
     }
@@ -123,7 +138,7 @@ fn reach(
     requires { ⌜ PartlyClosed (now work) (now live) (now pending) (now finished) b n w × (s < n) × (w ≤ length (now row)) ⌝ }
     ensures { λ _. ⌜ Row 0 w (closure-at (now (work .entry)) b n w s) (now (row .entry)) (now (row .exit)) ⌝ }
 {
-    let mut left = [0u64; 16];
+    let mut left = [0u64; WIDEST];
     rows::copy(&mut left, 0, live, 0, w);
     rows::copy(row, 0, work, b + s * w, w);
     let mut going = true;
@@ -146,7 +161,7 @@ fn finish(
     requires { ⌜ PartlyClosed (now work) (now live) (now pending) (now finished) b n w × (s < n) ⌝ }
     ensures { λ _. ⌜ Stage b n w (now (live .entry)) (now (work .entry)) (now (pending .entry)) (now (finished .entry)) (now (work .exit)) (now (pending .exit)) (now (finished .exit)) × (row-bit (now (pending .exit)) 0 s ≡ false) ⌝ }
 {
-    let mut row = [0u64; 16];
+    let mut row = [0u64; WIDEST];
     reach(&mut row, work, live, pending, finished, b, n, w, s);
     rows::copy(work, b + s * w, &row, 0, w);
     rows::unset(pending, 0, s);
@@ -190,7 +205,7 @@ fn turn(
     ensures { λ r. ⌜ Stage b n w (now (live .entry)) (now (work .entry)) (now (pending .entry)) (now (finished .entry)) (now (work .exit)) (now (pending .exit)) (now (finished .exit))
         × Turned n w depth r (now (stack .entry)) (now (unseen .entry)) (now (stack .exit)) (now (unseen .exit)) ⌝ }
 {
-    if k < 64 * w {
+    if k < BITS * w {
         rows::unset(unseen, 0, k);
         stack[depth] = k;
         return depth + 1;
@@ -212,12 +227,12 @@ fn walk(
     requires { ⌜ PartlyClosed (now work) (now live) (now pending) (now finished) b n w ⌝ }
     ensures { λ _. ⌜ Stage b n w (now (live .entry)) (now (work .entry)) (now (pending .entry)) (now (finished .entry)) (now (work .exit)) (now (pending .exit)) (now (finished .exit)) ⌝ }
 {
-    let mut unseen = [0u64; 16];
+    let mut unseen = [0u64; WIDEST];
     rows::copy(&mut unseen, 0, pending, 0, w);
-    let mut stack = [0usize; 1024];
+    let mut stack = [0usize; RECORDS];
     let mut depth = 0;
     let mut k = ahead(work, &unseen, &stack, b, n, w, 0);
-    while k < 64 * w + depth {
+    while k < BITS * w + depth {
         depth = turn(
             work,
             pending,
@@ -241,14 +256,14 @@ pub fn closure(work: &mut [u64], b: usize, n: usize, w: usize)
     requires { ⌜ (b + n * w ≤ length (now work)) × (n ≤ 64 * w) × (w ≤ 16) × Clean (now work) b n w ⌝ }
     ensures { λ _. ⌜ Made b n w (look (closure? n (pair-at (now (work .entry)) b w))) (now (work .entry)) (now (work .exit)) ⌝ }
 {
-    let mut live = [0u64; 16];
+    let mut live = [0u64; WIDEST];
     relation::sources(&mut live, work, b, n, w);
-    let mut pending = [0u64; 16];
+    let mut pending = [0u64; WIDEST];
     rows::copy(&mut pending, 0, &live, 0, w);
-    let mut finished = [0u64; 16];
+    let mut finished = [0u64; WIDEST];
     walk(work, &mut pending, &mut finished, &live, b, n, w);
     let mut s = rows::first(&pending, 0, &pending, &pending, w);
-    while s < 64 * w {
+    while s < BITS * w {
         finish(work, &mut pending, &mut finished, &live, b, n, w, s);
         s = rows::first(&pending, 0, &pending, &pending, w);
     }

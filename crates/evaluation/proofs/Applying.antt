@@ -99,7 +99,8 @@ module _ {s : List ℕ} {n w : ℕ} (ground : Ground s n w) where
             let k : step d l ∷ st ≡ st′ = cc in
             subst (Stacked (register-in s) ys n w (b + n * w)) k (
               omega arith,
-              subst (λ (i : ℕ). Stored ys i n w (look (evaluate (register-in s) (step d l)))) (sym back) (stored-step (register-in s) (limits ground .formed) n w (ground .count) (rows-hold ground) d l m),
+              subst (λ (i : ℕ). Stored ys i n w (look (evaluate (register-in s) (step d l)))) (sym back)
+                  (stored-step (register-in s) (limits ground .formed) n w (ground .count) (rows-hold ground) d l m),
               subst (λ (i : ℕ). Stacked (register-in s) ys n w i st) (sym back) (stacked-kept (register-in s) n w b st (m .kept) (omega arith) h),
             )
 

@@ -17,15 +17,15 @@ use Rattle.rows.proofs.Ranges.{some-same}
 use Rattle.rows.proofs.Masks.{mask-at}
 use Rattle.symbols.specs.Symbols.{symbol-numbered}
 use Rattle.register.specs.Form.{register-in}
-use Rattle.relation.specs.Pairs.{pair-at, Made}
+use Rattle.relation.specs.Pairs.{pair-at, Combined}
 use Rattle.relation.proofs.Making.{made-is}
 use Rattle.evaluation.specs.Ground.{Ground}
 use Rattle.evaluation.specs.Stack.{binary?}
 use Rattle.evaluation.proofs.Grounds.{rows-hold, narrow}
 
 module _ {s : List ℕ} {n w : ℕ} (ground : Ground s n w) {xs ys : List ℕ} (p q : ℕ) where
-  by-mask : (v : Via) (pass : ℕ → Bool) → ((z : ℕ) → z < n → pass z ≡ passes? (register-in s) v z) → Made p n w (join? n pass (pair-at xs p w) (pair-at xs q w)) xs ys
-      → Made p n w (binary? (register-in s) (s-join v) (pair-at xs p w) (pair-at xs q w)) xs ys
+  by-mask : (v : Via) (pass : ℕ → Bool) → ((z : ℕ) → z < n → pass z ≡ passes? (register-in s) v z) → Combined (join? n pass) p q n w xs ys
+      → Combined (binary? (register-in s) (s-join v)) p q n w xs ys
   by-mask v pass e m =
       made-is m (λ i t hs ht.
       some-same (λ z. pair-at xs p w i z && (pair-at xs q w z t && pass z)) (λ z. pair-at xs p w i z && (pair-at xs q w z t && passes? (register-in s) v z)) n
@@ -33,8 +33,8 @@ module _ {s : List ℕ} {n w : ℕ} (ground : Ground s n w) {xs ys : List ℕ} (
       ∙ ap (λ (k : ℕ). join? k (passes? (register-in s) v) (pair-at xs p w) (pair-at xs q w) i t) (sym (ground .count)))
 
   -- a mask of ones
-  pub join-plain : Made p n w (join? n (row-bit (replicate 16 18446744073709551615) 0) (pair-at xs p w) (pair-at xs q w)) xs ys
-      → Made p n w (binary? (register-in s) (s-join any) (pair-at xs p w) (pair-at xs q w)) xs ys
+  pub join-plain : Combined (join? n (row-bit (replicate 16 18446744073709551615) 0)) p q n w xs ys
+      → Combined (binary? (register-in s) (s-join any)) p q n w xs ys
   unfolding row-bit
   join-plain m =
       let few = narrow ground in
@@ -44,18 +44,18 @@ module _ {s : List ℕ} {n w : ℕ} (ground : Ground s n w) {xs ys : List ℕ} (
 
   -- a mask of the records whose kind is in the set
   pub join-kinds : {ms₀ ms : List ℕ} (set : ℕ) → Row 0 w (mask-of (λ t. has set (kind (register-in s) t)) n) ms₀ ms
-      → Made p n w (join? n (row-bit ms 0) (pair-at xs p w) (pair-at xs q w)) xs ys
-      → Made p n w (binary? (register-in s) (s-join (through set)) (pair-at xs p w) (pair-at xs q w)) xs ys
+      → Combined (join? n (row-bit ms 0)) p q n w xs ys
+      → Combined (binary? (register-in s) (s-join (through set))) p q n w xs ys
   join-kinds {ms₀} {ms} set k m =
       let wide = rows-hold ground in
       by-mask (through set) (row-bit ms 0) (λ z hz. k .bit z (omega arith) ∙ mask-at (λ t. has set (kind (register-in s) t)) n z hz) m
 
   -- ---- by the operator's number
   module _ (c m : ℕ) where
-    pub by-join : (v : Via) → symbol-numbered c m ≡ s-join v → Made p n w (binary? (register-in s) (s-join v) (pair-at xs p w) (pair-at xs q w)) xs ys → Made p n w (binary? (register-in s) (symbol-numbered c m) (pair-at xs p w) (pair-at xs q w)) xs ys
-    by-join v e k = subst (λ (x : Symbol). Made p n w (binary? (register-in s) x (pair-at xs p w) (pair-at xs q w)) xs ys) (sym e) k
+    pub by-join : (v : Via) → symbol-numbered c m ≡ s-join v → Combined (binary? (register-in s) (s-join v)) p q n w xs ys → Combined (binary? (register-in s) (symbol-numbered c m)) p q n w xs ys
+    by-join v e k = subst (λ (x : Symbol). Combined (binary? (register-in s) x) p q n w xs ys) (sym e) k
 
-    pub by-op : (o : Op) → symbol-numbered c m ≡ s-op o → Made p n w (op? n o (pair-at xs p w) (pair-at xs q w)) xs ys → Made p n w (binary? (register-in s) (symbol-numbered c m) (pair-at xs p w) (pair-at xs q w)) xs ys
+    pub by-op : (o : Op) → symbol-numbered c m ≡ s-op o → Combined (op? n o) p q n w xs ys → Combined (binary? (register-in s) (symbol-numbered c m)) p q n w xs ys
     by-op o e k =
-        subst (λ (x : Symbol). Made p n w (binary? (register-in s) x (pair-at xs p w) (pair-at xs q w)) xs ys) (sym e)
-        (subst (λ (i : ℕ). Made p n w (op? i o (pair-at xs p w) (pair-at xs q w)) xs ys) (sym (ground .count)) k)
+        subst (λ (x : Symbol). Combined (binary? (register-in s) x) p q n w xs ys) (sym e)
+        (subst (λ (i : ℕ). Combined (op? i o) p q n w xs ys) (sym (ground .count)) k)

@@ -17,7 +17,7 @@ ghost use Rattle.symbols.specs.Symbols.{symbol-numbered};
 ghost use Rattle.register.specs.LinksAhead.{Accepted};
 ghost use Rattle.register.specs.Form.{register-in};
 ghost use Rattle.rows.specs.Row.{Row, mask-of, Word};
-ghost use Rattle.relation.specs.Pairs.{pair-at, Made, Clean};
+ghost use Rattle.relation.specs.Pairs.{pair-at, Made, Combined, Clean};
 ghost use Rattle.evaluation.specs.Ground.{Ground, direction, leads?, closes?, symbols-in, MakePath};
 ghost use Rattle.evaluation.specs.Stack.{binary?, Applicable, Applied, Evaluated};
 
@@ -119,7 +119,7 @@ pub fn step(work: &mut [u64], b: usize, n: usize, w: usize, register: &[u8], l: 
 // the one at p changes (`kept` of `Made`).
 fn join(work: &mut [u64], p: usize, q: usize, n: usize, w: usize, register: &[u8])
     requires { ⌜ (p + n * w ≤ q) × (q + n * w ≤ length (now work)) × Ground (now register) n w × Clean (now work) p n w ⌝ }
-    ensures { λ _. ⌜ Made p n w (binary? (register-in (now (register .entry))) (s-join any) (pair-at (now (work .entry)) p w) (pair-at (now (work .entry)) q w)) (now (work .entry)) (now (work .exit)) ⌝ }
+    ensures { λ _. ⌜ Combined (binary? (register-in (now (register .entry))) (s-join any)) p q n w (now (work .entry)) (now (work .exit)) ⌝ }
 {
     let mask = [ALL; rows::WIDEST];
     relation::join(work, p, q, n, w, &mask);
@@ -128,7 +128,7 @@ fn join(work: &mut [u64], p: usize, q: usize, n: usize, w: usize, register: &[u8
 // The relation at p becomes its join with the one at q through the records whose kind is in the set.
 fn join_through(work: &mut [u64], p: usize, q: usize, n: usize, w: usize, register: &[u8], set: u64)
     requires { ⌜ (p + n * w ≤ q) × (q + n * w ≤ length (now work)) × Ground (now register) n w × Clean (now work) p n w ⌝ }
-    ensures { λ _. ⌜ Made p n w (binary? (register-in (now (register .entry))) (s-join (through set)) (pair-at (now (work .entry)) p w) (pair-at (now (work .entry)) q w)) (now (work .entry)) (now (work .exit)) ⌝ }
+    ensures { λ _. ⌜ Combined (binary? (register-in (now (register .entry))) (s-join (through set))) p q n w (now (work .entry)) (now (work .exit)) ⌝ }
 {
     let mut mask = [0u64; rows::WIDEST];
     kind_mask(&mut mask, register, n, w, set);
@@ -148,7 +148,7 @@ fn combine(
 )
     requires { ⌜ (p + n * w ≤ q) × (q + n * w ≤ length (now work)) × Ground (now register) n w × Clean (now work) p n w × Clean (now work) q n w ⌝ }
     requires { ⌜ (128 ≤ number) × (closes? number ≡ false) ⌝ }
-    ensures { λ _. ⌜ Made p n w (binary? (register-in (now (register .entry))) (symbol-numbered number set) (pair-at (now (work .entry)) p w) (pair-at (now (work .entry)) q w)) (now (work .entry)) (now (work .exit)) ⌝ }
+    ensures { λ _. ⌜ Combined (binary? (register-in (now (register .entry))) (symbol-numbered number set)) p q n w (now (work .entry)) (now (work .exit)) ⌝ }
 {
     match number {
         symbols::JOIN => join(work, p, q, n, w, register),

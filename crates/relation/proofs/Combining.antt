@@ -1,6 +1,6 @@
 -- Loops over the rows of a relation that combine each row with another one.
 -- Assumes nothing.
-use mathlib.Core.Path.{_≡_, sym, ap, ap₂}
+use mathlib.Core.Path.{_≡_, sym, ap₂}
 use mathlib.Core.Bool.{Bool}
 use mathlib.Core.List.{List}
 use mathlib.Core.Logic.{inr}
@@ -10,12 +10,6 @@ use Rattle.rows.specs.Row.{row-bit, Row}
 use Rattle.rows.proofs.Rows.{kept-bit, row-is}
 use Rattle.relation.specs.Pairs.{pair-at, Made}
 use Rattle.relation.proofs.Making.{row-shift, made-more, made-whole}
-
--- ---- one row
--- combined with a copy of another row is combined with that row
-pub row-copied : {d w : ℕ} {os rs xs ys : List ℕ} (op : Bool → Bool → Bool) (s : ℕ) → Row 0 w (row-bit xs s) os rs
-    → Row d w (λ t. op (row-bit xs d t) (row-bit rs 0 t)) xs ys → Row d w (λ t. op (row-bit xs d t) (row-bit xs s t)) xs ys
-row-copied {d} {xs = xs} op s p r = row-is r (λ t h. ap (op (row-bit xs d t)) (p .bit t h))
 
 -- ---- the loop
 -- a row that it has not come to is as it was

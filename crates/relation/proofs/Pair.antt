@@ -30,7 +30,8 @@ made-row {b} {n} {s} {w} {g} {xs} {ys} r hs =
     other i j l n out = rw (ne-eqb i s n) (kept-bit (b + i * w) w j (r .kept) out l)
 
 -- one pair more
-pub made-pair : {b n s w : ℕ} {xs ys : List ℕ} (t : ℕ) → Row (b + s * w) w (λ j. row-bit xs (b + s * w) j || eqb j t) xs ys → s < n → Made b n w (λ i j. pair-at xs b w i j || (eqb i s && eqb j t)) xs ys
+pub made-pair : {b n s w : ℕ} {xs ys : List ℕ} (t : ℕ) → Row (b + s * w) w (λ j. row-bit xs (b + s * w) j || eqb j t) xs ys → s < n
+    → Made b n w (λ i j. pair-at xs b w i j || (eqb i s && eqb j t)) xs ys
 made-pair {b} {n} {s} {w} {xs} {ys} t r hs = made-is (made-row r hs) (λ i j h l. ⊎-elim (same i j) (other i j) (eq-or-ne i s))
   where
     same : (i j : ℕ) → i ≡ s → cond (eqb i s) (row-bit xs (b + s * w) j || eqb j t) (pair-at xs b w i j) ≡ pair-at xs b w i j || (eqb i s && eqb j t)

@@ -18,6 +18,10 @@ pub record Made (b n w : ℕ) (f : ℕ → ℕ → Bool) (xs ys : List ℕ) : Ty
   pub kept : Kept b (b + n * w) xs ys
   pub pair : (s t : ℕ) → s < n → t / 64 < w → pair-at ys b w s t ≡ f s t
 
+-- the relation at p has become what f makes of it and of the one at q, and nothing else changed
+abbrev pub Combined : ((ℕ → ℕ → Bool) → (ℕ → ℕ → Bool) → ℕ → ℕ → Bool) → ℕ → ℕ → ℕ → ℕ → List ℕ → List ℕ → Type 0
+Combined f p q n w xs ys = Made p n w (f (pair-at xs p w) (pair-at xs q w)) xs ys
+
 -- row r, and the relation at b, have no bit of n or more
 abbrev pub CleanRow : List ℕ → ℕ → ℕ → ℕ → Type 0
 CleanRow xs r n w = (t : ℕ) → t / 64 < w → row-bit xs r t ≡ true → t < n
@@ -32,3 +36,7 @@ taken rs xs q w g v p t = row-bit rs 0 t || some? (λ i. bitOf v i && pair-at xs
 -- row r and the rows z of the relation at q, for each z below k that the row at d of fs and the one at m of the mask have
 unfoldable pub taken-row : List ℕ → List ℕ → ℕ → List ℕ → ℕ → ℕ → List ℕ → ℕ → ℕ → ℕ → Bool
 taken-row rs fs d xs q w ms m k t = row-bit rs 0 t || some? (λ z. row-bit fs d z && (pair-at xs q w z t && row-bit ms m z)) (range k)
+
+-- the rows z of the relation at q, united, for each z below n that the row at d of fs and the one at m of the mask have
+abbrev pub followed : List ℕ → ℕ → List ℕ → ℕ → ℕ → ℕ → List ℕ → ℕ → ℕ → Bool
+followed fs d xs q n w ms m t = some? (λ z. row-bit fs d z && (pair-at xs q w z t && row-bit ms m z)) (range n)

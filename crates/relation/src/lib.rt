@@ -11,7 +11,7 @@ ghost use Rattle.theory.specs.Lists.{some?, range};
 ghost use Rattle.theory.specs.PathExpr.{union, conjunction, branch-right, branch-left};
 ghost use Rattle.theory.specs.Evaluation.{join?, op?};
 ghost use Rattle.rows.specs.Row.{row-bit, Row, mask-of, Word};
-ghost use Rattle.relation.specs.Pairs.{pair-at, Made, Clean, CleanRow, taken, taken-row};
+ghost use Rattle.relation.specs.Pairs.{pair-at, Made, Combined, Clean, CleanRow, taken, taken-row, followed};
 
 // Adds the pair (s, t) to the relation at b.
 pub fn set_pair(work: &mut [u64], b: usize, n: usize, w: usize, s: usize, t: usize)
@@ -109,8 +109,7 @@ pub fn take_row(
 // The row becomes the union of the rows z of the relation at q, for each z that it and the row at m of the mask have.
 pub fn follow(row: &mut [u64], work: &[u64], q: usize, n: usize, w: usize, mask: &[u64], m: usize)
     requires { ⌜ (w ≤ length (now row)) × (q + n * w ≤ length (now work)) × (w ≤ 16) × (n ≤ 64 * w) × (m + w ≤ length (now mask)) × CleanRow (now row) 0 n w ⌝ }
-    ensures { λ _. ⌜ Row 0 w (λ t. some? (λ z. row-bit (now (row .entry)) 0 z && (pair-at (now (work .entry)) q w z t && row-bit (now (mask .entry)) m z)) (range n))
-        (now (row .entry)) (now (row .exit)) ⌝ }
+    ensures { λ _. ⌜ Row 0 w (followed (now (row .entry)) 0 (now (work .entry)) q n w (now (mask .entry)) m) (now (row .entry)) (now (row .exit)) ⌝ }
 {
     let mut next = [0u64; rows::WIDEST];
     take_row(&mut next, row, 0, work, q, n, w, mask, m);
@@ -120,8 +119,7 @@ pub fn follow(row: &mut [u64], work: &[u64], q: usize, n: usize, w: usize, mask:
 // The row at d becomes the union of the rows z of the relation at q, for each z that it and the mask have.
 fn follow_row(work: &mut [u64], d: usize, q: usize, n: usize, w: usize, mask: &[u64])
     requires { ⌜ (d + w ≤ q) × (q + n * w ≤ length (now work)) × (w ≤ 16) × (n ≤ 64 * w) × (w ≤ length (now mask)) × CleanRow (now work) d n w ⌝ }
-    ensures { λ _. ⌜ Row d w (λ t. some? (λ z. row-bit (now (work .entry)) d z && (pair-at (now (work .entry)) q w z t && row-bit (now (mask .entry)) 0 z)) (range n))
-        (now (work .entry)) (now (work .exit)) ⌝ }
+    ensures { λ _. ⌜ Row d w (followed (now (work .entry)) d (now (work .entry)) q n w (now (mask .entry)) 0) (now (work .entry)) (now (work .exit)) ⌝ }
 {
     let mut joined = [0u64; rows::WIDEST];
     take_row(&mut joined, work, d, work, q, n, w, mask, 0);
@@ -131,8 +129,7 @@ fn follow_row(work: &mut [u64], d: usize, q: usize, n: usize, w: usize, mask: &[
 // As `follow_row`; an empty row stays, which is tested first.
 fn join_row(work: &mut [u64], d: usize, q: usize, n: usize, w: usize, mask: &[u64])
     requires { ⌜ (d + w ≤ q) × (q + n * w ≤ length (now work)) × (w ≤ 16) × (n ≤ 64 * w) × (w ≤ length (now mask)) × CleanRow (now work) d n w ⌝ }
-    ensures { λ _. ⌜ Row d w (λ t. some? (λ z. row-bit (now (work .entry)) d z && (pair-at (now (work .entry)) q w z t && row-bit (now (mask .entry)) 0 z)) (range n))
-        (now (work .entry)) (now (work .exit)) ⌝ }
+    ensures { λ _. ⌜ Row d w (followed (now (work .entry)) d (now (work .entry)) q n w (now (mask .entry)) 0) (now (work .entry)) (now (work .exit)) ⌝ }
 {
     if rows::any(work, d, w) {
         follow_row(work, d, q, n, w, mask);
@@ -143,7 +140,7 @@ fn join_row(work: &mut [u64], d: usize, q: usize, n: usize, w: usize, mask: &[u6
 // came, row by row, with no spare relation: no word outside the one at p changes (`kept` of `Made`).
 pub fn join(work: &mut [u64], p: usize, q: usize, n: usize, w: usize, mask: &[u64])
     requires { ⌜ (p + n * w ≤ q) × (q + n * w ≤ length (now work)) × (w ≤ 16) × (n ≤ 64 * w) × (w ≤ length (now mask)) × Clean (now work) p n w ⌝ }
-    ensures { λ _. ⌜ Made p n w (join? n (row-bit (now (mask .entry)) 0) (pair-at (now (work .entry)) p w) (pair-at (now (work .entry)) q w)) (now (work .entry)) (now (work .exit)) ⌝ }
+    ensures { λ _. ⌜ Combined (join? n (row-bit (now (mask .entry)) 0)) p q n w (now (work .entry)) (now (work .exit)) ⌝ }
 {
     for s in 0..n {
         join_row(work, p + s * w, q, n, w, mask);
@@ -153,7 +150,7 @@ pub fn join(work: &mut [u64], p: usize, q: usize, n: usize, w: usize, mask: &[u6
 // The relation at p takes in the pairs of the one at q.
 pub fn union(work: &mut [u64], p: usize, q: usize, n: usize, w: usize)
     requires { ⌜ (p + n * w ≤ q) × (q + n * w ≤ length (now work)) × (w ≤ 16) ⌝ }
-    ensures { λ _. ⌜ Made p n w (op? n union (pair-at (now (work .entry)) p w) (pair-at (now (work .entry)) q w)) (now (work .entry)) (now (work .exit)) ⌝ }
+    ensures { λ _. ⌜ Combined (op? n union) p q n w (now (work .entry)) (now (work .exit)) ⌝ }
 {
     rows::merge_within(Merge::Unite, work, p, q, n * w);
 }
@@ -161,7 +158,7 @@ pub fn union(work: &mut [u64], p: usize, q: usize, n: usize, w: usize)
 // The relation at p loses the pairs that the one at q lacks.
 pub fn intersection(work: &mut [u64], p: usize, q: usize, n: usize, w: usize)
     requires { ⌜ (p + n * w ≤ q) × (q + n * w ≤ length (now work)) × (w ≤ 16) ⌝ }
-    ensures { λ _. ⌜ Made p n w (op? n conjunction (pair-at (now (work .entry)) p w) (pair-at (now (work .entry)) q w)) (now (work .entry)) (now (work .exit)) ⌝ }
+    ensures { λ _. ⌜ Combined (op? n conjunction) p q n w (now (work .entry)) (now (work .exit)) ⌝ }
 {
     rows::merge_within(Merge::Restrict, work, p, q, n * w);
 }
@@ -207,20 +204,11 @@ fn keep_targets(work: &mut [u64], b: usize, n: usize, w: usize, mask: &[u64])
 // The relation at p loses the pairs (s, t) where no pair of the one at q leads from t.
 pub fn branch_right(work: &mut [u64], p: usize, q: usize, n: usize, w: usize)
     requires { ⌜ (p + n * w ≤ q) × (q + n * w ≤ length (now work)) × (w ≤ 16) × (n ≤ 64 * w) × Clean (now work) p n w × Clean (now work) q n w ⌝ }
-    ensures { λ _. ⌜ Made p n w (op? n branch-right (pair-at (now (work .entry)) p w) (pair-at (now (work .entry)) q w)) (now (work .entry)) (now (work .exit)) ⌝ }
+    ensures { λ _. ⌜ Combined (op? n branch-right) p q n w (now (work .entry)) (now (work .exit)) ⌝ }
 {
     let mut mask = [0u64; rows::WIDEST];
     sources(&mut mask, work, q, n, w);
     keep_targets(work, p, n, w, &mask);
-}
-
-fn copy_row(work: &mut [u64], d: usize, s: usize, w: usize)
-    requires { ⌜ (d + w ≤ s) × (s + w ≤ length (now work)) × (w ≤ 16) ⌝ }
-    ensures { λ _. ⌜ Row d w (row-bit (now (work .entry)) s) (now (work .entry)) (now (work .exit)) ⌝ }
-{
-    let mut row = [0u64; rows::WIDEST];
-    rows::copy(&mut row, 0, work, s, w);
-    rows::copy(work, d, &row, 0, w);
 }
 
 // The row at d becomes the one at s, unless it is empty.
@@ -229,14 +217,14 @@ fn branch_row(work: &mut [u64], d: usize, s: usize, n: usize, w: usize)
     ensures { λ _. ⌜ Row d w (λ t. row-bit (now (work .entry)) s t && some? (row-bit (now (work .entry)) d) (range n)) (now (work .entry)) (now (work .exit)) ⌝ }
 {
     if rows::any(work, d, w) {
-        copy_row(work, d, s, w);
+        rows::merge_within(Merge::Copy, work, d, s, w);
     }
 }
 
 // The relation at p becomes the pairs (s, t) of the one at q where some pair of its own led from s.
 pub fn branch_left(work: &mut [u64], p: usize, q: usize, n: usize, w: usize)
     requires { ⌜ (p + n * w ≤ q) × (q + n * w ≤ length (now work)) × (w ≤ 16) × (n ≤ 64 * w) × Clean (now work) p n w ⌝ }
-    ensures { λ _. ⌜ Made p n w (op? n branch-left (pair-at (now (work .entry)) p w) (pair-at (now (work .entry)) q w)) (now (work .entry)) (now (work .exit)) ⌝ }
+    ensures { λ _. ⌜ Combined (op? n branch-left) p q n w (now (work .entry)) (now (work .exit)) ⌝ }
 {
     for s in 0..n {
         branch_row(work, p + s * w, q + s * w, n, w);

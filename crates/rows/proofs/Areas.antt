@@ -13,7 +13,9 @@ use Rattle.rows.proofs.Words.{kept-trans, le-or-lt}
 
 -- a list whose first words are us, and that is xs past them
 pub written-over : (us xs ys : List ℕ) → Kept 0 (length us) xs ys → ((j : ℕ) → j < length us → getD ys j 0 ≡ getD us j 0) → length us ≤ length xs → ys ≡ sets xs 0 us
-written-over us xs ys k e l = ext-getD 0 ys (sets xs 0 us) (k .len ∙ sym (length-sets xs 0 us)) (λ i h. ⊎-elim (λ (m : length us ≤ i). past i m) (λ (m : i < length us). within i m) (le-or-lt (length us) i))
+written-over us xs ys k e l =
+    ext-getD 0 ys (sets xs 0 us) (k .len ∙ sym (length-sets xs 0 us))
+    (λ i h. ⊎-elim (λ (m : length us ≤ i). past i m) (λ (m : i < length us). within i m) (le-or-lt (length us) i))
   where
     parts : sets xs 0 us ≡ us ++ drop (length us) xs
     parts = sets-eq us xs 0 (omega arith) ∙ ap (λ (n : ℕ). us ++ drop n xs) (zero-add (length us))

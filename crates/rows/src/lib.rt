@@ -122,7 +122,7 @@ fn merged(how: Merge, x: u64, y: u64) -> u64
     }
 }
 
-// The row of n words at s is merged into the one at d. How is a constant where it is called, and the loop, which is short, is inlined there.
+// The row of n words at s is merged into the one at d. The loop is short, so that it is inlined at each call, where `how` is a constant.
 fn merge_into(how: Merge, to: &mut [u64], d: usize, from: &[u64], s: usize, n: usize)
     requires { ⌜ (d + n ≤ length (now to)) × (s + n ≤ length (now from)) ⌝ }
     ensures { λ _. ⌜ Row d n (λ t. merged-bit how (row-bit (now (to .entry)) d t) (row-bit (now (from .entry)) s t)) (now (to .entry)) (now (to .exit)) ⌝ }

@@ -100,7 +100,8 @@ took-word {w} {m} {all} {row} {left} {left′ = left′} xs b i v z p q hm hi l 
     lost-bit t o =
         ⊎-elim
         (λ (e : t / 64 ≡ i). rw (eq-eqb (t / 64) i e, zero-add (t / 64), e, getD-set-same left′ i (without (getD left′ i 0) v) 0 l) (bit-without (getD left′ i 0) v (t % 64)))
-        (λ (e : t / 64 ≡ i → ⊥). rw (ne-eqb (t / 64) i e, getD-set-other left′ i (0 + t / 64) (without (getD left′ i 0) v) 0 (λ y. e (sym (zero-add (t / 64)) ∙ y))) (sym (and-true (bitOf (getD left′ (0 + t / 64) 0) (t % 64)))))
+        (λ (e : t / 64 ≡ i → ⊥). rw (ne-eqb (t / 64) i e, getD-set-other left′ i (0 + t / 64) (without (getD left′ i 0) v) 0 (λ y. e (sym (zero-add (t / 64)) ∙ y)))
+        (sym (and-true (bitOf (getD left′ (0 + t / 64) 0) (t % 64)))))
         (eq-or-ne (t / 64) i)
 
 -- a bit of the word of what the row has, is left and is finished
@@ -202,7 +203,8 @@ module _ {xs live pending finished : List ℕ} {b n w : ℕ} (h : PartlyClosed x
     grown-pending p = grown p (h .bits) g reached (λ j t hj l m q. rw (eqb-true j k m) at q)
 
     -- row k is finished
-    pub grown-finished : {row′ left′ : List ℕ} → Took w (row-bit xs (b + k * w)) (λ t. row-bit xs (b + k * w) t || eqb t k) row left row′ left′ → row-bit finished 0 k ≡ true → Grown xs b n w s row left row′ left′
+    pub grown-finished : {row′ left′ : List ℕ} → Took w (row-bit xs (b + k * w)) (λ t. row-bit xs (b + k * w) t || eqb t k) row left row′ left′ → row-bit finished 0 k ≡ true
+        → Grown xs b n w s row left row′ left′
     grown-finished p d =
         grown p (h .bits) g reached
         (λ j t hj l m q. ⊎-elim (λ (o : f k j ≡ true). through j t hj l o q) (λ (o : eqb j k ≡ true). rw (eqb-true j k o) at q) (or-either (f k j) (eqb j k) m))
@@ -211,7 +213,8 @@ module _ {xs live pending finished : List ℕ} {b n w : ℕ} (h : PartlyClosed x
         through j t hj l o q = h .closed k t hk (h .settled k hk d) (closure-trans n f k j t (closure-edge n f hk hj o) (edge j t hj l q))
 
   -- so is a bit j of word i of it
-  pub in-range : {row left : List ℕ} {s : ℕ} (i j : ℕ) → Growing xs b n w s row left → i < w → (j < 64) × (row-bit row 0 (64 * i + j) ≡ true) × (row-bit finished 0 (64 * i + j) ≡ true) → 64 * i + j < n
+  pub in-range : {row left : List ℕ} {s : ℕ} (i j : ℕ) → Growing xs b n w s row left → i < w → (j < 64) × (row-bit row 0 (64 * i + j) ≡ true) × (row-bit finished 0 (64 * i + j) ≡ true)
+      → 64 * i + j < n
   in-range i j g l y = let o = y .0 in growing-in (64 * i + j) g (omega arith) (y .1)
 
   -- ---- a row that the row and two masks have

@@ -45,7 +45,8 @@ ready-start {xs} {live = live} {pending = pending} {b} {n} {w} m room bits words
       inner = λ t h e. ⊎-elim (λ (k : n ≤ t). absurd (false≢true (sym (mask-past test n t k) ∙ sym (p .bit t h) ∙ sym (q .bit t h) ∙ e))) (λ (k : t < n). k) (le-or-lt n t);
       empty = empty;
       settled = λ k h e. absurd (false≢true (sym (row-blank m k (omega arith)) ∙ e));
-      closed = λ k t h d e. absurd (closure-ind n (pair-at xs b w) k (λ (j : ℕ). ⊥) (λ j hk hj y. false≢true (sym (empty k j hk (omega arith) (sym (q .bit k (omega arith)) ∙ d)) ∙ y)) (λ j i hj hi y z. y) t e);
+      closed = λ k t h d e. absurd (closure-ind n (pair-at xs b w) k (λ (j : ℕ). ⊥)
+          (λ j hk hj y. false≢true (sym (empty k j hk (omega arith) (sym (q .bit k (omega arith)) ∙ d)) ∙ y)) (λ j i hj hi y z. y) t e);
     }
   where
     test : ℕ → Bool

@@ -18,7 +18,8 @@ use Rattle.transitive_closure.proofs.Amounts.{amount-le, amount-less}
 use Rattle.transitive_closure.proofs.Rows.{and-yes, gone-off}
 
 -- no row yet
-pub trail-none : {unseen₀ unseen : List ℕ} {n w : ℕ} (os stack : List ℕ) → Row 0 w (row-bit os 0) unseen₀ unseen → CleanRow os 0 n w → 1024 ≤ length stack → w ≤ length unseen → Trail stack unseen n w 0
+pub trail-none : {unseen₀ unseen : List ℕ} {n w : ℕ} (os stack : List ℕ) → Row 0 w (row-bit os 0) unseen₀ unseen → CleanRow os 0 n w → 1024 ≤ length stack
+    → w ≤ length unseen → Trail stack unseen n w 0
 trail-none {unseen = unseen} {w = w} os stack p c l m =
     record { room = l; marks = m; inner = λ t h e. c t h (sym (p .bit t h) ∙ e); deep = omega (arith, amount-le (row-bit unseen 0) (64 * w)); rows = λ i h. absurd (omega arith) }
 

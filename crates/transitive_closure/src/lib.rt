@@ -71,7 +71,8 @@ fn take_rest(
     s: usize,
     i: usize,
 )
-    requires { ⌜ PartlyClosed (now work) (now live) (now pending) (now finished) b n w × Growing (now work) b n w s (now row) (now left) × (w ≤ length (now row)) × (w ≤ length (now left)) × (i < w) ⌝ }
+    requires { ⌜ PartlyClosed (now work) (now live) (now pending) (now finished) b n w × Growing (now work) b n w s (now row) (now left)
+        × (w ≤ length (now row)) × (w ≤ length (now left)) × (i < w) ⌝ }
     ensures { λ _. ⌜ Grown (now (work .entry)) b n w s (now (row .entry)) (now (left .entry)) (now (row .exit)) (now (left .exit)) ⌝ }
 {
     let v = row[i] & (left[i] & finished[i]);
@@ -159,7 +160,8 @@ fn finish(
     s: usize,
 )
     requires { ⌜ PartlyClosed (now work) (now live) (now pending) (now finished) b n w × (s < n) ⌝ }
-    ensures { λ _. ⌜ Stage b n w (now (live .entry)) (now (work .entry)) (now (pending .entry)) (now (finished .entry)) (now (work .exit)) (now (pending .exit)) (now (finished .exit)) × (row-bit (now (pending .exit)) 0 s ≡ false) ⌝ }
+    ensures { λ _. ⌜ Stage b n w (now (live .entry)) (now (work .entry)) (now (pending .entry)) (now (finished .entry)) (now (work .exit)) (now (pending .exit)) (now (finished .exit))
+        × (row-bit (now (pending .exit)) 0 s ≡ false) ⌝ }
 {
     let mut row = [0u64; WIDEST];
     reach(&mut row, work, live, pending, finished, b, n, w, s);

@@ -8,14 +8,14 @@ use Rattle.relation.proofs.branch_row.Statement.{statement}
 use Rattle.relation.proofs.branch_row.Tie as tie
 use Rattle.relation.proofs.branch_row.Reads as reads
 use Rattle.relation.proofs.branch_row.Lts as lts
-use Rattle.relation.proofs.copy_row.Reads as copy-row-reads
 use Rattle.rows.proofs.any.Reads as any-reads
+use Rattle.rows.proofs.merge_within.Reads as merge-within-reads
 
 any-requires : tie.Need-any-requires
 any-requires c κs = search needs
 
-copy-row-requires : tie.Need-copy-row-requires
-copy-row-requires c κs = search needs
+merge-within-requires : tie.Need-merge-within-requires
+merge-within-requires c κs = search needs
 
 same-length : tie.Need-same-length
 same-length c = search needs
@@ -27,7 +27,7 @@ returns c =
     let c5 = c4 .before in
     let c8 = c5 .before .before .before in
     let a = c8 .args in
-    branch-yes _ (a .d) (a .s) (a .n) _ (c8 .pre .4) (omega arith) (sym (c5 .any .ensures) ∙ c4 .if1 .taken) (c2 .copy-row .ensures)
+    branch-yes _ (a .d) (a .s) (a .n) _ (c8 .pre .4) (omega arith) (sym (c5 .any .ensures) ∙ c4 .if1 .taken) (c2 .merge-within .ensures)
 
 same-length-2 : tie.Need-same-length-2
 same-length-2 c = search needs
@@ -39,4 +39,4 @@ returns-2 c =
 
 pub branch-row-spec : {M : Type 1} → statement M
 branch-row-spec =
-    tie.close (tie.spec any-requires copy-row-requires same-length returns same-length-2 returns-2)
+    tie.close (tie.spec any-requires merge-within-requires same-length returns same-length-2 returns-2)

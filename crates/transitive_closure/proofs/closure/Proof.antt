@@ -19,7 +19,8 @@ use Rattle.transitive_closure.proofs.finish.Reads as finish-reads
 use Rattle.transitive_closure.proofs.walk.Reads as walk-reads
 
 abbrev Inv-loop : tie.InvT-loop
-Inv-loop work₀ b n w live pending₀ finished₀ s₀ work pending finished s = Stage b n w live work₀ pending₀ finished₀ work pending finished × Least (common pending 0 pending pending) (64 * w) s × (length pending ≡ 16) × (length finished ≡ 16)
+Inv-loop work₀ b n w live pending₀ finished₀ s₀ work pending finished s =
+    Stage b n w live work₀ pending₀ finished₀ work pending finished × Least (common pending 0 pending pending) (64 * w) s × (length pending ≡ 16) × (length finished ≡ 16)
 
 abbrev μ-loop : tie.MeasureT-loop
 μ-loop work₀ b n w live pending₀ finished₀ s₀ work pending finished s = amount (row-bit pending 0) (64 * w)

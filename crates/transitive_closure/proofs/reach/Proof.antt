@@ -19,7 +19,9 @@ use Rattle.rows.proofs.copy.Reads as copy-reads
 use Rattle.transitive_closure.proofs.step.Reads as step-reads
 
 abbrev Inv-loop : tie.InvT-loop
-Inv-loop row₀ work live pending finished b n w s left₀ going₀ row left going = (length left ≡ 16) × Kept 0 (0 + w) row₀ row × Growing work b n w s row left × (going ≡ false → (t : ℕ) → t / 64 < w → row-bit row 0 t ≡ true → row-bit left 0 t ≡ false)
+Inv-loop row₀ work live pending finished b n w s left₀ going₀ row left going =
+    (length left ≡ 16) × Kept 0 (0 + w) row₀ row × Growing work b n w s row left
+    × (going ≡ false → (t : ℕ) → t / 64 < w → row-bit row 0 t ≡ true → row-bit left 0 t ≡ false)
 
 abbrev μ-loop : tie.MeasureT-loop
 μ-loop row₀ work live pending finished b n w s left₀ going₀ row left going = amount (row-bit left 0) (64 * w) + cond going 1 0

@@ -18,7 +18,8 @@ use Rattle.transitive_closure.proofs.ahead.Reads as ahead-reads
 use Rattle.transitive_closure.proofs.turn.Reads as turn-reads
 
 abbrev Inv-loop : tie.InvT-loop
-Inv-loop work₀ pending₀ finished₀ live b n w unseen₀ stack₀ depth₀ k₀ work pending finished unseen stack depth k = Stage b n w live work₀ pending₀ finished₀ work pending finished × Trail stack unseen n w depth × Ahead unseen w k × (length stack ≡ 1024) × (length unseen ≡ 16)
+Inv-loop work₀ pending₀ finished₀ live b n w unseen₀ stack₀ depth₀ k₀ work pending finished unseen stack depth k =
+    Stage b n w live work₀ pending₀ finished₀ work pending finished × Trail stack unseen n w depth × Ahead unseen w k × (length stack ≡ 1024) × (length unseen ≡ 16)
 
 abbrev μ-loop : tie.MeasureT-loop
 μ-loop work₀ pending₀ finished₀ live b n w unseen₀ stack₀ depth₀ k₀ work pending finished unseen stack depth k = 2 * amount (row-bit unseen 0) (64 * w) + depth

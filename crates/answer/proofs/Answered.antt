@@ -19,9 +19,10 @@ use Rattle.theory.specs.Evaluation.{evaluate, plain-answer, narrowed-answer, me
 use Rattle.theory.specs.Words.{row-words, answer-words}
 use Rattle.fields.specs.declared.Outcome as declared·Outcome
 use Rattle.fields.specs.declared.Outcome.the-variants as outcome
-use Rattle.fields.specs.declared.Refusal.the-variants.{AreaShort, WorkShort}
+use Rattle.fields.specs.declared.Refusal.the-variants.{AreaShort}
 use Rattle.fields.specs.declared.Source.the-variants as source
-use Rattle.fields.specs.Call.{accepts, refuses, zeroed}
+use Rattle.fields.specs.Call.{accepts, refuses, output, Gives, Returns, performed}
+use Rattle.fields.proofs.Calls.{performed-15, performed-done}
 use Rattle.fields.specs.Contract.{outcome-said}
 use Rattle.register.specs.Form.{register-in}
 use Rattle.rows.specs.Kept.{Kept, Wrote}
@@ -31,8 +32,8 @@ use Rattle.evaluation.specs.Ground.{Ground}
 use Rattle.evaluation.specs.Stack.{Stored, Evaluated}
 use Rattle.evaluation.proofs.Grounds.{limits}
 use Rattle.evaluation.proofs.Tables.{evaluate-past}
-use Rattle.answer.specs.Calls.{result, answer-need, work-need, answered, asked}
-use Rattle.answer.specs.Contract.{Answers, Fills}
+use Rattle.answer.specs.Calls.{answer-need, work-need, answered, answer-task, asked}
+use Rattle.answer.specs.Contract.{Fills}
 use Rattle.answer.specs.Internal.{Adds}
 use Rattle.rows.proofs.Areas.{zero-words}
 use Rattle.answer.proofs.Areas.{stored-words, stored-copied, stored-added}
@@ -47,7 +48,8 @@ fills-full {n} {w} {work} {work′} {answer} {answer′} f e h k a st past fits 
   outcome = rw (le-ltb (length answer) (n * w) h);
   area =
       rw (le-ltb (length answer) (n * w) h)
-      (stored-words n f (subst (λ (v : ℕ). Kept 0 (n * v) answer answer′) (sym e) a) (subst (λ (v : ℕ). Stored answer′ 0 n v f) (sym e) st) past fits (subst (λ (v : ℕ). n * v ≤ length answer) (sym e) h));
+      (stored-words n f (subst (λ (v : ℕ). Kept 0 (n * v) answer answer′) (sym e) a) (subst (λ (v : ℕ). Stored answer′ 0 n v f) (sym e) st) past fits
+      (subst (λ (v : ℕ). n * v ≤ length answer) (sym e) h));
   kept = kept-in k (omega arith) (omega arith);
 }
 
@@ -78,31 +80,32 @@ module _ {s : List ℕ} {n w : ℕ} (ground : Ground s n w) where
         fills-full (narrowed-answer (register-in s) ms) (ground .wide) room (a .kept)
         (kept-trans (c .kept) (a .pairs .kept) (omega arith) (omega arith) (omega arith) (omega arith)) (stored-added (narrowed-answer (register-in s) ms) c (a .pairs)) (no-member ms) fits
 
--- ---- 15, or what comes of it
+-- ---- 15, or the result
 module _ (r : Register) (f : ℕ → ℕ → Bool) (work answer : List ℕ) where
   -- in rows of w words for n records
   abbrev Short : ℕ → ℕ → Type 0
-  Short n w = length work < 28 * (n * w) → Answers (answered r f work answer) (outcome.Refused source.Work (WorkShort (28 * (n * w)))) work answer
+  Short n w = length work < 28 * (n * w) → Returns (performed (answer-task r f) work answer) (refuses source.Work 15 (28 * (n * w))) work answer
 
   short : Short (records r) (row-words (records r))
-  unfolding answered
-  short h = let e = lt-ltb (length work) (work-need r) h in record { outcome = rw e; work = rw e; answer = rw e }
+  unfolding answer-task
+  short h = performed-15 (answer-task r f) work answer refl h
 
   abbrev Rest : ℕ → ℕ → Type 0
-  Rest n w = (o : declared·Outcome.Outcome) (work₁ work₂ answer₁ : List ℕ) → 28 * (n * w) ≤ length work → Fills n w f o work work₁ answer answer₁ → Wrote 0 (28 * (n * w)) (λ j. 0) work₁ work₂
-      → Answers (answered r f work answer) o work₂ answer₁
+  Rest n w = (o : declared·Outcome.Outcome) (work₁ work₂ answer₁ : List ℕ) → 28 * (n * w) ≤ length work → Fills n w f o work work₁ answer answer₁
+      → Wrote 0 (28 * (n * w)) (λ j. 0) work₁ work₂ → Returns (performed (answer-task r f) work answer) (outcome-said o) work₂ answer₁
 
-  settle : (b : Bool) (o : declared·Outcome.Outcome) (work₂ answer₁ : List ℕ) → outcome-said o ≡ cond b (refuses source.Work 14 (answer-need r)) (accepts tt)
-      → answer₁ ≡ cond b answer (sets answer 0 (answer-words (records r) f)) → work₂ ≡ zeroed (work-need r) work
-      → Answers (cond b (result (refuses source.Work 14 (answer-need r)) (zeroed (work-need r) work) answer)
-      (result (accepts tt) (zeroed (work-need r) work) (sets answer 0 (answer-words (records r) f)))) o work₂ answer₁
-  settle true o work₂ answer₁ p q z = record { outcome = p; work = z; answer = q }
-  settle false o work₂ answer₁ p q z = record { outcome = p; work = z; answer = q }
+  filled : (o : declared·Outcome.Outcome) {work₁ answer₁ : List ℕ} → Fills (records r) (row-words (records r)) f o work work₁ answer answer₁ → Gives (answered r f answer) (outcome-said o) answer₁
+  unfolding answered
+  filled o {answer₁ = answer₁} g = record { is = by-room (ltb (length answer) (answer-need r)) (g .outcome) (g .area) }
+    where
+      by-room : (b : Bool) → outcome-said o ≡ cond b (refuses source.Work 14 (answer-need r)) (accepts tt) → answer₁ ≡ cond b answer (sets answer 0 (answer-words (records r) f))
+          → output (outcome-said o) answer₁ ≡ cond b (output (refuses source.Work 14 (answer-need r)) answer) (output (accepts tt) (sets answer 0 (answer-words (records r) f)))
+      by-room true p q = rw (p, q)
+      by-room false p q = rw (p, q)
 
   rest : Rest (records r) (row-words (records r))
-  unfolding answered
-  rest o work₁ work₂ answer₁ h g c =
-      rw (le-ltb (length work) (work-need r) h) (settle (ltb (length answer) (answer-need r)) o work₂ answer₁ (g .outcome) (g .area) (zero-words (work-need r) (g .kept) c h))
+  unfolding answer-task
+  rest o work₁ work₂ answer₁ h g c = performed-done (answer-task r f) work answer h (filled o g) (zero-words (work-need r) (g .kept) c h)
 
   module _ {n w : ℕ} (count : records r ≡ n) (wide : w ≡ row-words n) where
     pub answers-15 : Short n w

@@ -30,12 +30,12 @@ use Rattle.narrowed_question.specs.declared.Members.{Members}
 use Rattle.narrowed_question.specs.Form.{Flat, narrowed-form}
 use Rattle.narrowed_question.specs.Formed.{WellFormed}
 use Rattle.narrowed_question.specs.ArrayMembers.{given}
-use Rattle.narrowed_question.specs.Contract.{Packed, ReadsInto, members-in, outcome-said as narrowed-said}
+use Rattle.narrowed_question.specs.Contract.{Packed, ReadsInto, members-in, outcome-said as narrowed-said, arrays}
 use Rattle.narrowed_question.proofs.MembersInArrays.{heads, packed-given}
 use Rattle.narrowed_question.proofs.ReadThenWritten.{accepted-formed}
 use Rattle.evaluation.specs.Ground.{symbols-in, MakePath}
 use Rattle.evaluation.proofs.Numbers.{set-ignored}
-use Rattle.answer.specs.Contract.{Readable, lent}
+use Rattle.answer.specs.Contract.{Readable}
 
 -- ---- a question
 -- codes in an array, with sets that are 0
@@ -58,7 +58,8 @@ unfolding padded
 question-accepted s codes count cs t =
     let (p, q) = accepted-question s cs (t .reads) in
     let few : length cs ≤ 32 = omega (arith, q .few, q .count) in
-    let back : symbols-in codes (replicate 32 0) count 0 ≡ question-symbols cs = subst (λ (i : ℕ). symbols-in codes (replicate 32 0) i 0 ≡ question-symbols cs) (t .many) (codes-back codes cs _ 0 (t .array) (omega (arith, few))) in
+    let back : symbols-in codes (replicate 32 0) count 0 ≡ question-symbols cs = subst (λ (i : ℕ). symbols-in codes (replicate 32 0) i 0 ≡ question-symbols cs) (t .many)
+    (codes-back codes cs _ 0 (t .array) (omega (arith, few))) in
     record { few = omega (arith, t .many, few); full = ap length (t .array) ∙ pad-length 32 cs few; symbols = back; makes = (p, ap path-of back ∙ q .path) }
 
 -- ---- a narrowed question
@@ -68,7 +69,7 @@ module _ (s : List ℕ) (o : narrowed·Outcome.Outcome) (sizes from to numbers s
 
   module _ (n : ℕ) (e : o ≡ narrowed·outcome.Accepted n) where
     abbrev q : Members
-    q = lent n sizes from to numbers sets
+    q = arrays n sizes from to numbers sets
 
     -- the members in the arrays are those of the file
     pub file-given : (ms : List Flat) → read narrowed-form s ≡ got ms → WellFormed ms → given q ≡ ms

@@ -14,11 +14,12 @@ use Rattle.theory.specs.Evaluation.{plain-answer}
 use Rattle.theory.proofs.Tests.{bool-eq}
 use Rattle.theory.proofs.Evaluation.{plain-right}
 use Rattle.theory.specs.Result.{Result, got, refused}
+use Rattle.fields.specs.Call.{performed}
 use Rattle.fields.specs.Reading.{read}
 use Rattle.question.specs.Form.{question-form, question-symbols}
 use Rattle.register.specs.Form.{register-form}
 use Rattle.register.proofs.AcceptedRegister.{accepted-register}
-use Rattle.answer.specs.Calls.{answered, plain-call}
+use Rattle.answer.specs.Calls.{answer-task, plain-call}
 
 -- a question's file is read, and asks for a path
 pub record AsksFor (question : List ℕ) (p : PathExpr) : Type 0 where
@@ -38,7 +39,7 @@ module _ {x y : List ℕ} {p q : PathExpr} (a : AsksFor x p) (b : AsksFor y q) (
   by-register register work answer (refused n i) e = rw (a .reads, b .reads, e)
   by-register register work answer (got r) e =
       rw (a .reads, b .reads, e, a .path, b .path)
-      (ap (λ (f : ℕ → ℕ → Bool). answered r f work answer) (fun-ext (λ s. fun-ext (λ t. pairs-same r (accepted-register register r e .formed) s t))))
+      (ap (λ (f : ℕ → ℕ → Bool). performed (answer-task r f) work answer) (fun-ext (λ s. fun-ext (λ t. pairs-same r (accepted-register register r e .formed) s t))))
 
   pub same-answer : (register work answer : List ℕ) → plain-call x register work answer ≡ plain-call y register work answer
   same-answer register work answer = by-register register work answer (read register-form register) refl

@@ -19,7 +19,7 @@ use Rattle.theory.specs.Words.{answer-words}
 use Rattle.theory.proofs.Members.{narrow-fits}
 use Rattle.theory.proofs.Answers.{answer-words-equal, answer-words-subset}
 use Rattle.theory.specs.Result.{got}
-use Rattle.fields.specs.Call.{accepts}
+use Rattle.fields.specs.Call.{accepts, performed}
 use Rattle.fields.specs.Reading.{read}
 use Rattle.question.specs.Form.{question-form, question-symbols}
 use Rattle.register.specs.Form.{register-form}
@@ -27,7 +27,7 @@ use Rattle.register.proofs.AcceptedRegister.{accepted-register}
 use Rattle.narrowed_question.specs.Members.{flat-of, narrowed-file}
 use Rattle.narrowed_question.proofs.Formed.{narrowed-back}
 use Rattle.narrowed_question.proofs.Paths.{path-back}
-use Rattle.answer.specs.Calls.{answer-need, answered, with-path, members-of, plain-call, narrowed-call}
+use Rattle.answer.specs.Calls.{answer-need, answer-task, with-path, members-of, plain-call, narrowed-call}
 use Rattle.answer.proofs.Meaning.{word-answered, plain-word, same-narrowed}
 
 -- the members come back from their file
@@ -43,23 +43,23 @@ module _
     (r : Register) (er : read register-form register ≡ got r) (work answer work′ answer′ : List ℕ)
     (accepted : plain-call question register work answer .outcome ≡ accepts tt)
     (accepted′ : narrowed-call (narrowed-file ms) register work′ answer′ .outcome ≡ accepts tt) where
-  narrowed-same : narrowed-call (narrowed-file ms) register work′ answer′ ≡ answered r (narrowed-answer r ms) work′ answer′
+  narrowed-same : narrowed-call (narrowed-file ms) register work′ answer′ ≡ performed (answer-task r (narrowed-answer r ms)) work′ answer′
   narrowed-same =
       same-narrowed (narrowed-file ms) register work′ answer′ r er (map flat-of ms) (narrowed-back S ok q plain ms e)
-      ∙ ap (λ (l : List Member). answered r (narrowed-answer r l) work′ answer′) (members-back ms (narrow-fits S ok q plain ms e .each))
+      ∙ ap (λ (l : List Member). performed (answer-task r (narrowed-answer r l)) work′ answer′) (members-back ms (narrow-fits S ok q plain ms e .each))
 
   abbrev plain-words : List ℕ
-  plain-words = plain-call question register work answer .answer
+  plain-words = plain-call question register work answer .areas
 
   abbrev narrowed-words : List ℕ
-  narrowed-words = narrowed-call (narrowed-file ms) register work′ answer′ .answer
+  narrowed-words = narrowed-call (narrowed-file ms) register work′ answer′ .areas
 
   plain-at : (k : ℕ) → k < answer-need r → getD plain-words k 0 ≡ getD (answer-words (records r) (plain-answer r q)) k 0
   plain-at = plain-word question register work answer r er cs q eq ep accepted
 
   narrowed-at : (k : ℕ) → k < answer-need r → getD narrowed-words k 0 ≡ getD (answer-words (records r) (narrowed-answer r ms)) k 0
   narrowed-at k h =
-      ap (λ x. getD (x .answer) k 0) narrowed-same ∙ word-answered r (narrowed-answer r ms) work′ answer′ (sym (ap (λ x. x .outcome) narrowed-same) ∙ accepted′) k h
+      ap (λ x. getD (x .areas) k 0) narrowed-same ∙ word-answered r (narrowed-answer r ms) work′ answer′ (sym (ap (λ x. x .outcome) narrowed-same) ∙ accepted′) k h
 
   -- "their N times W words are equal if the register obeys"
   pub words-equal : T (conforms? S r) → (k : ℕ) → k < answer-need r → getD narrowed-words k 0 ≡ getD plain-words k 0

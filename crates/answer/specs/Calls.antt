@@ -14,23 +14,12 @@ use Rattle.theory.specs.Register.{Register, records}
 use Rattle.theory.specs.Merging.{Member, member}
 use Rattle.theory.specs.Evaluation.{plain-answer, narrowed-answer}
 use Rattle.theory.specs.Words.{row-words, answer-words}
-use Rattle.fields.specs.declared.Source.{Source}
 use Rattle.fields.specs.declared.Source.the-variants as source
-use Rattle.fields.specs.Call.{Outcome, accepts, refuses, reading, zeroed}
-use Rattle.fields.specs.Reading.{read}
+use Rattle.fields.specs.Call.{accepts, refuses, and-then, file, Output, output, Task, task, Returned, call}
 use Rattle.question.specs.Form.{question-form, question-symbols}
 use Rattle.register.specs.Form.{register-form}
 use Rattle.narrowed_question.specs.Form.{Flat, narrowed-form}
 use Rattle.narrowed_question.specs.Members.{flat-path}
-
--- the outcome, and the lent areas after the call
-pub record AnswerYield : Type 0 where
-  pub outcome : Outcome (Unit {0})
-  pub work : List ℕ
-  pub answer : List ℕ
-
-abbrev pub result : Outcome (Unit {0}) → List ℕ → List ℕ → AnswerYield
-result o work answer = record { outcome = o; work = work; answer = answer }
 
 -- ---- the areas
 -- N × W words of an answer; 28 × N × W words of work
@@ -40,12 +29,14 @@ answer-need r = records r * row-words (records r)
 abbrev pub work-need : Register → ℕ
 work-need r = 28 * answer-need r
 
--- 15, then 14, then the words of the pairs f
-unfoldable pub answered : Register → (ℕ → ℕ → Bool) → List ℕ → List ℕ → AnswerYield
-answered r f work answer =
-    cond (ltb (length work) (work-need r)) (result (refuses source.Work 15 (work-need r)) work answer)
-    (cond (ltb (length answer) (answer-need r)) (result (refuses source.Work 14 (answer-need r)) (zeroed (work-need r) work) answer)
-    (result (accepts tt) (zeroed (work-need r) work) (sets answer 0 (answer-words (records r) f))))
+-- 14, or the words of the pairs f
+unfoldable pub answered : Register → (ℕ → ℕ → Bool) → List ℕ → Output (Unit {0}) (List ℕ)
+answered r f answer =
+    cond (ltb (length answer) (answer-need r)) (output (refuses source.Work 14 (answer-need r)) answer)
+    (output (accepts tt) (sets answer 0 (answer-words (records r) f)))
+
+unfoldable pub answer-task : Register → (ℕ → ℕ → Bool) → Task (Unit {0}) (List ℕ)
+answer-task r f = task (work-need r) (answered r f)
 
 -- ---- what was asked
 -- the pairs of a question's path; one that was read has one
@@ -62,15 +53,15 @@ abbrev pub members-of : List Flat → List Member
 members-of [] = []
 members-of (m ∷ ms) = with-path m (flat-path m) (members-of ms)
 
--- ---- the calls: the files' refusals leave the areas as they came
-unfoldable pub plain-call : List ℕ → List ℕ → List ℕ → List ℕ → AnswerYield
+-- ---- the calls
+unfoldable pub plain-call : List ℕ → List ℕ → List ℕ → List ℕ → Returned (Unit {0}) (List ℕ)
 plain-call question register work answer =
-    reading (read question-form question) (λ n p. result (refuses source.Question n p) work answer)
-    (λ cs. reading (read register-form register) (λ n p. result (refuses source.Register n p) work answer)
-    (λ r. answered r (asked r (path-of (question-symbols cs))) work answer))
+    call (and-then (file source.Question question-form question) (λ cs.
+    and-then (file source.Register register-form register) (λ r.
+    accepts (answer-task r (asked r (path-of (question-symbols cs))))))) work answer
 
-unfoldable pub narrowed-call : List ℕ → List ℕ → List ℕ → List ℕ → AnswerYield
+unfoldable pub narrowed-call : List ℕ → List ℕ → List ℕ → List ℕ → Returned (Unit {0}) (List ℕ)
 narrowed-call narrowed register work answer =
-    reading (read narrowed-form narrowed) (λ n p. result (refuses source.Narrowed n p) work answer)
-    (λ ms. reading (read register-form register) (λ n p. result (refuses source.Register n p) work answer)
-    (λ r. answered r (narrowed-answer r (members-of ms)) work answer))
+    call (and-then (file source.Narrowed narrowed-form narrowed) (λ ms.
+    and-then (file source.Register register-form register) (λ r.
+    accepts (answer-task r (narrowed-answer r (members-of ms)))))) work answer

@@ -16,13 +16,6 @@ use Rattle.narrowed_question.specs.declared.Members.{Members}
 use Rattle.narrowed_question.specs.Formed.{WellFormed}
 use Rattle.narrowed_question.specs.ArrayMembers.{given}
 use Rattle.rows.specs.Kept.{Kept}
-use Rattle.answer.specs.Calls.{AnswerYield}
-
--- the outcome and both areas are what is due
-pub record Answers (due : AnswerYield) (o : declared·Outcome.Outcome) (xs ys : List ℕ) : Type 0 where
-  pub outcome : outcome-said o ≡ due .outcome
-  pub work : xs ≡ due .work
-  pub answer : ys ≡ due .answer
 
 -- with work words enough: 14, or the words of the pairs f of n records in the answer; of the work, only the words of 28 relations changed
 pub record Fills (n w : ℕ) (f : ℕ → ℕ → Bool) (o : declared·Outcome.Outcome) (work work′ answer answer′ : List ℕ) : Type 0 where
@@ -34,10 +27,6 @@ pub record Fills (n w : ℕ) (f : ℕ → ℕ → Bool) (o : declared·Outcome.O
 abbrev pub Readable : Members → Type 0
 Readable q = WellFormed (given q)
 
--- the members in arrays that are lent
-abbrev pub lent : ℕ → List ℕ → List ℕ → List ℕ → List ℕ → List ℕ → Members
-lent count sizes from to numbers sets = record { count = count; sizes = sizes; from = from; to = to; numbers = numbers; sets = sets }
-
--- of the lengths that they need
+-- arrays of members, of the lengths that they need
 abbrev pub Long : List ℕ → List ℕ → List ℕ → List ℕ → List ℕ → Type 0
 Long sizes from to numbers sets = (128 ≤ length sizes) × (128 ≤ length from) × (128 ≤ length to) × (6144 ≤ length numbers) × (6144 ≤ length sets)

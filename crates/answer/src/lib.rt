@@ -21,8 +21,11 @@ ghost use Rattle.evaluation.specs.Ground.{Ground, symbols-in, MakePath};
 ghost use Rattle.kind_rows.specs.Kinds.{KindRows};
 ghost use Rattle.chains.specs.Chain.{Held};
 ghost use Rattle.chains.specs.Route.{Routed, Leads};
-ghost use Rattle.answer.specs.Calls.{answered, asked, members-of, plain-call, narrowed-call};
-ghost use Rattle.answer.specs.Contract.{Answers, Fills, Readable, Long, lent};
+ghost use Rattle.fields.specs.Call.{Returns, performed};
+ghost use Rattle.fields.specs.Contract.{outcome-said};
+ghost use Rattle.answer.specs.Calls.{answer-task, asked, members-of, plain-call, narrowed-call};
+ghost use Rattle.answer.specs.Contract.{Fills, Readable, Long};
+ghost use Rattle.narrowed_question.specs.Contract.{arrays};
 ghost use Rattle.answer.specs.Internal.{Adds};
 
 // The relations of the work words: those of a stack, and the steps that are held past them.
@@ -73,8 +76,9 @@ fn plain_in(
     answer: &mut [u64],
 ) -> Outcome
     requires { ⌜ Accepted (now register) × (records (register-in (now register)) ≡ n) × (count ≤ 32) × (length (now codes) ≡ 32) × MakePath (now codes) (replicate 32 0) count 0 ⌝ }
-    ensures { λ o. ⌜ Answers (answered (register-in (now (register .entry))) (asked (register-in (now (register .entry))) (path-of (symbols-in (now (codes .entry)) (replicate 32 0) count 0)))
-        (now (work .entry)) (now (answer .entry))) o (now (work .exit)) (now (answer .exit)) ⌝ }
+    ensures { λ o. ⌜ Returns (performed (answer-task (register-in (now (register .entry)))
+        (asked (register-in (now (register .entry))) (path-of (symbols-in (now (codes .entry)) (replicate 32 0) count 0))))
+        (now (work .entry)) (now (answer .entry))) (outcome-said o) (now (work .exit)) (now (answer .exit)) ⌝ }
 {
     let w = row_words(n);
     let need = RELATIONS * (n * w);
@@ -93,7 +97,7 @@ pub fn plain_answer(
     work: &mut [u64],
     answer: &mut [u64],
 ) -> Outcome
-    ensures { λ o. ⌜ Answers (plain-call (now (question .entry)) (now (register .entry)) (now (work .entry)) (now (answer .entry))) o (now (work .exit)) (now (answer .exit)) ⌝ }
+    ensures { λ o. ⌜ Returns (plain-call (now (question .entry)) (now (register .entry)) (now (work .entry)) (now (answer .entry))) (outcome-said o) (now (work .exit)) (now (answer .exit)) ⌝ }
 {
     let q = question::read(question);
     let outcome = q.outcome;
@@ -175,7 +179,8 @@ fn add_member(
     work: &mut [u64],
     answer: &mut [u64],
 )
-    requires { ⌜ Ground (now register) n w × (28 * (n * w) ≤ length (now work)) × (n * w ≤ length (now answer)) × (first + size ≤ length (now numbers)) × (first + size ≤ length (now sets)) × (size ≤ 48) ⌝ }
+    requires { ⌜ Ground (now register) n w × (28 * (n * w) ≤ length (now work)) × (n * w ≤ length (now answer)) × (first + size ≤ length (now numbers)) × (first + size ≤ length (now sets)) ×
+        (size ≤ 48) ⌝ }
     requires { ⌜ MakePath (now numbers) (now sets) size first ⌝ }
     requires { ⌜ Held (register-in (now register)) n w (now held) (now work) × KindRows (register-in (now register)) n w (now kinds) ⌝ }
     ensures { λ _. ⌜ Held (register-in (now (register .entry))) n w (now (held .exit)) (now (work .exit))
@@ -222,10 +227,11 @@ fn add_members(
     work: &mut [u64],
     answer: &mut [u64],
 )
-    requires { ⌜ Readable (lent count (now sizes) (now from) (now to) (now numbers) (now sets)) × Ground (now register) n w × (28 * (n * w) ≤ length (now work)) × (n * w ≤ length (now answer)) ⌝ }
+    requires { ⌜ Readable (arrays count (now sizes) (now from) (now to) (now numbers) (now sets)) × Ground (now register) n w × (28 * (n * w) ≤ length (now work)) × (n * w ≤ length (now answer)) ⌝ }
     requires { ⌜ (128 ≤ length (now sizes)) × (128 ≤ length (now from)) × (128 ≤ length (now to)) × (6144 ≤ length (now numbers)) × (6144 ≤ length (now sets)) ⌝ }
     ensures { λ _. ⌜ Adds (register-in (now (register .entry))) n w
-        (narrowed-answer (register-in (now (register .entry))) (members-of (given (lent count (now (sizes .entry)) (now (from .entry)) (now (to .entry)) (now (numbers .entry)) (now (sets .entry))))))
+        (narrowed-answer (register-in (now (register .entry)))
+        (members-of (given (arrays count (now (sizes .entry)) (now (from .entry)) (now (to .entry)) (now (numbers .entry)) (now (sets .entry))))))
         (now (work .entry)) (now (work .exit)) (now (answer .entry)) (now (answer .exit)) ⌝ }
 {
     let mut kinds = [0u64; kind_rows::TABLE];
@@ -267,10 +273,11 @@ pub fn set_members(
     work: &mut [u64],
     answer: &mut [u64],
 )
-    requires { ⌜ Readable (lent count (now sizes) (now from) (now to) (now numbers) (now sets)) × Ground (now register) n w × (28 * (n * w) ≤ length (now work)) × (n * w ≤ length (now answer)) ⌝ }
+    requires { ⌜ Readable (arrays count (now sizes) (now from) (now to) (now numbers) (now sets)) × Ground (now register) n w × (28 * (n * w) ≤ length (now work)) × (n * w ≤ length (now answer)) ⌝ }
     requires { ⌜ Long (now sizes) (now from) (now to) (now numbers) (now sets) ⌝ }
     ensures { λ _. ⌜ Fills n w
-        (narrowed-answer (register-in (now (register .entry))) (members-of (given (lent count (now (sizes .entry)) (now (from .entry)) (now (to .entry)) (now (numbers .entry)) (now (sets .entry))))))
+        (narrowed-answer (register-in (now (register .entry)))
+        (members-of (given (arrays count (now (sizes .entry)) (now (from .entry)) (now (to .entry)) (now (numbers .entry)) (now (sets .entry))))))
         outcome.Accepted (now (work .entry)) (now (work .exit)) (now (answer .entry)) (now (answer .exit)) ⌝ }
 {
     let room = n * w;
@@ -304,10 +311,11 @@ fn narrowed_words(
     work: &mut [u64],
     answer: &mut [u64],
 ) -> Outcome
-    requires { ⌜ Readable (lent count (now sizes) (now from) (now to) (now numbers) (now sets)) × Ground (now register) n w × (28 * (n * w) ≤ length (now work)) ⌝ }
+    requires { ⌜ Readable (arrays count (now sizes) (now from) (now to) (now numbers) (now sets)) × Ground (now register) n w × (28 * (n * w) ≤ length (now work)) ⌝ }
     requires { ⌜ Long (now sizes) (now from) (now to) (now numbers) (now sets) ⌝ }
     ensures { λ o. ⌜ Fills n w
-        (narrowed-answer (register-in (now (register .entry))) (members-of (given (lent count (now (sizes .entry)) (now (from .entry)) (now (to .entry)) (now (numbers .entry)) (now (sets .entry))))))
+        (narrowed-answer (register-in (now (register .entry)))
+        (members-of (given (arrays count (now (sizes .entry)) (now (from .entry)) (now (to .entry)) (now (numbers .entry)) (now (sets .entry))))))
         o (now (work .entry)) (now (work .exit)) (now (answer .entry)) (now (answer .exit)) ⌝ }
 {
     let room = n * w;
@@ -343,11 +351,12 @@ fn narrowed_in(
     work: &mut [u64],
     answer: &mut [u64],
 ) -> Outcome
-    requires { ⌜ Readable (lent count (now sizes) (now from) (now to) (now numbers) (now sets)) × Accepted (now register) × (records (register-in (now register)) ≡ n) ⌝ }
+    requires { ⌜ Readable (arrays count (now sizes) (now from) (now to) (now numbers) (now sets)) × Accepted (now register) × (records (register-in (now register)) ≡ n) ⌝ }
     requires { ⌜ Long (now sizes) (now from) (now to) (now numbers) (now sets) ⌝ }
-    ensures { λ o. ⌜ Answers (answered (register-in (now (register .entry)))
-        (narrowed-answer (register-in (now (register .entry))) (members-of (given (lent count (now (sizes .entry)) (now (from .entry)) (now (to .entry)) (now (numbers .entry)) (now (sets .entry))))))
-        (now (work .entry)) (now (answer .entry))) o (now (work .exit)) (now (answer .exit)) ⌝ }
+    ensures { λ o. ⌜ Returns (performed (answer-task (register-in (now (register .entry)))
+        (narrowed-answer (register-in (now (register .entry)))
+        (members-of (given (arrays count (now (sizes .entry)) (now (from .entry)) (now (to .entry)) (now (numbers .entry)) (now (sets .entry)))))))
+        (now (work .entry)) (now (answer .entry))) (outcome-said o) (now (work .exit)) (now (answer .exit)) ⌝ }
 {
     let w = row_words(n);
     let room = RELATIONS * (n * w);
@@ -378,7 +387,7 @@ pub fn narrowed_answer(
     work: &mut [u64],
     answer: &mut [u64],
 ) -> Outcome
-    ensures { λ o. ⌜ Answers (narrowed-call (now (narrowed .entry)) (now (register .entry)) (now (work .entry)) (now (answer .entry))) o (now (work .exit)) (now (answer .exit)) ⌝ }
+    ensures { λ o. ⌜ Returns (narrowed-call (now (narrowed .entry)) (now (register .entry)) (now (work .entry)) (now (answer .entry))) (outcome-said o) (now (work .exit)) (now (answer .exit)) ⌝ }
 {
     let mut sizes = [0u8; fields::MEMBERS];
     let mut from = [0u64; fields::MEMBERS];

@@ -6,8 +6,7 @@ use mathlib.Core.Option.{Option, none, some}
 use Prim.Native.Nat.{ℕ}
 use Rattle.theory.specs.Sheet.{breach}
 use Rattle.fields.specs.declared.Source.the-variants as source
-use Rattle.fields.specs.Call.{Outcome, accepts, refuses, reading}
-use Rattle.fields.specs.Reading.{read}
+use Rattle.fields.specs.Call.{Outcome, accepts, refuses, and-then, file}
 use Rattle.sheet.specs.Form.{sheet-form}
 use Rattle.register.specs.Form.{register-form}
 
@@ -17,5 +16,6 @@ obeying (some i) = refuses source.Work 16 i
 
 unfoldable pub check-of : List ℕ → List ℕ → Outcome (Unit {0})
 check-of sheet register =
-    reading (read sheet-form sheet) (refuses source.Sheet)
-    (λ S. reading (read register-form register) (refuses source.Register) (λ r. obeying (breach S r)))
+    and-then (file source.Sheet sheet-form sheet) (λ S.
+    and-then (file source.Register register-form register) (λ r.
+    obeying (breach S r)))

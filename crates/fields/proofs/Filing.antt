@@ -9,26 +9,19 @@ use lib.Dec.{ltb}
 use lib.ListN.{length, take, drop}
 use lib.Seq.{sets, length-sets, sets-eq, take-append-seam}
 use borrow.Author.Tests.{lt-ltb, le-ltb, ltb-false}
-use Rattle.fields.specs.declared.Refusal.the-variants.{AreaShort}
-use Rattle.fields.specs.declared.Source.{Source}
 use Rattle.fields.specs.declared.Source.the-variants as source
-use Rattle.fields.specs.declared.Written.the-variants as written
-use Rattle.fields.specs.Call.{Outcome, refuses, accepts, Size, size, output, file-in}
-use Rattle.fields.specs.Contract.{Files}
+use Rattle.fields.specs.Call.{refuses, accepts, output, Gives, Size, size, file-in}
+use Rattle.fields.proofs.Calls.{not-accepted}
 
 -- ---- 14 was told, or the file was put; n bytes are needed
 module _ (count : ℕ) (bytes area : List ℕ) {n : ℕ} (e : n ≡ length bytes) where
-  pub file-short : length area < n → Files (file-in count bytes area) (written.Refused source.Work (AreaShort n)) area
+  pub file-short : length area < n → Gives (file-in count bytes area) (refuses source.Work 14 n) area
   unfolding file-in
-  file-short l =
-      let t = lt-ltb (length area) (length bytes) (omega (arith, e)) in
-      record { outcome = rw t (ap (refuses source.Work 14) e); file = rw t }
+  file-short l = record { is = rw (lt-ltb (length area) (length bytes) (omega (arith, e)), e) }
 
-  pub file-put : {area′ : List ℕ} {m b : ℕ} → n ≤ length area → m ≡ count → b ≡ length bytes → area′ ≡ sets area 0 bytes → Files (file-in count bytes area) (written.File m b) area′
+  pub file-put : {area′ : List ℕ} {m b : ℕ} → n ≤ length area → m ≡ count → b ≡ length bytes → area′ ≡ sets area 0 bytes → Gives (file-in count bytes area) (accepts (size m b)) area′
   unfolding file-in
-  file-put l f g h =
-      let t = le-ltb (length area) (length bytes) (omega (arith, e)) in
-      record { outcome = rw (t, g) (ap (λ (k : ℕ). accepts (size k (length bytes))) f); file = rw t h }
+  file-put l f g h = record { is = rw (le-ltb (length area) (length bytes) (omega (arith, e)), f, g, h) }
 
 -- ---- the area has the file, of the size that was told
 pub record Filed (count : ℕ) (bytes before after : List ℕ) (z : Size) : Type 0 where
@@ -47,15 +40,12 @@ module _ {count : ℕ} {bytes before after : List ℕ} {z : Size} (a : Filed cou
   pub within : z .bytes ≤ length after
   within = omega (arith, a .measured, a .room, ap length (a .area), length-sets before 0 bytes)
 
-pub not-accepted : {A : Type 0} (x : Source) (n p : ℕ) (z : Size) → _≡_ {A = Outcome Size} (refuses x n p) (accepts z) → A
-not-accepted x n p z e = let w : _≡_ {A = ℕ} 0 1 = cc in absurd (omega arith)
-
 -- 14 was not told
-pub filed : (count : ℕ) (bytes area : List ℕ) (z : Size) → file-in count bytes area .outcome ≡ accepts z → Filed count bytes area (file-in count bytes area .file) z
+pub filed : (count : ℕ) (bytes area : List ℕ) (z : Size) → file-in count bytes area .outcome ≡ accepts z → Filed count bytes area (file-in count bytes area .areas) z
 unfolding file-in
 filed count bytes area z e = by-room (ltb (length area) (length bytes)) refl
   where
-    by-room : (b : Bool) → ltb (length area) (length bytes) ≡ b → Filed count bytes area (file-in count bytes area .file) z
+    by-room : (b : Bool) → ltb (length area) (length bytes) ≡ b → Filed count bytes area (file-in count bytes area .areas) z
     by-room true t = not-accepted source.Work 14 (length bytes) z (rw t at e)
     by-room false t =
         let y : accepts (size count (length bytes)) ≡ accepts z = rw t at e in

@@ -6,7 +6,8 @@ pub mod Fields
 -- fields as bytes, both ways
 pub mod Bytes
 pub mod Lies
--- a file in a lent area
+-- the frame of a call, a file in a lent area
+pub mod Calls
 pub mod Filing
 -- reading: the loop, and induction over an accepted file
 pub mod ReaderLoop

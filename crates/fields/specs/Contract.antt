@@ -1,7 +1,5 @@
 -- What the code's enums say, in the paper's numbers: "Where an answer is an enum, a definition gives this paper's number and values for each case."
 -- Assumes nothing.
-use mathlib.Core.Path.{_≡_}
-use mathlib.Core.List.{List}
 use Prim.Native.Nat.{ℕ}
 use Rattle.fields.specs.declared.Refusal.{Refusal}
 use Rattle.fields.specs.declared.Refusal.the-variants.{Truncated, Unexpected, OutOfRange, NotAscending, WrongEnd, Operands, UnnamedLink, TooMany, TooLong, AreaShort, WorkShort, Breach}
@@ -14,7 +12,7 @@ use Rattle.fields.specs.declared.Written.the-variants as written
 use Rattle.fields.specs.declared.Seen as declared·Seen
 use Rattle.fields.specs.declared.Seen.the-variants as seen
 use Rattle.theory.specs.Result.{Result, refused}
-use Rattle.fields.specs.Call.{Outcome, accepts, refuses, Size, size, Output}
+use Rattle.fields.specs.Call.{Outcome, accepts, refuses, Size, size}
 use Rattle.fields.specs.Reading.{Field, ends, wrong, body}
 
 abbrev pub number-of : Refusal → ℕ
@@ -62,11 +60,6 @@ outcome-said (outcome.Refused f r) = refuses f (number-of r) (place-of r)
 abbrev pub written-said : declared·Written.Written → Outcome Size
 written-said (written.File count bytes) = accepts (size count bytes)
 written-said (written.Refused f r) = refuses f (number-of r) (place-of r)
-
--- the outcome and the file's area are what is due
-pub record Files (due : Output) (o : declared·Written.Written) (area : List ℕ) : Type 0 where
-  pub outcome : written-said o ≡ due .outcome
-  pub file : area ≡ due .file
 
 abbrev pub field-said : declared·Seen.Seen → Field
 field-said seen.Ends = ends

@@ -16,10 +16,10 @@ use Rattle.narrowed_question.specs.declared.Outcome.the-variants as narrowed·o
 use Rattle.narrowed_question.specs.Form.{Flat, narrowed-form}
 use Rattle.narrowed_question.specs.Formed.{WellFormed}
 use Rattle.narrowed_question.specs.ArrayMembers.{given}
-use Rattle.narrowed_question.specs.Contract.{ReadsInto}
+use Rattle.narrowed_question.specs.Contract.{ReadsInto, arrays}
 use Rattle.fields.proofs.Bools.{not-got}
 use Rattle.answer.specs.Calls.{members-of}
-use Rattle.answer.specs.Contract.{Readable, lent}
+use Rattle.answer.specs.Contract.{Readable}
 use Rattle.answer.specs.Contract as answer·contract
 use Rattle.answer.proofs.Files.{file-refused, file-given}
 use Rattle.job.specs.Internal.{HasMembers, Answers-file}
@@ -32,7 +32,7 @@ module _ {bytes : ℕ} {area file : List ℕ} (h : HasMembers bytes area) (e : f
 
   module _ {count : ℕ} (a : o ≡ narrowed·outcome.Accepted count) where
     abbrev q : Members
-    q = lent count sizes from to numbers sets
+    q = arrays count sizes from to numbers sets
 
     same : (ms : List Flat) → read narrowed-form (take bytes area) ≡ got ms → WellFormed ms → given q ≡ ms
     same ms k f = file-given file o sizes from to numbers sets g count a ms (ap (read narrowed-form) e ∙ k) f

@@ -4,16 +4,18 @@ use fields::Refusal;
 use fields::Source;
 use fields::Written;
 ghost use mathlib.Core.Path.{_≡_};
-ghost use Prim.Native.Nat.{ℕ, _*_, _<_, _≤_};
+ghost use Prim.Native.Nat.{_*_, _<_, _≤_};
 ghost use lib.ListN.{length, take};
 ghost use Rattle.theory.specs.Register.{records};
 ghost use Rattle.register.specs.Form.{register-in};
 ghost use Rattle.register.specs.LinksAhead.{Accepted};
 ghost use Rattle.evaluation.specs.Ground.{Ground};
+ghost use Rattle.fields.specs.Call.{Returns};
+ghost use Rattle.fields.specs.Contract.{written-said};
 ghost use Rattle.narrowing.specs.Call.{narrow-need};
 ghost use Rattle.answer.specs.Calls.{plain-call};
-ghost use Rattle.job.specs.Call.{larger, job-call};
-ghost use Rattle.job.specs.Contract.{Jobs, AnswersPlain};
+ghost use Rattle.job.specs.Call.{results, larger, job-call};
+ghost use Rattle.job.specs.Contract.{AnswersPlain};
 ghost use Rattle.job.specs.Internal.{HasMembers, Answers-file, Asked, Roomy, Completes, JobFills, Settles};
 
 // The work words of the job on n records in rows of w words.
@@ -98,7 +100,8 @@ fn job_codes(
     file: &mut [u8],
 ) -> Written
     requires { ⌜ Asked (now codes) (now table) count kinds links × Ground (now register) n w × Roomy n w (now work) × (n * w ≤ length (now answer)) ⌝ }
-    ensures { λ o. ⌜ Completes (now (codes .entry)) (now (table .entry)) count kinds links (now (register .entry)) n w (now (work .entry)) (now (work .exit)) (now (answer .entry)) (now (answer .exit)) (now (file .entry)) (now (file .exit)) o ⌝ }
+    ensures { λ o. ⌜ Completes (now (codes .entry)) (now (table .entry)) count kinds links (now (register .entry)) n w (now (work .entry)) (now (work .exit)) (now (answer .entry))
+        (now (answer .exit)) (now (file .entry)) (now (file .exit)) o ⌝ }
 {
     let i = narrowing::first_unnamed(codes, count, links);
     if i < count {
@@ -133,7 +136,8 @@ fn job_words(
     file: &mut [u8],
 ) -> Written
     requires { ⌜ Asked (now codes) (now table) count kinds links × Ground (now register) n w × Roomy n w (now work) ⌝ }
-    ensures { λ o. ⌜ JobFills (now (codes .entry)) (now (table .entry)) count kinds links (now (register .entry)) n w (now (work .entry)) (now (work .exit)) (now (answer .entry)) (now (answer .exit)) (now (file .entry)) (now (file .exit)) o ⌝ }
+    ensures { λ o. ⌜ JobFills (now (codes .entry)) (now (table .entry)) count kinds links (now (register .entry)) n w (now (work .entry)) (now (work .exit)) (now (answer .entry)) (now (answer .exit))
+        (now (file .entry)) (now (file .exit)) o ⌝ }
 {
     let need = n * w;
     if answer.len() < need {
@@ -168,7 +172,8 @@ fn job_in(
     file: &mut [u8],
 ) -> Written
     requires { ⌜ Asked (now codes) (now table) count kinds links × Accepted (now register) × (records (register-in (now register)) ≡ n) ⌝ }
-    ensures { λ o. ⌜ Settles (now (codes .entry)) (now (table .entry)) count kinds links (now (register .entry)) (now (work .entry)) (now (work .exit)) (now (answer .entry)) (now (answer .exit)) (now (file .entry)) (now (file .exit)) o ⌝ }
+    ensures { λ o. ⌜ Settles (now (codes .entry)) (now (table .entry)) count kinds links (now (register .entry)) (now (work .entry)) (now (work .exit)) (now (answer .entry)) (now (answer .exit))
+        (now (file .entry)) (now (file .exit)) o ⌝ }
 {
     let w = answer::row_words(n);
     let need = work_need(n, w);
@@ -201,7 +206,8 @@ pub fn whole_job(
     answer: &mut [u64],
     file: &mut [u8],
 ) -> Written
-    ensures { λ o. ⌜ Jobs (job-call (now (sheet .entry)) (now (question .entry)) (now (register .entry)) (now (work .entry)) (now (answer .entry)) (now (file .entry))) o (now (work .exit)) (now (answer .exit)) (now (file .exit)) ⌝ }
+    ensures { λ o. ⌜ Returns (job-call (now (sheet .entry)) (now (question .entry)) (now (register .entry)) (now (work .entry)) (now (answer .entry)) (now (file .entry)))
+        (written-said o) (now (work .exit)) (results (now (answer .exit)) (now (file .exit))) ⌝ }
     ensures { λ o. ⌜ AnswersPlain (plain-call (now (question .entry)) (now (register .entry)) (now (work .entry)) (now (answer .entry))) o (now (answer .exit)) ⌝ }
 {
     let s = sheet::read(sheet);

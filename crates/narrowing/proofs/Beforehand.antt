@@ -17,8 +17,8 @@ use Rattle.theory.proofs.Demand3.{narrow-path}
 use Rattle.fields.specs.declared.Source.{Source}
 use Rattle.fields.specs.declared.Source.the-variants as source
 use Rattle.theory.specs.Result.{Result, got, refused}
-use Rattle.fields.specs.Call.{Outcome, accepts, refuses, Size, file-in}
-use Rattle.fields.proofs.Filing.{not-accepted}
+use Rattle.fields.specs.Call.{Outcome, accepts, refuses, performed, Size, file-in}
+use Rattle.fields.proofs.Calls.{not-accepted}
 use Rattle.fields.specs.Reading.{read}
 use Rattle.fields.specs.Contract.{source-number}
 use Rattle.sheet.specs.Form.{sheet-form}
@@ -26,7 +26,7 @@ use Rattle.sheet.proofs.Ranges.{accepted-sheet}
 use Rattle.question.specs.Form.{question-form, question-symbols}
 use Rattle.question.proofs.Paths.{accepted-question}
 use Rattle.narrowed_question.specs.Members.{narrowed-file}
-use Rattle.narrowing.specs.Call.{sized, file-size, file-of, in-area, narrow-need, settled, members-call, narrow-call, size-call}
+use Rattle.narrowing.specs.Call.{sized, file-size, file-of, in-area, narrow-need, members-task, members-call, narrow-call, size-call}
 use Rattle.narrowing.specs.Beforehand.{Foretells}
 
 -- ---- the members, or a refusal, with and without an area
@@ -66,11 +66,11 @@ abbrev Not14 : Outcome (List Member) → Type 0
 Not14 (refuses x n p) = source-number x ≡ 5 → n ≡ 14 → ⊥
 Not14 (accepts ms) = Unit {0}
 
-not-settled : (o : Narrowing) → Below14 o → (work : List ℕ) → (b : Bool) → ltb (length work) narrow-need ≡ b → Not14 (settled o work .outcome)
-unfolding settled
-not-settled o h work true t = rw t (λ x e. omega arith)
-not-settled (refused n i) h work false t = rw t (λ x e. omega arith)
-not-settled (got ms) h work false t = rw t tt
+not-performed : (o : Narrowing) → Below14 o → (work : List ℕ) → (b : Bool) → ltb (length work) narrow-need ≡ b → Not14 (performed (members-task o) work tt .outcome)
+unfolding performed members-task
+not-performed o h work true t = rw t (λ x e. omega arith)
+not-performed (refused n i) h work false t = rw t (λ x e. omega arith)
+not-performed (got ms) h work false t = rw t tt
 
 module _ (s q work : List ℕ) where
   by-question : (S : Sheet) → read sheet-form s ≡ got S → (a : Result (List ℕ)) → read question-form q ≡ a → Not14 (members-call s q work .outcome)
@@ -79,7 +79,7 @@ module _ (s q work : List ℕ) where
   by-question S es (got cs) eq =
       let (r, a) = accepted-question q cs eq in
       let below = judged-below S r (narrow-exact S (accepted-sheet s S es) r (narrow S r) .0 refl) in
-      rw (es, eq) (not-settled (narrow-symbols S (question-symbols cs)) (subst Below14 (narrow-path S r (question-symbols cs) (a .path)) below) work (ltb (length work) narrow-need) refl)
+      rw (es, eq) (not-performed (narrow-symbols S (question-symbols cs)) (subst Below14 (narrow-path S r (question-symbols cs) (a .path)) below) work (ltb (length work) narrow-need) refl)
 
   by-sheet : (a : Result Sheet) → read sheet-form s ≡ a → Not14 (members-call s q work .outcome)
   unfolding members-call

@@ -14,10 +14,10 @@ use Rattle.fields.specs.declared.Source.{Source}
 use Rattle.fields.specs.declared.Source.the-variants as source
 use Rattle.fields.specs.declared.Written.{Written}
 use Rattle.fields.specs.declared.Written.the-variants as written
-use Rattle.fields.specs.Call.{Outcome, accepts, refuses, Size, size}
-use Rattle.fields.specs.Contract.{number-of, place-of, written-said, Files}
+use Rattle.fields.specs.Call.{Outcome, accepts, refuses, output, Gives, Size, size}
+use Rattle.fields.specs.Contract.{number-of, place-of, written-said}
 use Rattle.fields.proofs.Filing as fields·Filing
-use Rattle.fields.proofs.Filing.{not-accepted}
+use Rattle.fields.proofs.Calls.{not-accepted}
 use Rattle.narrowed_question.specs.Members.{narrowed-file}
 use Rattle.rules.specs.Requirements.{part}
 use Rattle.merge.specs.Arranging.{Arranging, Arranged}
@@ -80,12 +80,12 @@ module _ (ms : List Member) (m b : ℕ) (z : size m b ≡ file-size ms) (file : 
   is-bytes : b ≡ length (narrowed-file ms)
   is-bytes = ap (λ (x : Size). x .bytes) z
 
-  file-short : length file < b → Files (file-of ms file) (written.Refused source.Work (AreaShort b)) file
+  file-short : length file < b → Gives (file-of ms file) (refuses source.Work 14 b) file
   unfolding file-of
   file-short l = fields·Filing.file-short (length ms) (narrowed-file ms) file is-bytes l
 
   file-put : {file′ : List ℕ} {n : ℕ} → b ≤ length file → n ≡ length (narrowed-file ms) → file′ ≡ sets file 0 (narrowed-file ms)
-      → Files (file-of ms file) (written.File m n) file′
+      → Gives (file-of ms file) (accepts (size m n)) file′
   unfolding file-of
   file-put l e f = fields·Filing.file-put (length ms) (narrowed-file ms) file is-bytes l is-members e f
 
@@ -94,8 +94,10 @@ module _ {qs ws : List ℕ} {c : Counted} where
   pub put-refused : (x : Source) (r : Refusal) → c .outcome ≡ written.Refused x r → {file : List ℕ} → Puts qs ws c file file (written.Refused x r)
   put-refused x r e {file} = record { files = λ due g. by-due due (sym (ap written-said e) ∙ g .outcome) }
     where
-      by-due : (due : Outcome (List Member)) → written-said (written.Refused x r) ≡ sized due → Files (in-area due file) (written.Refused x r) file
-      by-due (refuses y n p) f = record { outcome = f; file = refl }
+      by-due : (due : Outcome (List Member)) → written-said (written.Refused x r) ≡ sized due → Gives (in-area due file) (refuses x (number-of r) (place-of r)) file
+      by-due (refuses y n p) f =
+          let e : _≡_ {A = Outcome Size} (refuses x (number-of r) (place-of r)) (refuses y n p) = f in
+          record { is = ap (λ (o : Outcome Size). output o file) e }
       by-due (accepts ms) f = not-accepted x (number-of r) (place-of r) (file-size ms) f
 
   module _ (m b : ℕ) (e : c .outcome ≡ written.File m b) where
@@ -106,8 +108,8 @@ module _ {qs ws : List ℕ} {c : Counted} where
       sorted : Sorted qs ws c (all .0)
       sorted = g .sorted (all .0) (all .1)
 
-      in-file : (file : List ℕ) {file′ : List ℕ} {o : Written} → Files (file-of (all .0) file) o file′ → Files (in-area due file) o file′
-      in-file file {file′} {o} f = subst (λ (d : Outcome (List Member)). Files (in-area d file) o file′) (sym (all .1)) f
+      in-file : (file : List ℕ) {file′ : List ℕ} {o : Outcome Size} → Gives (file-of (all .0) file) o file′ → Gives (in-area due file) o file′
+      in-file file {file′} {o} f = subst (λ (d : Outcome (List Member)). Gives (in-area d file) o file′) (sym (all .1)) f
 
     pub put-short : {file : List ℕ} → length file < b → Puts qs ws c file file (written.Refused source.Work (AreaShort b))
     put-short {file} l = record { files = λ due g. in-file g file (file-short (all g .0) m b (all g .2) file l) }

@@ -12,15 +12,14 @@ use Rattle.theory.specs.Postfix.{path-of, ended}
 use Rattle.theory.specs.Sheet.{Sheet}
 use Rattle.theory.specs.Inference.{Triple, triples}
 use Rattle.theory.specs.Merging.{Member, members}
-use Rattle.theory.specs.Narrowing.{short?}
+use Rattle.theory.specs.Narrowing.{short?, part-fault, refuse, parted-as, parted}
 use Rattle.theory.specs.Result.{got}
 use Rattle.theory.proofs.Lists.{every-in}
 use Rattle.fields.specs.declared.Refusal.{Refusal}
 use Rattle.fields.specs.declared.Source.the-variants as source
 use Rattle.fields.specs.declared.Written.{Written}
 use Rattle.fields.specs.declared.Written.the-variants as written
-use Rattle.fields.specs.Call.{accepts}
-use Rattle.fields.specs.Call as fields·Call
+use Rattle.fields.specs.Call.{Outcome, accepts, about}
 use Rattle.question.specs.Form.{question-symbols}
 use Rattle.rows.specs.Kept.{Kept}
 use Rattle.rows.proofs.Words.{kept-in}
@@ -31,7 +30,7 @@ use Rattle.inference.specs.declared.Inferred.{Inferred}
 use Rattle.inference.specs.declared.Inferred.the-variants.{Triples, Refused}
 use Rattle.inference.specs.Questions.{Asking, Sheeted, Infers, Found}
 use Rattle.narrowing.specs.declared.Counted.{Counted}
-use Rattle.narrowing.specs.Call.{outcome-of, narrow-need}
+use Rattle.narrowing.specs.Call.{narrow-need}
 use Rattle.narrowing.specs.Contract.{Narrowable, Infers-file}
 use Rattle.narrowing.specs.Internal.{Listed, Counts, Known, Puts, Counts-named}
 use Rattle.narrowing.proofs.Filing.{uncounted}
@@ -49,6 +48,10 @@ module _ {qs ws t : List ℕ} {count K : ℕ} (h : Narrowable qs t count K) (n :
     abbrev parts-asked : List PathExpr
     parts-asked = ended (question-symbols (take count qs)) []
 
+    parted-is : (S : Sheet) → parted S (question-symbols (take count qs)) ≡ refuse (part-fault S) 0 parts-asked (got (members (triples S (h .path))))
+    unfolding parted
+    parted-is S = ap (parted-as S (question-symbols (take count qs))) (h .is)
+
     found : {r′ : Inferred} → r ≡ r′ → (S : Sheet) → Sheeted t K S → (q : PathExpr) → path-of (question-symbols (take count qs)) ≡ some q → Found S parts-asked q qs ws′ r′
     found w S g q e = subst (λ (x : Inferred). Found S parts-asked q qs ws′ x) w (i .found S g q e)
 
@@ -56,7 +59,7 @@ module _ {qs ws t : List ℕ} {count K : ℕ} (h : Narrowable qs t count K) (n :
     part-refused f w u =
         record {
           kept = kept;
-          counts = λ S g q e. uncounted f u (ap outcome-of (found w S g q e (got (members (triples S q)))));
+          counts = λ S g. uncounted f u (ap (about source.Work) (parted-is S ∙ found w S g (h .path) (h .is) (got (members (triples S (h .path))))));
         }
 
     module _ (s e : ℕ) (w : r ≡ Triples s e) where
@@ -84,17 +87,17 @@ module _ {qs ws t : List ℕ} {count K : ℕ} (h : Narrowable qs t count K) (n :
       part-counted {c} d =
           record {
             kept = kept;
-            counts = λ S g q x.
-                let z = found w S g q x in
-                let same = ap outcome-of (z .0 (got (members (triples S q)))) ∙ ap (λ (l : List Triple). accepts (members l)) (sym (z .1)) in
-                subst (λ (o : fields·Call.Outcome (List Member)). Counts qs ws′ o c) (sym same) d;
+            counts = λ S g.
+                let z = found w S g (h .path) (h .is) in
+                let same = ap (about source.Work) (parted-is S ∙ z .0 (got (members (triples S (h .path))))) ∙ ap (λ (l : List Triple). accepts (members l)) (sym (z .1)) in
+                subst (λ (o : Outcome (List Member)). Counts qs ws′ o c) (sym same) d;
           }
 
 -- what was counted is put into the area
 pub named-filed : {qs ws ws′ t : List ℕ} {count K : ℕ} {c : Counted} {file file′ : List ℕ} {o : Written} → Counts-named qs ws ws′ t count K c → Puts qs ws′ c file file′ o
     → Infers-file qs ws ws′ t count K file file′ o
-named-filed g p = record { kept = g .kept; files = λ S h q e. p .files _ (g .counts S h q e) }
+named-filed g p = record { kept = g .kept; files = λ S h. p .files _ (g .counts S h) }
 
 -- by the sheet that the table is of
 pub named-known : {qs ws ws′ t : List ℕ} {count K : ℕ} {c : Counted} → Narrowable qs t count K → Counts-named qs ws ws′ t count K c → Known qs ws′ c
-named-known h g = record { due = _; counts = g .counts (h .sheet) (h .sheeted) (h .path) (h .is) }
+named-known h g = record { due = _; counts = g .counts (h .sheet) (h .sheeted) }

@@ -1,36 +1,24 @@
 -- What the code's outcome and areas say.
 -- Assumes nothing.
 use mathlib.Core.Path.{_≡_}
-use mathlib.Core.List.{List, []}
+use mathlib.Core.List.{List}
 use mathlib.Core.Option.{some}
 use Prim.Native.Nat.{ℕ, _<_, _≤_}
 use lib.Dec.{T}
 use lib.ListN.{length, take}
 use Rattle.theory.specs.PathExpr.{PathExpr, plain?, links?}
-use Rattle.theory.specs.Postfix.{path-of, ended}
+use Rattle.theory.specs.Postfix.{path-of}
 use Rattle.theory.specs.Sheet.{Sheet}
-use Rattle.theory.specs.Inference.{triples}
-use Rattle.theory.specs.Merging.{members}
-use Rattle.theory.specs.Narrowing.{Narrowing, refuse, link-fault, part-fault}
-use Rattle.theory.specs.Result.{got, refused}
+use Rattle.theory.specs.Narrowing.{Narrowing, refuse, link-fault, parted}
+use Rattle.theory.specs.Result.{refused}
 use Rattle.fields.specs.declared.Written.{Written}
-use Rattle.fields.specs.Contract.{written-said, Files}
+use Rattle.fields.specs.declared.Source.the-variants as source
+use Rattle.fields.specs.Call.{about, Gives}
+use Rattle.fields.specs.Contract.{written-said}
 use Rattle.question.specs.Form.{question-symbols}
 use Rattle.rows.specs.Kept.{Kept}
 use Rattle.inference.specs.Questions.{Asking, Sheeted}
-use Rattle.narrowing.specs.Call.{NarrowYield, SizeYield, narrow-need}
-use Rattle.narrowing.specs.Call as call
-
--- the outcome and both areas are what is due
-pub record Narrows (due : NarrowYield) (o : Written) (xs ys : List ℕ) : Type 0 where
-  pub outcome : written-said o ≡ due .outcome
-  pub work : xs ≡ due .work
-  pub file : ys ≡ due .file
-
--- the outcome and the work words
-pub record Sizes (due : SizeYield) (o : Written) (xs : List ℕ) : Type 0 where
-  pub outcome : written-said o ≡ due .outcome
-  pub work : xs ≡ due .work
+use Rattle.narrowing.specs.Call.{narrow-need, in-area}
 
 -- 11 at the r-th of the codes, or at none where r is their number
 pub record FirstUnnamed (E : ℕ) (cs : List ℕ) (r : ℕ) : Type 0 where
@@ -54,11 +42,7 @@ pub record Narrowable (qs t : List ℕ) (count K : ℕ) : Type 0 where
   pub sheet : Sheet
   pub sheeted : Sheeted t K sheet
 
--- 12 or 13, or the members, by any sheet of the table
-abbrev pub parted : Sheet → List ℕ → PathExpr → Narrowing
-parted S cs q = refuse (part-fault S) 0 (ended (question-symbols cs) []) (got (members (triples S q)))
-
--- the same with 14 behind it
-pub record Infers-file (qs ws ws′ t : List ℕ) (count K : ℕ) (file file′ : List ℕ) (o : Written) : Type 0 where
+-- 12 or 13, or the members, by any sheet of the table, in the area of a file; of the work words only those up to the need changed
+pub record Infers-file (qs ws ws′ t : List ℕ) (count K : ℕ) (area area′ : List ℕ) (o : Written) : Type 0 where
   pub kept : Kept 0 narrow-need ws ws′
-  pub files : (S : Sheet) → Sheeted t K S → (q : PathExpr) → path-of (question-symbols (take count qs)) ≡ some q → Files (call.written (parted S (take count qs) q) file) o file′
+  pub files : (S : Sheet) → Sheeted t K S → Gives (in-area (about source.Work (parted S (question-symbols (take count qs)))) area) (written-said o) area′

@@ -3,23 +3,20 @@
 use mathlib.Core.Path.{_≡_}
 use mathlib.Core.Bool.{Bool, cond}
 use mathlib.Core.List.{List, List·Memᴰ as In}
-use mathlib.Core.Option.{some}
 use Prim.Native.Nat.{ℕ, _+_, _≤_}
 use lib.ListN.{length, take}
-use Rattle.theory.specs.PathExpr.{PathExpr}
-use Rattle.theory.specs.Postfix.{path-of}
 use Rattle.theory.specs.Sheet.{Sheet}
 use Rattle.theory.specs.Inference.{Triple, triples}
 use Rattle.theory.specs.Merging.{Member}
 use Rattle.algorithms.specs.Sorting.{grouped}
-use Rattle.theory.specs.Narrowing.{Narrowing, link-fault, narrow-symbols}
+use Rattle.theory.specs.Narrowing.{Narrowing, link-fault, parted, narrow-symbols}
 use Rattle.fields.specs.declared.Refusal.{Refusal}
 use Rattle.fields.specs.declared.Source.{Source}
 use Rattle.fields.specs.declared.Written.{Written}
 use Rattle.fields.specs.declared.Written.the-variants as written
-use Rattle.fields.specs.Call.{accepts}
-use Rattle.fields.specs.Call as fields·Call
-use Rattle.fields.specs.Contract.{written-said, Files}
+use Rattle.fields.specs.declared.Source.the-variants as source
+use Rattle.fields.specs.Call.{Outcome, accepts, about, Gives}
+use Rattle.fields.specs.Contract.{written-said}
 use Rattle.symbols.specs.Symbols.{symbol-numbered}
 use Rattle.question.specs.Form.{question-symbols}
 use Rattle.rows.specs.Kept.{Kept, Wrote}
@@ -31,8 +28,8 @@ use Rattle.merge.specs.Runs.{nodes-at}
 use Rattle.members_file.specs.Files.{Measuring}
 use Rattle.narrowing.specs.declared.Counted.{Counted}
 use Rattle.narrowing.specs.declared.Prepared.{Prepared}
-use Rattle.narrowing.specs.Call.{outcome-of, sized, in-area, narrow-need, members-call}
-use Rattle.narrowing.specs.Contract.{Handed, parted}
+use Rattle.narrowing.specs.Call.{sized, in-area, narrow-need, members-call}
+use Rattle.narrowing.specs.Contract.{Handed}
 
 -- r tells whether the code c is that of a step whose link is not one of E
 pub record TellsUnnamed (E c : ℕ) (r : Bool) : Type 0 where
@@ -54,35 +51,37 @@ pub record Sorted (qs ws : List ℕ) (c : Counted) (ms : List Member) : Type 0 w
   pub few : length ms ≤ 128
 
 -- the outcome tells the size of what is due
-pub record Counts (qs ws : List ℕ) (due : fields·Call.Outcome (List Member)) (c : Counted) : Type 0 where
+pub record Counts (qs ws : List ℕ) (due : Outcome (List Member)) (c : Counted) : Type 0 where
   pub outcome : written-said (c .outcome) ≡ sized due
   pub sorted : (ms : List Member) → due ≡ accepts ms → Sorted qs ws c ms
 
 -- something is due
 pub record Known (qs ws : List ℕ) (c : Counted) : Type 0 where
-  pub due : fields·Call.Outcome (List Member)
+  pub due : Outcome (List Member)
   pub counts : Counts qs ws due c
 
 -- whatever it is, it is now in the area
 pub record Puts (qs ws : List ℕ) (c : Counted) (file file′ : List ℕ) (o : Written) : Type 0 where
-  pub files : (due : fields·Call.Outcome (List Member)) → Counts qs ws due c → Files (in-area due file) o file′
+  pub files : (due : Outcome (List Member)) → Counts qs ws due c → Gives (in-area due file) (written-said o) file′
 
--- of the work words only those up to the need changed
-pub record Counts-named (qs ws ws′ t : List ℕ) (count K : ℕ) (c : Counted) : Type 0 where
+-- by each sheet of which it is known that .. what is due is this; of the work words only those up to the need changed
+pub record CountsBy (Of : Sheet → Type 0) (due : Sheet → Narrowing) (qs ws ws′ : List ℕ) (c : Counted) : Type 0 where
   pub kept : Kept 0 narrow-need ws ws′
-  pub counts : (S : Sheet) → Sheeted t K S → (q : PathExpr) → path-of (question-symbols (take count qs)) ≡ some q → Counts qs ws′ (outcome-of (parted S (take count qs) q)) c
+  pub counts : (S : Sheet) → Of S → Counts qs ws′ (about source.Work (due S)) c
 
--- with 11 before it
-pub record Counts-codes (qs ws ws′ t : List ℕ) (count K E : ℕ) (c : Counted) : Type 0 where
-  pub kept : Kept 0 narrow-need ws ws′
-  pub counts : (S : Sheet) → Handed t K E S → Counts qs ws′ (outcome-of (narrow-symbols S (question-symbols (take count qs)))) c
+-- 12 or 13, or the members; and with 11 before them
+abbrev pub Counts-named : List ℕ → List ℕ → List ℕ → List ℕ → ℕ → ℕ → Counted → Type 0
+Counts-named qs ws ws′ t count K c = CountsBy (Sheeted t K) (λ S. parted S (question-symbols (take count qs))) qs ws ws′ c
+
+abbrev pub Counts-codes : List ℕ → List ℕ → List ℕ → List ℕ → ℕ → ℕ → ℕ → Counted → Type 0
+Counts-codes qs ws ws′ t count K E c = CountsBy (Handed t K E) (λ S. narrow-symbols S (question-symbols (take count qs))) qs ws ws′ c
 
 -- refused, and no work word is to be zeroed
 pub record Unprepared (x : Source) (r : Refusal) (p : Prepared) : Type 0 where
   pub outcome : p .counted .outcome ≡ written.Refused x r
   pub words : p .words ≡ 0
 
--- with the files and 15 before that; the work words are what is due once so many are zeroed
+-- with the files and 15 before that; the work words are what is due once the given number of them is zeroed
 pub record Prepares (s q ws ws′ : List ℕ) (p : Prepared) : Type 0 where
   pub counts : Counts (p .codes) ws′ (members-call s q ws .outcome) (p .counted)
   pub room : p .words ≤ length ws′

@@ -4,14 +4,15 @@ use fields::Source;
 use fields::Written;
 use inference::Inferred;
 ghost use mathlib.Core.Path.{_≡_};
-ghost use Prim.Native.Nat.{ℕ, _<_, _≤_};
+ghost use Prim.Native.Nat.{_<_, _≤_};
 ghost use lib.ListN.{length, take};
 ghost use Rattle.theory.specs.Merging.{members};
 ghost use Rattle.fields.specs.declared.Written.the-variants as written;
-ghost use Rattle.fields.specs.Call.{accepts};
+ghost use Rattle.fields.specs.Call.{accepts, Returns};
+ghost use Rattle.fields.specs.Contract.{written-said};
 ghost use Rattle.rules.specs.Requirements.{part};
 ghost use Rattle.narrowing.specs.Call.{narrow-need, narrow-call, size-call};
-ghost use Rattle.narrowing.specs.Contract.{Narrows, Sizes, FirstUnnamed, Narrowable, Infers-file};
+ghost use Rattle.narrowing.specs.Contract.{FirstUnnamed, Narrowable, Infers-file};
 ghost use Rattle.narrowing.specs.Internal.{TellsUnnamed, Listed, Counts, Known, Puts, Counts-named, Counts-codes, Unprepared, Prepares};
 
 // The work words that narrowing needs.
@@ -33,7 +34,7 @@ struct Prepared {
     words: usize,
 }
 
-// Is the code that of a step whose link is not below `links`?
+// Whether the code is that of a step whose link is not below `links`.
 fn unnamed(code: u8, links: u8) -> bool
     ensures { λ r. ⌜ TellsUnnamed links code r ⌝ }
 {
@@ -214,7 +215,7 @@ pub fn narrow_named(
 
 // Narrows a question by a sheet, and writes the file of the narrowed question.
 pub fn narrowing(sheet: &[u8], question: &[u8], work: &mut [u64], file: &mut [u8]) -> Written
-    ensures { λ o. ⌜ Narrows (narrow-call (now (sheet .entry)) (now (question .entry)) (now (work .entry)) (now (file .entry))) o (now (work .exit)) (now (file .exit)) ⌝ }
+    ensures { λ o. ⌜ Returns (narrow-call (now (sheet .entry)) (now (question .entry)) (now (work .entry)) (now (file .entry))) (written-said o) (now (work .exit)) (now (file .exit)) ⌝ }
 {
     let p = prepare(sheet, question, work);
     let counted = p.counted;
@@ -225,7 +226,7 @@ pub fn narrowing(sheet: &[u8], question: &[u8], work: &mut [u64], file: &mut [u8
 
 // The size of the file that narrowing writes where its area is long enough; or the refusal that it gives in any area.
 pub fn narrowed_size(sheet: &[u8], question: &[u8], work: &mut [u64]) -> Written
-    ensures { λ o. ⌜ Sizes (size-call (now (sheet .entry)) (now (question .entry)) (now (work .entry))) o (now (work .exit)) ⌝ }
+    ensures { λ o. ⌜ Returns (size-call (now (sheet .entry)) (now (question .entry)) (now (work .entry))) (written-said o) (now (work .exit)) tt ⌝ }
 {
     let found = prepare(sheet, question, work);
     rows::clear(work, 0, found.words);

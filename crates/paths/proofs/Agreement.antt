@@ -57,8 +57,10 @@ module _ {s q file file′ : List ℕ} {z : Size} (a : Accepted s q file file′
         bytes = a .filed .measured;
         meaning = subst (Demand3 (a .sheet) p) (sym back) (demand3 (a .sheet) valid p (k .plain) (a .members) same);
         no-idle = subst (NoIdle (a .sheet)) (sym back) (no-idle (a .sheet) valid p (k .plain) (a .members) same);
-        equal = λ {register} {work} {answer} {work′} {answer′} {r} h. words-equal (a .sheet) valid p (k .plain) (a .members) same q register (a .codes) (a .question-reads) (k .path) r (h .reads) work answer work′ answer′ (h .plain) (h .narrowed);
-        subset = λ {register} {work} {answer} {work′} {answer′} {r} h. bits-subset (a .sheet) valid p (k .plain) (a .members) same q register (a .codes) (a .question-reads) (k .path) r (h .reads) work answer work′ answer′ (h .plain) (h .narrowed);
+        equal = λ {register} {work} {answer} {work′} {answer′} {r} h. words-equal (a .sheet) valid p (k .plain) (a .members) same q register (a .codes) (a .question-reads) (k .path) r
+            (h .reads) work answer work′ answer′ (h .plain) (h .narrowed);
+        subset = λ {register} {work} {answer} {work′} {answer′} {r} h. bits-subset (a .sheet) valid p (k .plain) (a .members) same q register (a .codes) (a .question-reads) (k .path) r
+            (h .reads) work answer work′ answer′ (h .plain) (h .narrowed);
       }
 
 pub agreement : (sheet question work area : List ℕ) (z : Size) → NarrowTook sheet question work area z → Agrees sheet question (file-written sheet question work area z) z
@@ -69,7 +71,8 @@ agreement sheet question work area z took =
 
 -- ---- the whole job
 module _ (sheet question register work answer area : List ℕ) (z : Size) (took : JobTook sheet question register work answer area z) where
-  abbrev a : job·Accepted.Accepted sheet question register work answer (job-call sheet question register work answer area .answer) area (job-call sheet question register work answer area .file) z
+  abbrev a : job·Accepted.Accepted sheet question register work answer (job-call sheet question register work answer area .areas .answer) area
+      (job-call sheet question register work answer area .areas .area) z
   a = job·Accepted.accepted sheet question register work answer area z took
 
   abbrev file : List ℕ
@@ -93,7 +96,8 @@ module _ (sheet question register work answer area : List ℕ) (z : Size) (took 
           r = a .register;
           register-reads = a .register-reads;
           conforms = obeys;
-          narrowed-same = λ work′ answer′ y i h. ap (λ (l : List ℕ). getD l i 0) e ∙ sym (agrees .equal (record { reads = a .register-reads; plain = ok; got = y }) (obeys (agrees .S) (agrees .sheet-reads)) i h);
+          narrowed-same = λ work′ answer′ y i h. ap (λ (l : List ℕ). getD l i 0) e
+              ∙ sym (agrees .equal (record { reads = a .register-reads; plain = ok; narrowed = y }) (obeys (agrees .S) (agrees .sheet-reads)) i h);
           plain-same = λ work′ answer′ y i h.
               ap (λ (l : List ℕ). getD l i 0) e
               ∙ plain-word question register work answer (a .register) (a .register-reads) (a .narrowing .codes) p (a .narrowing .question-reads) (k .path) ok i h

@@ -13,14 +13,13 @@ use Rattle.theory.specs.Register.{Register}
 use Rattle.theory.specs.Demand3.{Demand3}
 use Rattle.theory.proofs.Demand3.{same-question}
 use Rattle.theory.specs.Result.{got}
-use Rattle.fields.specs.Call.{Size}
+use Rattle.fields.specs.Call.{Returned, Size}
 use Rattle.question.specs.Form.{question-symbols}
 use Rattle.answer.specs.Calls.{members-of, plain-call}
-use Rattle.answer.specs.Calls as answer
 use Rattle.answer.proofs.SamePairs as SamePairs
 use Rattle.shortening.specs.Shortens.{ShortenTook, short-file, Shortens}
 use Rattle.shortening.proofs.Shortens.{shortens}
-use Rattle.paths.specs.Agreement.{NarrowTook, file-written, Answers, Agrees}
+use Rattle.paths.specs.Agreement.{NarrowTook, file-written, BothAnswer, Agrees}
 use Rattle.paths.specs.Shortening.{AnswersAlike}
 use Rattle.paths.proofs.Agreement.{agreement}
 
@@ -44,8 +43,14 @@ module _ {question short : List ℕ} {z : Size} (h : Shortens question short z) 
         let s : some (g .q) ≡ some (h .q) = sym (g .path) ∙ ap (λ (cs : List ℕ). path-of (question-symbols cs)) (sym c) ∙ h .short-path in
         cc
 
-    of-short : {register work₁ answer₁ work₂ answer₂ : List ℕ} {r : Register} → Answers question file register work₁ answer₁ work₂ answer₂ r → Answers short file register work₁ answer₁ work₂ answer₂ r
-    of-short {register} {work₁} {answer₁} a = record { reads = a .reads; plain = ap (λ (x : answer.AnswerYield). x .outcome) (plain-same register work₁ answer₁) ∙ a .plain; narrowed = a .narrowed }
+    of-short : {register work₁ answer₁ work₂ answer₂ : List ℕ} {r : Register} → BothAnswer question file register work₁ answer₁ work₂ answer₂ r
+        → BothAnswer short file register work₁ answer₁ work₂ answer₂ r
+    of-short {register} {work₁} {answer₁} a = record {
+      reads = a .reads;
+      plain = ap (λ (x : Returned (Unit {0}) (List ℕ)). x .outcome) (plain-same register work₁ answer₁)
+          ∙ a .plain;
+      narrowed = a .narrowed;
+    }
 
     narrowed-same : Agrees sheet question file w
     narrowed-same =
@@ -63,9 +68,9 @@ module _ {question short : List ℕ} {z : Size} (h : Shortens question short z) 
           meaning = same-question (h .same-pairs) (subst (λ (x : PathExpr). Demand3 (g .S) x (members-of (g .flats))) read-path (g .meaning));
           no-idle = g .no-idle;
           equal = λ {register} {work = work₁} {answer = answer₁} {work′} {answer′} {r} a obeys k l.
-              g .equal (of-short a) obeys k l ∙ ap (λ (x : answer.AnswerYield). getD (x .answer) k 0) (plain-same register work₁ answer₁);
+              g .equal (of-short a) obeys k l ∙ ap (λ (x : Returned (Unit {0}) (List ℕ)). getD (x .areas) k 0) (plain-same register work₁ answer₁);
           subset = λ {register} {work = work₁} {answer = answer₁} {work′} {answer′} {r} a k j l b.
-              subst (λ (x : answer.AnswerYield). T (bitOf (getD (x .answer) k 0) j)) (plain-same register work₁ answer₁) (g .subset (of-short a) k j l b);
+              subst (λ (x : Returned (Unit {0}) (List ℕ)). T (bitOf (getD (x .areas) k 0) j)) (plain-same register work₁ answer₁) (g .subset (of-short a) k j l b);
         }
 
 pub answers-alike : (question area : List ℕ) (z : Size) → ShortenTook question area z → AnswersAlike question (short-file question area z)

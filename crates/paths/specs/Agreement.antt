@@ -25,26 +25,26 @@ use Rattle.narrowing.specs.Call.{narrow-call}
 use Rattle.answer.specs.Calls.{answer-need, members-of, plain-call, narrowed-call}
 use Rattle.job.specs.Call.{job-call}
 
--- narrowing took the sheet and the question, and told of a file of so many members and bytes
+-- narrowing took the sheet and the question, and told the numbers of members and bytes of a file
 abbrev pub NarrowTook : List ℕ → List ℕ → List ℕ → List ℕ → Size → Type 0
 NarrowTook sheet question work area z = narrow-call sheet question work area .outcome ≡ accepts z
 
--- the file that it wrote: so many bytes of the area that was lent
+-- the file that it wrote: the told number of bytes of the lent area
 abbrev pub file-written : List ℕ → List ℕ → List ℕ → List ℕ → Size → List ℕ
-file-written sheet question work area z = take (z .bytes) (narrow-call sheet question work area .file)
+file-written sheet question work area z = take (z .bytes) (narrow-call sheet question work area .areas)
 
 -- on a register's file, a plain answer of the question and a narrowed answer of the file, neither refused
-pub record Answers (question file register work answer work′ answer′ : List ℕ) (r : Register) : Type 0 where
+pub record BothAnswer (question file register work answer work′ answer′ : List ℕ) (r : Register) : Type 0 where
   pub reads : read register-form register ≡ got r
   pub plain : plain-call question register work answer .outcome ≡ accepts tt
   pub narrowed : narrowed-call file register work′ answer′ .outcome ≡ accepts tt
 
 -- word k of each
 abbrev pub plain-word : List ℕ → List ℕ → List ℕ → List ℕ → ℕ → ℕ
-plain-word question register work answer k = getD (plain-call question register work answer .answer) k 0
+plain-word question register work answer k = getD (plain-call question register work answer .areas) k 0
 
 abbrev pub narrowed-word : List ℕ → List ℕ → List ℕ → List ℕ → ℕ → ℕ
-narrowed-word file register work answer k = getD (narrowed-call file register work answer .answer) k 0
+narrowed-word file register work answer k = getD (narrowed-call file register work answer .areas) k 0
 
 -- what the three files hold, and what demand 3 and request j say of them
 pub record Agrees (sheet question file : List ℕ) (z : Size) : Type 0 where
@@ -65,23 +65,23 @@ pub record Agrees (sheet question file : List ℕ) (z : Size) : Type 0 where
   -- "each kind in one of its join sets" matters on some register that obeys
   pub no-idle : NoIdle S (members-of flats)
   -- on a register's file: "their N times W words are equal if the register obeys"
-  pub equal : {register work answer work′ answer′ : List ℕ} {r : Register} → Answers question file register work answer work′ answer′ r → T (conforms? S r)
+  pub equal : {register work answer work′ answer′ : List ℕ} {r : Register} → BothAnswer question file register work answer work′ answer′ r → T (conforms? S r)
       → (k : ℕ) → k < answer-need r → narrowed-word file register work′ answer′ k ≡ plain-word question register work answer k
   -- "and otherwise each bit set in the narrowed answer is set in the plain one"
-  pub subset : {register work answer work′ answer′ : List ℕ} {r : Register} → Answers question file register work answer work′ answer′ r
+  pub subset : {register work answer work′ answer′ : List ℕ} {r : Register} → BothAnswer question file register work answer work′ answer′ r
       → (k j : ℕ) → k < answer-need r → T (bitOf (narrowed-word file register work′ answer′ k) j) → T (bitOf (plain-word question register work answer k) j)
 
 -- ---- "The same holds of the file and the narrowed answer that the whole job gives."
--- the job took the three files, and told of a file of so many members and bytes
+-- the job took the three files, and told the numbers of members and bytes of a file
 abbrev pub JobTook : List ℕ → List ℕ → List ℕ → List ℕ → List ℕ → List ℕ → Size → Type 0
 JobTook sheet question register work answer area z = job-call sheet question register work answer area .outcome ≡ accepts z
 
 -- the file that it wrote, and word k of its answer
 abbrev pub job-file : List ℕ → List ℕ → List ℕ → List ℕ → List ℕ → List ℕ → Size → List ℕ
-job-file sheet question register work answer area z = take (z .bytes) (job-call sheet question register work answer area .file)
+job-file sheet question register work answer area z = take (z .bytes) (job-call sheet question register work answer area .areas .area)
 
 abbrev pub job-word : List ℕ → List ℕ → List ℕ → List ℕ → List ℕ → List ℕ → ℕ → ℕ
-job-word sheet question register work answer area k = getD (job-call sheet question register work answer area .answer) k 0
+job-word sheet question register work answer area k = getD (job-call sheet question register work answer area .areas .answer) k 0
 
 pub record JobAgrees (sheet question register work answer area : List ℕ) (z : Size) : Type 0 where
   pub file-agrees : Agrees sheet question (job-file sheet question register work answer area z) z

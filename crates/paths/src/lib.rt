@@ -17,30 +17,24 @@ ghost use Rattle.narrowed_writer.specs.Outcome.{Writes};
 ghost use Rattle.conformance.specs.Check.{check-of};
 ghost use Rattle.narrowing.specs.Call.{narrow-call, size-call};
 ghost use Rattle.answer.specs.Calls.{plain-call, narrowed-call};
-ghost use Rattle.job.specs.Call.{job-call};
+ghost use Rattle.job.specs.Call.{results, job-call};
 ghost use Rattle.shortening.specs.Call.{shorten-call};
-ghost use Rattle.paths.specs.OutcomeNumbers.{judged, tells, Tells, Tells-file, Answers, Narrows, Sizes, FilesTold, Jobs, TellsPlain};
+ghost use Rattle.paths.specs.OutcomeNumbers.{judged, tells, no-more, of-size, Tells, TellsOutput, TellsCall, TellsPlain};
 
 // What a call that is accepted returns; every refusal has a number of its own.
 const ACCEPTED: u64 = 0;
-
-fn wide(x: u8) -> u64
-    ensures { λ r. ⌜ r ≡ x ⌝ }
-{
-    x as u64
-}
 
 // Tells a refusal: leaves its place and the number of what it is about, returns its own number.
 fn tell_refusal(s: Source, r: Refusal, first: &mut u64, second: &mut u64) -> u64
     ensures { λ n. ⌜ tells n (now (first .exit)) (now (second .exit)) ≡ tells (number-of r) (place-of r) (source-number s) ⌝ }
 {
     *first = fields::place_of(r) as u64;
-    *second = wide(fields::source_number(s));
-    wide(fields::number_of(r))
+    *second = bits::wide(fields::source_number(s));
+    bits::wide(fields::number_of(r))
 }
 
 fn tell(o: Outcome, first: &mut u64, second: &mut u64) -> u64
-    ensures { λ n. ⌜ Tells (outcome-said o) (tells n (now (first .exit)) (now (second .exit))) ⌝ }
+    ensures { λ n. ⌜ Tells no-more (outcome-said o) (tells n (now (first .exit)) (now (second .exit))) ⌝ }
 {
     match o {
         Outcome::Accepted => {
@@ -53,7 +47,7 @@ fn tell(o: Outcome, first: &mut u64, second: &mut u64) -> u64
 }
 
 fn tell_file(o: Written, first: &mut u64, second: &mut u64) -> u64
-    ensures { λ n. ⌜ Tells-file (written-said o) (tells n (now (first .exit)) (now (second .exit))) ⌝ }
+    ensures { λ n. ⌜ Tells of-size (written-said o) (tells n (now (first .exit)) (now (second .exit))) ⌝ }
 {
     match o {
         Written::File(count, bytes) => {
@@ -67,7 +61,7 @@ fn tell_file(o: Written, first: &mut u64, second: &mut u64) -> u64
 
 // ---- how each file is judged, and the writer
 
-// Is it the file of a sheet?
+// Whether the bytes are the file of a sheet.
 pub fn judge_sheet(file: &[u8]) -> Outcome
     ensures { λ o. ⌜ outcome-said o ≡ judged source.Sheet (read sheet-form (now (file .entry))) ⌝ }
 {
@@ -79,7 +73,7 @@ pub fn judge_sheet(file: &[u8]) -> Outcome
     }
 }
 
-// Of a question?
+// Of a question.
 pub fn judge_question(file: &[u8]) -> Outcome
     ensures { λ o. ⌜ outcome-said o ≡ judged source.Question (read question-form (now (file .entry))) ⌝ }
 {
@@ -91,7 +85,7 @@ pub fn judge_question(file: &[u8]) -> Outcome
     }
 }
 
-// Of a narrowed question?
+// Of a narrowed question.
 pub fn judge_narrowed(file: &[u8]) -> Outcome
     ensures { λ o. ⌜ outcome-said o ≡ judged source.Narrowed (read narrowed-form (now (file .entry))) ⌝ }
 {
@@ -103,7 +97,7 @@ pub fn judge_narrowed(file: &[u8]) -> Outcome
     }
 }
 
-// Of a register?
+// Of a register.
 pub fn judge_register(file: &[u8]) -> Outcome
     ensures { λ o. ⌜ outcome-said o ≡ judged source.Register (read register-form (now (file .entry))) ⌝ }
 {
@@ -122,7 +116,7 @@ pub fn write(members: Members, area: &mut [u8]) -> narrowed_writer::Written
 
 // ---- check, narrowing, shortening, answers and the whole job, for C
 
-// Does a register obey a sheet?
+// Whether a register obeys a sheet.
 #[no_mangle]
 pub extern "C" fn paths_check(
     sheet: &[u8],
@@ -130,7 +124,7 @@ pub extern "C" fn paths_check(
     first: &mut u64,
     second: &mut u64,
 ) -> u64
-    ensures { λ n. ⌜ Tells (check-of (now (sheet .entry)) (now (register .entry))) (tells n (now (first .exit)) (now (second .exit))) ⌝ }
+    ensures { λ n. ⌜ Tells no-more (check-of (now (sheet .entry)) (now (register .entry))) (tells n (now (first .exit)) (now (second .exit))) ⌝ }
 {
     tell(conformance::check(sheet, register), first, second)
 }
@@ -145,7 +139,7 @@ pub extern "C" fn paths_narrow(
     first: &mut u64,
     second: &mut u64,
 ) -> u64
-    ensures { λ n. ⌜ Narrows (narrow-call (now (sheet .entry)) (now (question .entry)) (now (work .entry)) (now (file .entry)))
+    ensures { λ n. ⌜ TellsCall of-size (narrow-call (now (sheet .entry)) (now (question .entry)) (now (work .entry)) (now (file .entry)))
         (tells n (now (first .exit)) (now (second .exit))) (now (work .exit)) (now (file .exit)) ⌝ }
 {
     tell_file(
@@ -164,8 +158,8 @@ pub extern "C" fn paths_narrow_bytes(
     first: &mut u64,
     second: &mut u64,
 ) -> u64
-    ensures { λ n. ⌜ Sizes (size-call (now (sheet .entry)) (now (question .entry)) (now (work .entry)))
-        (tells n (now (first .exit)) (now (second .exit))) (now (work .exit)) ⌝ }
+    ensures { λ n. ⌜ TellsCall of-size (size-call (now (sheet .entry)) (now (question .entry)) (now (work .entry)))
+        (tells n (now (first .exit)) (now (second .exit))) (now (work .exit)) tt ⌝ }
 {
     tell_file(
         narrowing::narrowed_size(sheet, question, work),
@@ -182,7 +176,7 @@ pub extern "C" fn paths_shorten(
     first: &mut u64,
     second: &mut u64,
 ) -> u64
-    ensures { λ n. ⌜ FilesTold (shorten-call (now (question .entry)) (now (file .entry))) (tells n (now (first .exit)) (now (second .exit))) (now (file .exit)) ⌝ }
+    ensures { λ n. ⌜ TellsOutput of-size (shorten-call (now (question .entry)) (now (file .entry))) (tells n (now (first .exit)) (now (second .exit))) (now (file .exit)) ⌝ }
 {
     tell_file(shortening::shorten(question, file), first, second)
 }
@@ -197,7 +191,7 @@ pub extern "C" fn paths_answer(
     first: &mut u64,
     second: &mut u64,
 ) -> u64
-    ensures { λ n. ⌜ Answers (plain-call (now (question .entry)) (now (register .entry)) (now (work .entry)) (now (answer .entry)))
+    ensures { λ n. ⌜ TellsCall no-more (plain-call (now (question .entry)) (now (register .entry)) (now (work .entry)) (now (answer .entry)))
         (tells n (now (first .exit)) (now (second .exit))) (now (work .exit)) (now (answer .exit)) ⌝ }
 {
     tell(
@@ -217,7 +211,7 @@ pub extern "C" fn paths_answer_narrowed(
     first: &mut u64,
     second: &mut u64,
 ) -> u64
-    ensures { λ n. ⌜ Answers (narrowed-call (now (narrowed .entry)) (now (register .entry)) (now (work .entry)) (now (answer .entry)))
+    ensures { λ n. ⌜ TellsCall no-more (narrowed-call (now (narrowed .entry)) (now (register .entry)) (now (work .entry)) (now (answer .entry)))
         (tells n (now (first .exit)) (now (second .exit))) (now (work .exit)) (now (answer .exit)) ⌝ }
 {
     tell(
@@ -239,8 +233,8 @@ pub extern "C" fn paths_job(
     first: &mut u64,
     second: &mut u64,
 ) -> u64
-    ensures { λ n. ⌜ Jobs (job-call (now (sheet .entry)) (now (question .entry)) (now (register .entry)) (now (work .entry)) (now (answer .entry)) (now (file .entry)))
-        (tells n (now (first .exit)) (now (second .exit))) (now (work .exit)) (now (answer .exit)) (now (file .exit)) ⌝ }
+    ensures { λ n. ⌜ TellsCall of-size (job-call (now (sheet .entry)) (now (question .entry)) (now (register .entry)) (now (work .entry)) (now (answer .entry)) (now (file .entry)))
+        (tells n (now (first .exit)) (now (second .exit))) (now (work .exit)) (results (now (answer .exit)) (now (file .exit))) ⌝ }
     ensures { λ n. ⌜ TellsPlain (plain-call (now (question .entry)) (now (register .entry)) (now (work .entry)) (now (answer .entry)))
         (tells n (now (first .exit)) (now (second .exit))) (now (answer .exit)) ⌝ }
 {

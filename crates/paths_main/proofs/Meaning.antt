@@ -48,11 +48,11 @@ module _ (area : List ℕ) (n : ℕ) (f : ℕ → ℕ → Bool) (room : n * row-
 
 -- ---- of the files' bytes
 module _ (s q g : List ℕ) (z : Size) (e : job-of s q g .outcome ≡ accepts z) where
-  abbrev job : job·Accepted.Accepted s q g (zeros 8192) (zeros 256) (job-of s q g .answer) (zeros 65536) (job-of s q g .file) z
+  abbrev job : job·Accepted.Accepted s q g (zeros 8192) (zeros 256) (job-of s q g .areas .answer) (zeros 65536) (job-of s q g .areas .area) z
   job = accepted-job s q g z e
 
   pub printed-pairs : printed s q g ≡ answer-text (z .count) (narrowed-answer (job .register) (job .narrowing .members)) (records (job .register))
   unfolding printed
   printed-pairs =
       area-text (zeros 256) (records (job .register)) (narrowed-answer (job .register) (job .narrowing .members)) (job .room)
-      z (job-of s q g .outcome) (records (register-in g)) (job-of s q g .answer) e (ap records (job-register s q g z e)) (job .words)
+      z (job-of s q g .outcome) (records (register-in g)) (job-of s q g .areas .answer) e (ap records (job-register s q g z e)) (job .words)

@@ -18,7 +18,7 @@ use Rattle.fields.specs.declared.Refusal.{Refusal}
 use Rattle.fields.specs.declared.Written.{Written}
 use Rattle.fields.specs.declared.Written.the-variants as written
 use Rattle.theory.specs.Result.{got, refused}
-use Rattle.fields.specs.Call.{Size, accepts, size}
+use Rattle.fields.specs.Call.{Outcome, accepts, Returns, Size, size}
 use Rattle.fields.specs.Reading.{read}
 use Rattle.fields.specs.Contract.{number-of, place-of, written-said}
 use Rattle.register.specs.declared.Outcome as register·Outcome
@@ -31,8 +31,7 @@ use Rattle.relation.specs.Pairs.{pair-at}
 use Rattle.encode.specs.BytesWritten.{BytesWritten}
 use Rattle.narrowing.specs.Call.{narrow-need}
 use Rattle.answer.specs.Calls.{work-need}
-use Rattle.job.specs.Call.{job-call}
-use Rattle.job.specs.Contract.{Jobs}
+use Rattle.job.specs.Call.{Results, results, job-call}
 use Rattle.job.proofs.Needs.{larger-both}
 use Rattle.job.proofs.Accepted as job·Accepted
 use Rattle.printing.specs.Text.{answer-text, refusal-text}
@@ -65,7 +64,7 @@ small n h = go (leb n 128) refl
         absurd (omega (arith, mul-le-mul many rows))
 
 pub accepted-job : (s q g : List ℕ) (z : Size) → job-of s q g .outcome ≡ accepts z
-    → job·Accepted.Accepted s q g (zeros 8192) (zeros 256) (job-of s q g .answer) (zeros 65536) (job-of s q g .file) z
+    → job·Accepted.Accepted s q g (zeros 8192) (zeros 256) (job-of s q g .areas .answer) (zeros 65536) (job-of s q g .areas .area) z
 unfolding job-of
 accepted-job s q g z e = job·Accepted.accepted s q g (zeros 8192) (zeros 256) (zeros 65536) z e
 
@@ -73,20 +72,20 @@ pub job-register : (s q g : List ℕ) (z : Size) (e : job-of s q g .outcome ≡ 
 unfolding register-in
 job-register s q g z e = ap value-of (accepted-job s q g z e .register-reads)
 
-module _ (s q g : List ℕ) {o : Written} {work answer file : List ℕ} (j : Jobs (job-of s q g) o work answer file) where
+module _ (s q g : List ℕ) {o : Written} {work answer area : List ℕ} (j : Returns (job-of s q g) (written-said o) work (results answer area)) where
   printed-refused : (f : Source) (r : Refusal) → o ≡ written.Refused f r → printed s q g ≡ refusal-text f (number-of r) (place-of r)
   unfolding printed
-  printed-refused f r e = rw (← j .outcome, e)
+  printed-refused f r e = rw (← j .is, e)
 
   module _ (m b : ℕ) (e : o ≡ written.File m b) where
     printed-accepted : printed s q g ≡ answer-of m answer (register-in g)
     unfolding printed
-    printed-accepted = rw (← j .outcome, e, ← j .answer)
+    printed-accepted = rw (← j .is, e)
 
     abbrev told : job-of s q g .outcome ≡ accepts (size m b)
-    told = sym (j .outcome) ∙ ap written-said e
+    told = sym (ap (λ x. x .outcome) (j .is)) ∙ ap written-said e
 
-    abbrev job : job·Accepted.Accepted s q g (zeros 8192) (zeros 256) (job-of s q g .answer) (zeros 65536) (job-of s q g .file) (size m b)
+    abbrev job : job·Accepted.Accepted s q g (zeros 8192) (zeros 256) (job-of s q g .areas .answer) (zeros 65536) (job-of s q g .areas .area) (size m b)
     job = accepted-job s q g (size m b) told
 
     abbrev is-register : register-in g ≡ job .register
@@ -96,26 +95,34 @@ module _ (s q g : List ℕ) {o : Written} {work answer file : List ℕ} (j : Job
     fits = record {
       accepted = job .register-reads ∙ ap got (sym is-register);
       few = rw is-register (small (records (job .register)) (omega (arith, larger-both narrow-need (work-need (job .register)) .1, job .enough, zeros-length 8192)));
-      room = rw is-register (omega (arith, job .room, zeros-length 256, ap length (j .answer ∙ job .words), length-sets (zeros 256) 0 (answer-words (records (job .register)) (narrowed-answer (job .register) (job .narrowing .members)))));
+      room = rw is-register (omega (
+        arith,
+        job .room,
+        zeros-length 256,
+        ap length (ap (λ x. x .areas .answer) (j .is) ∙ job .words),
+        length-sets (zeros 256) 0
+            (answer-words (records (job .register)) (narrowed-answer (job .register) (job .narrowing .members))),
+      ));
     }
 
 -- ---- the code's call, with the areas as it lends them
-module _ (s q g : List ℕ) {work answer file : List ℕ} (ew : work ≡ zeros 8192) (ea : answer ≡ zeros 256) (ef : file ≡ zeros 65536)
-    {o : Written} {work′ answer′ file′ : List ℕ} (j : Jobs (job-call s q g work answer file) o work′ answer′ file′) where
-  as-lent : Jobs (job-of s q g) o work′ answer′ file′
-  unfolding job-of
-  as-lent = rw (ew, ea, ef) at j
+as-lent : (s q g : List ℕ) {work answer file : List ℕ} → work ≡ zeros 8192 → answer ≡ zeros 256 → file ≡ zeros 65536
+    → {o : Outcome Size} {work′ : List ℕ} {to : Results} → Returns (job-call s q g work answer file) o work′ to → Returns (job-of s q g) o work′ to
+unfolding job-of
+as-lent s q g ew ea ef j = rw (ew, ea, ef) at j
 
+module _ (s q g : List ℕ) {work answer file : List ℕ} (ew : work ≡ zeros 8192) (ea : answer ≡ zeros 256) (ef : file ≡ zeros 65536)
+    {o : Written} {work′ answer′ file′ : List ℕ} (j : Returns (job-call s q g work answer file) (written-said o) work′ (results answer′ file′)) where
   pub job-fits : (m b : ℕ) → o ≡ written.File m b → Printable g answer′
-  job-fits m b e = fits s q g as-lent m b e
+  job-fits m b e = fits s q g (as-lent s q g ew ea ef j) m b e
 
   module _ {out out′ : List ℕ} {n : ℕ} (room : 131128 ≤ length out) where
     pub prints-refused : (f : Source) (r : Refusal) → o ≡ written.Refused f r → BytesWritten out out′ 0 n (refusal-text f (number-of r) (place-of r)) → Prints (printed s q g) n out′
-    prints-refused f r e w = rw (printed-refused s q g as-lent f r e) (prints w (omega (arith, refusal-most f (number-of r) (place-of r))))
+    prints-refused f r e w = rw (printed-refused s q g (as-lent s q g ew ea ef j) f r e) (prints w (omega (arith, refusal-most f (number-of r) (place-of r))))
 
     pub prints-accepted : (m b : ℕ) → o ≡ written.File m b → BytesWritten out out′ 0 n (answer-of m answer′ (register-in g)) → Prints (printed s q g) n out′
     prints-accepted m b e w =
-        rw (printed-accepted s q g as-lent m b e)
+        rw (printed-accepted s q g (as-lent s q g ew ea ef j) m b e)
         (prints w (omega (arith, answer-most m (pair-at answer′ 0 (row-words (records (register-in g)))) (records (register-in g)) (job-fits m b e .few))))
 
 pub refusal-room : (f : Source) (n p room : ℕ) → 131128 ≤ room → 0 + length (refusal-text f n p) ≤ room

@@ -10,7 +10,8 @@ use Rattle.theory.specs.Words.{row-words}
 use Rattle.relation.specs.Pairs.{pair-at}
 use Rattle.register.specs.Form.{register-in}
 use Rattle.register.specs.LinksAhead.{Accepted}
-use Rattle.job.specs.Call.{JobYield, job-call}
+use Rattle.fields.specs.Call.{Returned, Size}
+use Rattle.job.specs.Call.{Results, job-call}
 use Rattle.printing.specs.Text.{answer-text, text-of}
 
 -- an area as the program lends it
@@ -18,12 +19,12 @@ unfoldable pub zeros : ℕ → List ℕ
 zeros n = replicate n 0
 
 -- the job as the program calls it
-unfoldable pub job-of : List ℕ → List ℕ → List ℕ → JobYield
+unfoldable pub job-of : List ℕ → List ℕ → List ℕ → Returned Size Results
 job-of sheet question register = job-call sheet question register (zeros 8192) (zeros 256) (zeros 65536)
 
--- what comes of it, as text
+-- its result, as text
 unfoldable pub printed : List ℕ → List ℕ → List ℕ → List ℕ
-printed sheet question register = text-of (job-of sheet question register .outcome) (records (register-in register)) (job-of sheet question register .answer)
+printed sheet question register = text-of (job-of sheet question register .outcome) (records (register-in register)) (job-of sheet question register .areas .answer)
 
 -- the first n bytes of the area are the text
 pub record Prints (text : List ℕ) (n : ℕ) (area : List ℕ) : Type 0 where

@@ -11,30 +11,38 @@ ghost use Rattle.register.specs.Form.{register-in};
 ghost use Rattle.encode.specs.BytesWritten.{BytesWritten};
 ghost use Rattle.paths_main.specs.Output.{zeros, printed, Prints, Printable, answer-of};
 
-// What is lent: 8,192 words of work, 256 of the answer, 65,536 bytes for the narrowed file.
-fn work_words() -> [u64; 8192]
+// What is lent: the words of work that narrowing needs, the words of an answer for 128 records, and the bytes for the narrowed file.
+const WORK: usize = narrowing::NEED;
+
+const ANSWER: usize = 256;
+
+const FILE: usize = 65536;
+
+fn work_words() -> [u64; WORK]
     ensures { λ r. ⌜ (r ≡ zeros 8192) × (8192 ≡ length r) ⌝ }
 {
-    [0; 8192]
+    [0; WORK]
 }
 
-fn answer_words() -> [u64; 256]
+fn answer_words() -> [u64; ANSWER]
     ensures { λ r. ⌜ (r ≡ zeros 256) × (256 ≡ length r) ⌝ }
 {
-    [0; 256]
+    [0; ANSWER]
 }
 
-fn file_bytes() -> [u8; 65536]
+fn file_bytes() -> [u8; FILE]
     ensures { λ r. ⌜ (r ≡ zeros 65536) × (65536 ≡ length r) ⌝ }
 {
-    [0; 65536]
+    [0; FILE]
 }
 
 // Room for what is printed: 8 bytes for each of the pairs of 128 records, and the first line.
-fn page() -> [u8; 131128]
+const PAGE: usize = 131128;
+
+fn page() -> [u8; PAGE]
     ensures { λ r. ⌜ 131128 ≡ length r ⌝ }
 {
-    [0; 131128]
+    [0; PAGE]
 }
 
 // Writes what is printed for an accepted job. Its register is read again for the number of records, and is not refused here.

@@ -9,8 +9,8 @@ ghost use lib.ListN.{length};
 ghost use lib.Seq.{sets};
 ghost use Rattle.fields.specs.Table.{field-size};
 ghost use Rattle.fields.specs.Writing.{field-bytes};
-ghost use Rattle.fields.specs.Call.{file-in};
-ghost use Rattle.fields.specs.Contract.{Files};
+ghost use Rattle.fields.specs.Call.{Gives, file-in};
+ghost use Rattle.fields.specs.Contract.{written-said};
 ghost use Rattle.encode.specs.BytesWritten.{BytesWritten};
 ghost use Rattle.question.specs.Writing.{question-bytes};
 
@@ -54,7 +54,7 @@ fn put_question(codes: &[u8], out: &mut [u8]) -> usize
 // 14, or the file; tells the numbers of its symbols and of its bytes.
 pub fn write(codes: &[u8], file: &mut [u8]) -> Written
     requires { ⌜ length (now codes) ≤ 32 ⌝ }
-    ensures { λ o. ⌜ Files (file-in (length (now (codes .entry))) (question-bytes (now (codes .entry))) (now (file .entry))) o (now (file .exit)) ⌝ }
+    ensures { λ o. ⌜ Gives (file-in (length (now (codes .entry))) (question-bytes (now (codes .entry))) (now (file .entry))) (written-said o) (now (file .exit)) ⌝ }
 {
     let n = measure(codes);
     if file.len() < n {

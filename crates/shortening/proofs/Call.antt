@@ -8,15 +8,11 @@ use lib.ListN.{length, take, drop, replicate, length-append, length-drop}
 use lib.Seq.{take-append-seam, take-length}
 use Rattle.theory.specs.PathExpr.{PathExpr, codes}
 use Rattle.theory.specs.Simplification.{normal-form}
-use Rattle.fields.specs.declared.Refusal.{Refusal}
 use Rattle.fields.specs.declared.Source.the-variants as source
-use Rattle.fields.specs.declared.Written.{Written}
-use Rattle.fields.specs.declared.Written.the-variants as written
 use Rattle.theory.specs.Result.{refused}
-use Rattle.fields.specs.Call.{file-in}
+use Rattle.fields.specs.Call.{Outcome, refuses, Gives, Size, file-in}
 use Rattle.fields.specs.Padded.{padded}
 use Rattle.fields.specs.Reading.{read}
-use Rattle.fields.specs.Contract.{number-of, place-of, Files}
 use Rattle.question.specs.Form.{question-form}
 use Rattle.question.specs.Writing.{question-bytes}
 use Rattle.question.proofs.Paths.{accepted-question}
@@ -36,14 +32,14 @@ module _ {qs : List ℕ} {count : ℕ} (p : PathExpr) (a : FirstCodes qs count p
   leaves h l e = record { start = h; size = l; codes = e ∙ normal-codes }
 
 -- ---- their file; the code lends the part from the start to the array's end
-pub puts : {cs : List ℕ} {r : Shortened} (file : List ℕ) {file′ : List ℕ} {o : Written} → Leaves cs r
-    → Files (file-in (length (take (32 - r .start) (drop (r .start) (r .codes)))) (question-bytes (take (32 - r .start) (drop (r .start) (r .codes)))) file) o file′
-    → Files (shortened-in cs file) o file′
+pub puts : {cs : List ℕ} {r : Shortened} (file : List ℕ) {file′ : List ℕ} {o : Outcome Size} → Leaves cs r
+    → Gives (file-in (length (take (32 - r .start) (drop (r .start) (r .codes)))) (question-bytes (take (32 - r .start) (drop (r .start) (r .codes)))) file) o file′
+    → Gives (shortened-in cs file) o file′
 unfolding shortened-in
 puts {cs} {r} file {file′} {o} l f =
     let z : 32 - r .start ≡ length (drop (r .start) (r .codes)) = omega (arith, length-drop (r .start) (r .codes), l .size) in
     let e = ap (λ (n : ℕ). take n (drop (r .start) (r .codes))) z ∙ take-length (drop (r .start) (r .codes)) ∙ l .codes in
-    subst (λ (xs : List ℕ). Files (file-in (length xs) (question-bytes xs) file) o file′) e f
+    subst (λ (xs : List ℕ). Gives (file-in (length xs) (question-bytes xs) file) o file′) e f
 
 -- ---- the question's file
 module _ {s qs : List ℕ} {count : ℕ} {cs : List ℕ} (t : Told s qs count cs) where
@@ -65,10 +61,10 @@ module _ {s qs : List ℕ} {count : ℕ} {cs : List ℕ} (t : Told s qs count cs
         },
       )
 
-  pub shortened : (file : List ℕ) {file′ : List ℕ} {o : Written} → Files (shortened-in (take count qs) file) o file′ → Files (shorten-call s file) o file′
+  pub shortened : (file : List ℕ) {file′ : List ℕ} {o : Outcome Size} → Gives (shortened-in (take count qs) file) o file′ → Gives (shorten-call s file) o file′
   unfolding shorten-call
-  shortened file {file′} {o} f = rw (t .reads) (subst (λ (xs : List ℕ). Files (shortened-in xs file) o file′) front f)
+  shortened file {file′} {o} f = record { is = rw (t .reads) (subst (λ (xs : List ℕ). Gives (shortened-in xs file) o file′) front f .is) }
 
-pub question-refused : (s file : List ℕ) (x : Refusal) → read question-form s ≡ refused (number-of x) (place-of x) → Files (shorten-call s file) (written.Refused source.Question x) file
+pub question-refused : (s file : List ℕ) {n p : ℕ} → read question-form s ≡ refused n p → Gives (shorten-call s file) (refuses source.Question n p) file
 unfolding shorten-call
-question-refused s file x e = record { outcome = rw e; file = rw e }
+question-refused s file e = record { is = rw e }

@@ -21,7 +21,8 @@ use Rattle.fields.specs.Call.{accepts, Size, output}
 use Rattle.fields.specs.Call as fields·Call
 use Rattle.fields.specs.Reading.{read}
 use Rattle.fields.specs.Writing.{Bytes}
-use Rattle.fields.proofs.Filing.{Filed, filed, file-written, file-enough, not-accepted}
+use Rattle.fields.proofs.Calls.{not-accepted}
+use Rattle.fields.proofs.Filing.{Filed, filed, file-written, file-enough}
 use Rattle.symbols.specs.Symbols.{numbered}
 use Rattle.symbols.specs.Writing.{symbol-bytes, symbols-bytes}
 use Rattle.symbols.proofs.Numbers.{length-codes}
@@ -122,7 +123,7 @@ module _ {cs : List ℕ} {p : PathExpr} (a : Asks cs p) where
 -- ---- a call that was accepted
 module _ (question area : List ℕ) (z : Size) where
   by-read : (a : Result (List ℕ)) → read question-form question ≡ a → ShortenTook question area z
-      → (cs : List ℕ) × (read question-form question ≡ got cs) × Filed (length (shortened-codes cs)) (question-bytes (shortened-codes cs)) area (shorten-call question area .file) z
+      → (cs : List ℕ) × (read question-form question ≡ got cs) × Filed (length (shortened-codes cs)) (question-bytes (shortened-codes cs)) area (shorten-call question area .areas) z
   unfolding shorten-call shortened-in
   by-read (refused n p) e t = not-accepted source.Question n p z (rw e at t)
   by-read (got cs) e t = (cs, e, rw e (filed (length (shortened-codes cs)) (question-bytes (shortened-codes cs)) area z (rw e at t)))

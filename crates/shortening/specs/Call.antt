@@ -9,8 +9,7 @@ use Rattle.theory.specs.PathExpr.{PathExpr, codes}
 use Rattle.theory.specs.Postfix.{path-of}
 use Rattle.theory.specs.Simplification.{normal-form}
 use Rattle.fields.specs.declared.Source.the-variants as source
-use Rattle.fields.specs.Call.{refuses, reading, Output, output, file-in}
-use Rattle.fields.specs.Reading.{read}
+use Rattle.fields.specs.Call.{accepts, and-then, file, Output, simple-call, Size, file-in}
 use Rattle.question.specs.Form.{question-form, question-symbols}
 use Rattle.question.specs.Writing.{question-bytes}
 
@@ -23,11 +22,11 @@ unfoldable pub shortened-codes : List ℕ → List ℕ
 shortened-codes cs = codes-of (path-of (question-symbols cs))
 
 -- 14, or their file; the first number that is told is that of its symbols
-unfoldable pub shortened-in : List ℕ → List ℕ → Output
+unfoldable pub shortened-in : List ℕ → List ℕ → Output Size (List ℕ)
 shortened-in cs area =
     let short = shortened-codes cs in
     file-in (length short) (question-bytes short) area
 
 -- the file's refusals leave the area as it came
-unfoldable pub shorten-call : List ℕ → List ℕ → Output
-shorten-call question area = reading (read question-form question) (λ n p. output (refuses source.Question n p) area) (λ cs. shortened-in cs area)
+unfoldable pub shorten-call : List ℕ → List ℕ → Output Size (List ℕ)
+shorten-call question area = simple-call (and-then (file source.Question question-form question) (λ cs. accepts (shortened-in cs))) area

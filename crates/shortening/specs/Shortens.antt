@@ -19,13 +19,13 @@ use Rattle.fields.specs.Writing.{Bytes}
 use Rattle.question.specs.Form.{question-form, question-symbols}
 use Rattle.shortening.specs.Call.{shorten-call}
 
--- shortening took the question, and told of a file of so many symbols and bytes
+-- shortening took the question, and told the numbers of symbols and bytes of a file
 abbrev pub ShortenTook : List ℕ → List ℕ → Size → Type 0
 ShortenTook question area z = shorten-call question area .outcome ≡ accepts z
 
--- the file that it wrote: so many bytes of the area that was lent
+-- the file that it wrote: the told number of bytes of the lent area
 abbrev pub short-file : List ℕ → List ℕ → Size → List ℕ
-short-file question area z = take (z .bytes) (shorten-call question area .file)
+short-file question area z = take (z .bytes) (shorten-call question area .areas)
 
 pub record Shortens (question file : List ℕ) (z : Size) : Type 0 where
   -- the question as read

@@ -3,7 +3,8 @@ use fields::Source;
 use fields::Written;
 ghost use mathlib.Core.Path.{_≡_};
 ghost use lib.ListN.{take};
-ghost use Rattle.fields.specs.Contract.{Files};
+ghost use Rattle.fields.specs.Call.{Gives};
+ghost use Rattle.fields.specs.Contract.{written-said};
 ghost use Rattle.shortening.specs.Call.{shortened-in, shorten-call};
 ghost use Rattle.shortening.specs.Pass.{turned, kept, first-context, second-context, OfQuestion, Leaves};
 
@@ -107,7 +108,7 @@ fn shorten_codes(codes: &[u8], count: usize) -> Shortened
 // 14, or the file of the shortened codes.
 fn put_shortened(codes: &[u8], count: usize, file: &mut [u8]) -> Written
     requires { ⌜ OfQuestion (now codes) count ⌝ }
-    ensures { λ o. ⌜ Files (shortened-in (take count (now (codes .entry))) (now (file .entry))) o (now (file .exit)) ⌝ }
+    ensures { λ o. ⌜ Gives (shortened-in (take count (now (codes .entry))) (now (file .entry))) (written-said o) (now (file .exit)) ⌝ }
 {
     let x = shorten_codes(codes, count);
     let short = x.codes;
@@ -117,7 +118,7 @@ fn put_shortened(codes: &[u8], count: usize, file: &mut [u8]) -> Written
 
 // Shortens a question, and writes the file of the shortened one; tells the numbers of its symbols and of its bytes.
 pub fn shorten(question: &[u8], file: &mut [u8]) -> Written
-    ensures { λ o. ⌜ Files (shorten-call (now (question .entry)) (now (file .entry))) o (now (file .exit)) ⌝ }
+    ensures { λ o. ⌜ Gives (shorten-call (now (question .entry)) (now (file .entry))) (written-said o) (now (file .exit)) ⌝ }
 {
     let q = question::read(question);
     let outcome = q.outcome;

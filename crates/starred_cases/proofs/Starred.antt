@@ -11,11 +11,11 @@ use Rattle.theory.specs.Register.{same-edge?}
 use Rattle.theory.specs.Sheet.{permits?}
 use Rattle.theory.specs.Inference.{triple?, reach, meets-cyclic?, of-closure}
 use Rattle.theory.specs.Merging.{same-shape?}
-use Rattle.theory.specs.Narrowing.{part-fault, narrow-symbols}
+use Rattle.theory.specs.Narrowing.{part-fault, parted, narrow-symbols}
 use Rattle.narrowed_question.specs.Writing.{encode}
 use Rattle.narrowed_question.specs.Members.{narrowed-file}
 use Rattle.starred_cases.specs.Table.{sheet, cases, computed, expected}
 
 pub starred : map computed cases ≡ map expected cases
-unfolding singleton set-union closure? same? same-edge? permits? adjoin triple? reach meets-cyclic? of-closure same-shape? part-fault narrow-symbols encode narrowed-file sheet cases ℕ-discrete
+unfolding singleton set-union closure? same? same-edge? permits? adjoin triple? reach meets-cyclic? of-closure same-shape? part-fault parted narrow-symbols encode narrowed-file sheet cases ℕ-discrete
 starred = refl

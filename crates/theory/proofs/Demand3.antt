@@ -15,7 +15,7 @@ use Rattle.theory.specs.Sheet.{Sheet, sheet?, conforms?}
 use Rattle.theory.specs.Derivation.{Derives}
 use Rattle.theory.specs.Inference.{Triple, triples}
 use Rattle.theory.specs.Merging.{Member, members}
-use Rattle.theory.specs.Narrowing.{link-fault, part-fault, refuse, narrow, narrow-read, narrow-symbols}
+use Rattle.theory.specs.Narrowing.{link-fault, part-fault, refuse, narrow, parted-as, parted, narrow-symbols}
 use Rattle.theory.specs.Result.{got}
 use Rattle.theory.specs.Demand3.{Pair, Answer, Witness, Demand3}
 use Rattle.theory.proofs.KindSet.{has-singleton}
@@ -107,9 +107,9 @@ demand3 S ok q plain ms e = subst (λ l. Demand3 S q l) (sym (narrow-members S q
 
 -- ---- the same of a question's symbols
 pub narrow-postfix : (S : Sheet) (q : PathExpr) → narrow-symbols S (postfix q) ≡ narrow S q
-unfolding narrow-symbols narrow
+unfolding narrow-symbols parted narrow
 narrow-postfix S q =
-    ap (narrow-read S (postfix q)) (path-of-postfix q)
+    ap (λ o. refuse (link-fault (S .link-names)) 0 (postfix q) (parted-as S (postfix q) o)) (path-of-postfix q)
     ∙ ap (λ ps. refuse (link-fault (S .link-names)) 0 (postfix q) (refuse (part-fault S) 0 ps (got (members (triples S q))))) (ended-parts q)
 
 pub narrow-path : (S : Sheet) (q : PathExpr) (ss : List Symbol) → path-of ss ≡ some q → narrow S q ≡ narrow-symbols S ss

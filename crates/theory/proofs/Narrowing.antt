@@ -18,7 +18,7 @@ use Rattle.theory.proofs.FirstFailing.{scan, Fault, fault?, no-fault, f
 use Rattle.theory.proofs.Inference.{Short}
 
 -- what is not refused has no fault
-not-refused : {A : Type 0} (fault : A → ℕ) (xs : List A) (o : Narrowing) (ms : List Member) → refuse fault 0 xs o ≡ got ms
+pub not-refused : {A : Type 0} (fault : A → ℕ) (xs : List A) (o : Narrowing) (ms : List Member) → refuse fault 0 xs o ≡ got ms
     → ((x : A) → In x xs → fault x ≡ 0) × (o ≡ got ms)
 not-refused {A} fault xs o ms e = go (scan (fault? fault) xs)
   where

@@ -52,13 +52,18 @@ refuse fault i (x ∷ xs) o = let r = refuse fault (suc i) xs o in unless (fault
 unfoldable pub narrow : Sheet → PathExpr → Narrowing
 narrow S q = refuse (link-fault (S .link-names)) 0 (postfix q) (refuse (part-fault S) 0 (parts q) (got (members (triples S q))))
 
--- the same of a question's symbols: symbol i ends part i (what is no path its reader has refused)
-abbrev pub narrow-read : Sheet → List Symbol → Option PathExpr → Narrowing
-narrow-read S ss none = refused 6 (length ss)
-narrow-read S ss (some q) = refuse (link-fault (S .link-names)) 0 ss (refuse (part-fault S) 0 (ended ss []) (got (members (triples S q))))
+-- ---- the same of a question's symbols: symbol i ends part i
+-- 12 or 13, or the members (what is no path its reader has refused)
+abbrev pub parted-as : Sheet → List Symbol → Option PathExpr → Narrowing
+parted-as S ss none = refused 6 (length ss)
+parted-as S ss (some q) = refuse (part-fault S) 0 (ended ss []) (got (members (triples S q)))
 
+unfoldable pub parted : Sheet → List Symbol → Narrowing
+parted S ss = parted-as S ss (path-of ss)
+
+-- with 11 before them
 unfoldable pub narrow-symbols : Sheet → List Symbol → Narrowing
-narrow-symbols S ss = narrow-read S ss (path-of ss)
+narrow-symbols S ss = refuse (link-fault (S .link-names)) 0 ss (parted S ss)
 
 -- ---- 11, 12 and 13 in terms of the rules alone
 -- a step whose link the sheet does not name

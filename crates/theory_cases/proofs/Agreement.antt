@@ -13,7 +13,7 @@ use Rattle.theory.specs.Register.{same-edge?, well-formed?}
 use Rattle.theory.specs.Sheet.{sheet?, permits?, breach}
 use Rattle.theory.specs.Inference.{triple?, reach, meets-cyclic?, of-closure}
 use Rattle.theory.specs.Merging.{same-shape?}
-use Rattle.theory.specs.Narrowing.{part-fault, narrow-symbols}
+use Rattle.theory.specs.Narrowing.{part-fault, parted, narrow-symbols}
 use Rattle.theory.specs.Evaluation.{plain-answer, narrowed-answer}
 use Rattle.theory.specs.Words.{answer-words}
 use Rattle.theory_cases.specs.Format.{same?, shortened?}
@@ -28,35 +28,35 @@ use Rattle.theory_cases.specs.Table8 as t8
 use Rattle.theory_cases.specs.Shortened as short
 
 table-1 : every? same? t1.table ≡ true
-unfolding bitOf adjoin has singleton set-union closure? paths.same? same-edge? well-formed? sheet? permits? breach triple? reach meets-cyclic? of-closure same-shape? part-fault narrow-symbols plain-answer narrowed-answer answer-words same? t1.table ℕ-discrete
+unfolding bitOf adjoin has singleton set-union closure? paths.same? same-edge? well-formed? sheet? permits? breach triple? reach meets-cyclic? of-closure same-shape? part-fault parted narrow-symbols plain-answer narrowed-answer answer-words same? t1.table ℕ-discrete
 table-1 = refl
 
 table-2 : every? same? t2.table ≡ true
-unfolding bitOf adjoin has singleton set-union closure? paths.same? same-edge? well-formed? sheet? permits? breach triple? reach meets-cyclic? of-closure same-shape? part-fault narrow-symbols plain-answer narrowed-answer answer-words same? t2.table ℕ-discrete
+unfolding bitOf adjoin has singleton set-union closure? paths.same? same-edge? well-formed? sheet? permits? breach triple? reach meets-cyclic? of-closure same-shape? part-fault parted narrow-symbols plain-answer narrowed-answer answer-words same? t2.table ℕ-discrete
 table-2 = refl
 
 table-3 : every? same? t3.table ≡ true
-unfolding bitOf adjoin has singleton set-union closure? paths.same? same-edge? well-formed? sheet? permits? breach triple? reach meets-cyclic? of-closure same-shape? part-fault narrow-symbols plain-answer narrowed-answer answer-words same? t3.table ℕ-discrete
+unfolding bitOf adjoin has singleton set-union closure? paths.same? same-edge? well-formed? sheet? permits? breach triple? reach meets-cyclic? of-closure same-shape? part-fault parted narrow-symbols plain-answer narrowed-answer answer-words same? t3.table ℕ-discrete
 table-3 = refl
 
 table-4 : every? same? t4.table ≡ true
-unfolding bitOf adjoin has singleton set-union closure? paths.same? same-edge? well-formed? sheet? permits? breach triple? reach meets-cyclic? of-closure same-shape? part-fault narrow-symbols plain-answer narrowed-answer answer-words same? t4.table ℕ-discrete
+unfolding bitOf adjoin has singleton set-union closure? paths.same? same-edge? well-formed? sheet? permits? breach triple? reach meets-cyclic? of-closure same-shape? part-fault parted narrow-symbols plain-answer narrowed-answer answer-words same? t4.table ℕ-discrete
 table-4 = refl
 
 table-5 : every? same? t5.table ≡ true
-unfolding bitOf adjoin has singleton set-union closure? paths.same? same-edge? well-formed? sheet? permits? breach triple? reach meets-cyclic? of-closure same-shape? part-fault narrow-symbols plain-answer narrowed-answer answer-words same? t5.table ℕ-discrete
+unfolding bitOf adjoin has singleton set-union closure? paths.same? same-edge? well-formed? sheet? permits? breach triple? reach meets-cyclic? of-closure same-shape? part-fault parted narrow-symbols plain-answer narrowed-answer answer-words same? t5.table ℕ-discrete
 table-5 = refl
 
 table-6 : every? same? t6.table ≡ true
-unfolding bitOf adjoin has singleton set-union closure? paths.same? same-edge? well-formed? sheet? permits? breach triple? reach meets-cyclic? of-closure same-shape? part-fault narrow-symbols plain-answer narrowed-answer answer-words same? t6.table ℕ-discrete
+unfolding bitOf adjoin has singleton set-union closure? paths.same? same-edge? well-formed? sheet? permits? breach triple? reach meets-cyclic? of-closure same-shape? part-fault parted narrow-symbols plain-answer narrowed-answer answer-words same? t6.table ℕ-discrete
 table-6 = refl
 
 table-7 : every? same? t7.table ≡ true
-unfolding bitOf adjoin has singleton set-union closure? paths.same? same-edge? well-formed? sheet? permits? breach triple? reach meets-cyclic? of-closure same-shape? part-fault narrow-symbols plain-answer narrowed-answer answer-words same? t7.table ℕ-discrete
+unfolding bitOf adjoin has singleton set-union closure? paths.same? same-edge? well-formed? sheet? permits? breach triple? reach meets-cyclic? of-closure same-shape? part-fault parted narrow-symbols plain-answer narrowed-answer answer-words same? t7.table ℕ-discrete
 table-7 = refl
 
 table-8 : every? same? t8.table ≡ true
-unfolding bitOf adjoin has singleton set-union closure? paths.same? same-edge? well-formed? sheet? permits? breach triple? reach meets-cyclic? of-closure same-shape? part-fault narrow-symbols plain-answer narrowed-answer answer-words same? t8.table ℕ-discrete
+unfolding bitOf adjoin has singleton set-union closure? paths.same? same-edge? well-formed? sheet? permits? breach triple? reach meets-cyclic? of-closure same-shape? part-fault parted narrow-symbols plain-answer narrowed-answer answer-words same? t8.table ℕ-discrete
 table-8 = refl
 
 -- each case of each table

@@ -4,7 +4,7 @@ use Rattle.register.specs.Form.{register-in}
 use Rattle.chains.specs.Chain.{Held}
 use Rattle.chains.proofs.Holding.{held-none}
 use Rattle.evaluation.proofs.Grounds.{narrow}
-use Rattle.answer.specs.Contract.{lent}
+use Rattle.narrowed_question.specs.Contract.{arrays}
 use Rattle.answer.proofs.Adding.{Adding, adding-start, adding-more, adding-end, makes-path, size-few, symbols-end}
 use borrow.Author.Needs.{needs}
 use Prim.Native.Nat.{_-_}
@@ -19,7 +19,7 @@ use Rattle.kind_rows.proofs.fill.Reads as fill-reads
 
 abbrev Inv-loop : tie.InvT-loop
 Inv-loop count sizes from to numbers sets register n w work₀ answer₀ kinds held₀ first₀ i₀ work answer held first i = Adding
-    (lent count sizes from to numbers sets) (register-in register) n w work₀ work answer₀ answer i first × Held (register-in register) n w held work
+    (arrays count sizes from to numbers sets) (register-in register) n w work₀ work answer₀ answer i first × Held (register-in register) n w held work
 
 abbrev μ-loop : tie.MeasureT-loop
 μ-loop count sizes from to numbers sets register n w work₀ answer₀ kinds held₀ first₀ i₀ work answer held first i = count - i

@@ -80,7 +80,7 @@ returns : tie.Need-returns
 returns c =
     let c1 = c .before in
     let c8 = c1 .before .before .before .before .before .before .before in
-    narrowed-refused _ _ _ _ _ (file-refused _ _ _ _ _ _ _ (c8 .read-into .ensures) _ (c1 .r .given .1))
+    narrowed-refused _ _ _ _ (file-refused _ _ _ _ _ _ _ (c8 .read-into .ensures) _ (c1 .r .given .1))
 
 returns-2 : tie.Need-returns-2
 returns-2 c =
@@ -90,7 +90,7 @@ returns-2 c =
     let c12 = c5 .before .before .before .before .before .before .before in
     let c21 = c12 .before .before .before .before .before .before .before .before .before in
     let q = file-accepted _ _ _ _ _ _ _ (c12 .read-into .ensures) _ (c5 .count .given .1) (λ i. omega (arith, c21 .shared-slice-known .given i)) in
-    narrowed-register _ _ _ _ _ (q .0) _ (refused-file _ _ (c3 .read .ensures) _ (c1 .r2 .given .1))
+    narrowed-register _ _ _ _ _ (q .0) (refused-file _ _ (c3 .read .ensures) _ (c1 .r2 .given .1))
 
 same-length : tie.Need-same-length
 same-length c = search needs
@@ -107,7 +107,7 @@ returns-3 c =
     let c24 = c17 .before .before .before .before .before .before .before in
     let c33 = c24 .before .before .before .before .before .before .before .before .before in
     let q = file-accepted _ _ _ _ _ _ _ (c24 .read-into .ensures) _ (c17 .count .given .1) (λ i. omega (arith, c33 .shared-slice-known .given i)) in
-    narrowed-accepted _ _ _ _ _ (q .0) _ _ _ (accepted-file _ _ (c15 .read .ensures) _ _ (c13 .n .given .1)) (c4 .narrowed-in .ensures)
+    narrowed-accepted _ _ _ _ _ (q .0) (accepted-file _ _ (c15 .read .ensures) _ _ (c13 .n .given .1)) (c4 .narrowed-in .ensures)
 
 pub narrowed-answer-spec : {M : Type 1} → statement M
 narrowed-answer-spec =

@@ -44,12 +44,12 @@ plain-in-requires c κs =
     (accepted-file _ _ (c8 .read2 .ensures) _ _ e, sym (accepted-records _ _ (c8 .read2 .ensures) _ _ e), q .few, q .full, q .makes)
 
 returns : tie.Need-returns
-returns c = plain-refused _ _ _ _ _ (refused-question _ _ _ (c .before .before .before .read .ensures) _ (c .before .outcome .given .1))
+returns c = plain-refused _ _ _ _ (refused-question _ _ _ (c .before .before .before .read .ensures) _ (c .before .outcome .given .1))
 
 returns-2 : tie.Need-returns-2
 returns-2 c =
     let (cs, t) = told-question _ _ _ (c .before .before .before .before .before .before .before .read .ensures) _ (c .before .before .before .before .before .outcome2 .given .1) in
-    plain-register _ _ _ _ cs (t .reads) _ (refused-file _ _ (c .before .before .before .read2 .ensures) _ (c .before .r .given .1))
+    plain-register _ _ _ _ cs (t .reads) (refused-file _ _ (c .before .before .before .read2 .ensures) _ (c .before .r .given .1))
 
 same-length : tie.Need-same-length
 same-length c = search needs
@@ -65,7 +65,7 @@ returns-3 c =
     let c15 = c13 .before .before in
     let c17 = c15 .before .before in
     let (cs, t) = told-question _ _ _ (c17 .read .ensures) _ (c15 .outcome2 .given .1) in
-    plain-accepted _ _ _ _ cs (t .reads) _ _ _ (accepted-file _ _ (c13 .read2 .ensures) _ _ (c11 .n .given .1)) _ (question-accepted _ _ _ cs t .symbols) (c4 .plain-in .ensures)
+    plain-accepted _ _ _ _ cs (t .reads) (accepted-file _ _ (c13 .read2 .ensures) _ _ (c11 .n .given .1)) _ (question-accepted _ _ _ cs t .symbols) (c4 .plain-in .ensures)
 
 pub plain-answer-spec : {M : Type 1} → statement M
 plain-answer-spec =

@@ -58,12 +58,12 @@ job-in-requires c κs =
     (asked d g, accepted-file _ _ (c11 .read5 .ensures) _ _ e, sym (accepted-records _ _ (c11 .read5 .ensures) _ _ e))
 
 returns : tie.Need-returns
-returns c = with-plain _ _ _ _ _ _ (sheet-refused _ _ _ _ _ _ _ (refused-sheet _ _ _ (c .before .before .before .read .ensures) _ (c .before .outcome .given .1)))
+returns c = with-plain _ _ _ _ _ _ (sheet-refused _ _ _ _ _ _ (refused-sheet _ _ _ (c .before .before .before .read .ensures) _ (c .before .outcome .given .1)))
 
 returns-2 : tie.Need-returns-2
 returns-2 c =
     let (S, d) = told-sheet _ _ _ (c .before .before .before .before .before .before .before .read .ensures) _ _ (c .before .before .before .before .before .outcome2 .given .1) in
-    with-plain _ _ _ _ _ _ (question-refused _ _ _ _ _ _ S (d .reads) _ (refused-question _ _ _ (c .before .before .before .read2 .ensures) _ (c .before .read3 .given .1)))
+    with-plain _ _ _ _ _ _ (question-refused _ _ _ _ _ _ S (d .reads) (refused-question _ _ _ (c .before .before .before .read2 .ensures) _ (c .before .read3 .given .1)))
 
 returns-3 : tie.Need-returns-3
 returns-3 c =
@@ -74,7 +74,7 @@ returns-3 c =
     let c11 = c9 .before .before in
     let (S, d) = told-sheet _ _ _ (c11 .read .ensures) _ _ (c9 .outcome2 .given .1) in
     let (cs, g) = told-question _ _ _ (c7 .read2 .ensures) _ (c5 .read4 .given .1) in
-    with-plain _ _ _ _ _ _ (register-refused _ _ _ _ _ _ S (d .reads) cs (g .reads) _ (refused-file _ _ (c3 .read5 .ensures) _ (c .before .r .given .1)))
+    with-plain _ _ _ _ _ _ (register-refused _ _ _ _ _ _ S (d .reads) cs (g .reads) (refused-file _ _ (c3 .read5 .ensures) _ (c .before .r .given .1)))
 
 same-length : tie.Need-same-length
 same-length c = search needs

@@ -26,7 +26,8 @@ unnamed-requires : tie.Need-unnamed-requires Inv-loop μ-loop
 unnamed-requires c κs = search needs
 
 returns : tie.Need-returns Inv-loop μ-loop
-returns c = search-found _ _ _ (c .before .before .before .before .before .before .pre) (c .before .before .before .before .loop .inv) (c .before .before .before .loop-test .taken) refl (c .before .unnamed .ensures) (c .if1 .taken)
+returns c = search-found _ _ _ (c .before .before .before .before .before .before .pre) (c .before .before .before .before .loop .inv) (c .before .before .before .loop-test .taken) refl
+    (c .before .unnamed .ensures) (c .if1 .taken)
 
 add-i : tie.Need-add-i Inv-loop μ-loop
 add-i c = search needs
@@ -35,7 +36,8 @@ loop-less : tie.Need-loop-less Inv-loop μ-loop
 loop-less c = search needs
 
 loop-again : tie.Need-loop-again Inv-loop μ-loop
-loop-again c = search-on _ _ _ (c .before .before .before .before .before .before .pre) (c .before .before .before .before .loop .inv) (c .before .before .before .loop-test .taken) refl (c .before .unnamed .ensures) (c .if1 .left)
+loop-again c = search-on _ _ _ (c .before .before .before .before .before .before .pre) (c .before .before .before .before .loop .inv) (c .before .before .before .loop-test .taken) refl
+    (c .before .unnamed .ensures) (c .if1 .left)
 
 returns-2 : tie.Need-returns-2 Inv-loop μ-loop
 returns-2 c = search-over _ _ _ (c .before .before .before .pre) (c .before .loop .inv) (c .loop-test .left)

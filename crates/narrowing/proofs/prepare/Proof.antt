@@ -72,12 +72,12 @@ same-length c = search needs
 
 returns-4 : tie.Need-returns-4
 returns-4 c =
-    let (S, d) = told-sheet _ _ _ (c .before .before .before .before .before .before .before .before .before .before .before .before .before .before .before .before .before .before .read .ensures) _ _
-    (c .before .before .before .before .before .before .before .before .before .before .before .before .before .before .before .before .outcome2 .given .1) in
-    let (cs, g) = told-question _ _ _ (c .before .before .before .before .before .before .before .before .before .before .before .before .before .before .read2 .ensures) _
-    (c .before .before .before .before .before .before .before .before .before .before .before .before .read4 .given .1) in
-    files-read _ _ _ S (d .reads) cs (g .reads) _ _ _ _ _ 8192 need-is (c .before .before .before .before .before .before .before .before .before .before .if1 .left) (taken d g) (handed d)
-    (c .before .before .before .count-codes .ensures)
+    let c12 = c .before .before .before .before .before .before .before .before .before .before .before .before in
+    let c18 = c12 .before .before .before .before .before .before in
+    let (S, d) = told-sheet _ _ _ (c18 .read .ensures) _ _ (c12 .before .before .before .before .outcome2 .given .1) in
+    let (cs, g) = told-question _ _ _ (c12 .before .before .read2 .ensures) _ (c12 .read4 .given .1) in
+    files-read _ _ _ S (d .reads) cs (g .reads) _ _ (c12 .read4 .given .0 .0) _ _ 8192 need-is (c .before .before .before .before .before .before .before .before .before .before .if1 .left)
+    (taken d g) (handed d) (c .before .before .before .count-codes .ensures)
 
 pub prepare-spec : {M : Type 1} → statement M
 prepare-spec =

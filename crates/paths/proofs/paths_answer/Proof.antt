@@ -1,5 +1,6 @@
 -- `paths::paths_answer` meets its contract: `plain_answer` leaves the outcome and both areas that are due, and `tell` only puts the outcome into three numbers.
 -- Assumes nothing.
+use Rattle.paths.proofs.OutcomeNumbers.{tells-call}
 use borrow.Author.Needs.{needs}
 use Rattle.paths.proofs.paths_answer.Statement.{statement}
 use Rattle.paths.proofs.paths_answer.Tie as tie
@@ -17,7 +18,7 @@ same-length-2 : tie.Need-same-length-2
 same-length-2 c = search needs
 
 returns : tie.Need-returns
-returns c = let h = c .before .before .before .before .before .before .before .plain-answer .ensures in record { outcome = rw (h .outcome) at (c .tell .ensures); work = h .work; answer = h .answer }
+returns c = tells-call (c .tell .ensures) (c .before .before .before .before .before .before .before .plain-answer .ensures)
 
 pub paths-answer-spec : {M : Type 1} → statement M
 paths-answer-spec =

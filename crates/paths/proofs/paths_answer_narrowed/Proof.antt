@@ -1,5 +1,6 @@
 -- `paths::paths_answer_narrowed` meets its contract: both areas are as `narrowed_answer` left them, and `tell` tells its outcome.
 -- Assumes nothing.
+use Rattle.paths.proofs.OutcomeNumbers.{tells-call}
 use borrow.Author.Needs.{needs}
 use Rattle.paths.proofs.paths_answer_narrowed.Statement.{statement}
 use Rattle.paths.proofs.paths_answer_narrowed.Tie as tie
@@ -17,10 +18,7 @@ same-length-2 : tie.Need-same-length-2
 same-length-2 c = search needs
 
 returns : tie.Need-returns
-returns c =
-    let c7 = c .before .before .before .before .before .before .before in
-    let h = c7 .narrowed-answer .ensures in
-    record { outcome = rw (h .outcome) at (c .tell .ensures); work = h .work; answer = h .answer }
+returns c = tells-call (c .tell .ensures) (c .before .before .before .before .before .before .before .narrowed-answer .ensures)
 
 pub paths-answer-narrowed-spec : {M : Type 1} → statement M
 paths-answer-narrowed-spec =

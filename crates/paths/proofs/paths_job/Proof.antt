@@ -1,5 +1,6 @@
 -- `paths::paths_job` meets its contract: `whole_job` leaves what is due; as 0 is told of acceptance alone, the answer is then the question's plain answer too.
 -- Assumes nothing.
+use Rattle.paths.proofs.OutcomeNumbers.{tells-call}
 use borrow.Author.Needs.{needs}
 use Rattle.paths.proofs.paths_job.Statement.{statement}
 use Rattle.paths.proofs.paths_job.Tie as tie
@@ -24,8 +25,8 @@ returns c =
     let c9 = c .before .before .before .before .before .before .before .before .before in
     let h = c9 .whole-job .ensures in
     let t = c .tell-file .ensures in (
-      record { outcome = rw (h .0 .outcome) at t; work = h .0 .work; answer = h .0 .answer; file = h .0 .file },
-      record { accepted = λ z. h .1 .accepted _ (t .only z); answer = λ z. h .1 .answer _ (t .only z) },
+      tells-call t (h .0),
+      record { accepted = λ z. let (x, e) = t .only z in h .1 .accepted x e; answer-is = λ z. let (x, e) = t .only z in h .1 .answer x e },
     )
 
 pub paths-job-spec : {M : Type 1} → statement M

@@ -1,5 +1,6 @@
 -- `paths::paths_narrow` meets its contract: work words and file are as `narrowing` left them, and `tell_file` tells the members and bytes, or the refusal.
 -- Assumes nothing.
+use Rattle.paths.proofs.OutcomeNumbers.{tells-call}
 use borrow.Author.Needs.{needs}
 use Rattle.paths.proofs.paths_narrow.Statement.{statement}
 use Rattle.paths.proofs.paths_narrow.Tie as tie
@@ -17,7 +18,7 @@ same-length-2 : tie.Need-same-length-2
 same-length-2 c = search needs
 
 returns : tie.Need-returns
-returns c = let h = c .before .before .before .before .before .before .before .narrowing .ensures in record { outcome = rw (h .outcome) at (c .tell-file .ensures); work = h .work; file = h .file }
+returns c = tells-call (c .tell-file .ensures) (c .before .before .before .before .before .before .before .narrowing .ensures)
 
 pub paths-narrow-spec : {M : Type 1} → statement M
 paths-narrow-spec =

@@ -1,5 +1,6 @@
 -- `paths::paths_narrow_bytes` meets its contract: `narrowed_size` yields the size or the refusal and leaves the work words that are due, and `tell_file` tells the outcome.
 -- Assumes nothing.
+use Rattle.paths.proofs.OutcomeNumbers.{tells-call}
 use borrow.Author.Needs.{needs}
 use Rattle.paths.proofs.paths_narrow_bytes.Statement.{statement}
 use Rattle.paths.proofs.paths_narrow_bytes.Tie as tie
@@ -14,7 +15,7 @@ same-length : tie.Need-same-length
 same-length c = search needs
 
 returns : tie.Need-returns
-returns c = let h = c .before .before .before .before .before .narrowed-size .ensures in record { outcome = rw (h .outcome) at (c .tell-file .ensures); work = h .work }
+returns c = tells-call (c .tell-file .ensures) (c .before .before .before .before .before .narrowed-size .ensures)
 
 pub paths-narrow-bytes-spec : {M : Type 1} → statement M
 paths-narrow-bytes-spec =

@@ -26,7 +26,7 @@ returns c =
     let c2 = c .before .before in
     let c3 = c2 .before in
     let c4 = c3 .before in
-    tells-same (c .wide2 .ensures ∙ c .before .number-of .ensures) (c4 .place-of .ensures) (c2 .wide .ensures ∙ c3 .source-number .ensures)
+    tells-same (c .wide2 .ensures .0 ∙ c .before .number-of .ensures) (c4 .place-of .ensures) (c2 .wide .ensures .0 ∙ c3 .source-number .ensures)
 
 pub tell-refusal-spec : {M : Type 1} → statement M
 tell-refusal-spec =

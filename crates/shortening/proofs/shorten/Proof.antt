@@ -21,7 +21,7 @@ put-shortened-requires c κs =
     asked (told-question _ _ _ (o .before .before .read .ensures) _ (o .outcome2 .given .1) .1)
 
 returns : tie.Need-returns
-returns c = question-refused _ _ _ (refused-question _ _ _ (c .before .before .before .read .ensures) _ (c .before .outcome .given .1))
+returns c = question-refused _ _ (refused-question _ _ _ (c .before .before .before .read .ensures) _ (c .before .outcome .given .1))
 
 same-length : tie.Need-same-length
 same-length c = search needs

@@ -22,7 +22,7 @@ pub seen-at : (s : List ℕ) (at : ℕ) {d e : Due} {r x : Seen} → d ≡ e →
 seen-at s at p q u = ap (λ (f : Due). field-at f s at) (sym p) ∙ sym q ∙ ap field-said u
 
 pub record Found (d : Due) (s : List ℕ) (at t n : ℕ) : Type 0 where
-  pub more : d .over ≡ false
+  pub more : d .full ≡ false
   pub fit : fitting d t n ≡ true
   pub room : at + 3 + n ≤ length s
   pub tag : getD s at 0 ≡ t
@@ -38,8 +38,8 @@ not-wrong k p t n e = let z : _≡_ {A = ℕ} 0 1 = cc in omega arith
 pub found : (d : Due) (s : List ℕ) (at t n : ℕ) → field-at d s at ≡ body t n → Found d s at t n
 unfolding field-at
 found d s at t n e =
-    let a = cond-else (leb (length s) at) (not-early (d .ends) at t n) e in
-    let b = cond-else (d .over) (not-wrong 5 at t n) (a .1) in
+    let a = cond-else (leb (length s) at) (not-early (d .complete) at t n) e in
+    let b = cond-else (d .full) (not-wrong 5 at t n) (a .1) in
     let c = cond-else (ltb (length s) (at + 3)) (not-wrong 1 at t n) (b .1) in
     let f = cond-then (fitting d (getD s at 0) (word s (at + 1))) (not-wrong 2 at t n) (c .1) in
     let g = cond-else (ltb (length s) (at + 3 + word s (at + 1))) (not-wrong 1 at t n) (f .1) in
@@ -64,27 +64,27 @@ wrong-not-ends k p e = let z : _≡_ {A = ℕ} 0 1 = cc in omega arith
 
 -- the file's end is found only at the end, and where it may be
 pub record Ended (d : Due) (s : List ℕ) (at : ℕ) : Type 0 where
-  pub may : d .ends ≡ true
+  pub may : d .complete ≡ true
   pub past : length s ≤ at
 
 pub ended : (d : Due) (s : List ℕ) (at : ℕ) → field-at d s at ≡ ends → Ended d s at
 unfolding field-at
 ended d s at e = at-end (leb (length s) at) refl e
   where
-    late : cond (d .over) (wrong 5 at) (cond (ltb (length s) (at + 3)) (wrong 1 at) (cond (fitting d (getD s at 0) (word s (at + 1)))
+    late : cond (d .full) (wrong 5 at) (cond (ltb (length s) (at + 3)) (wrong 1 at) (cond (fitting d (getD s at 0) (word s (at + 1)))
         (cond (ltb (length s) (at + 3 + word s (at + 1))) (wrong 1 at) (body (getD s at 0) (word s (at + 1)))) (wrong 2 at))) ≡ ends → ⊥
     late e =
-        let a = cond-else (d .over) (wrong-not-ends 5 at) e in
+        let a = cond-else (d .full) (wrong-not-ends 5 at) e in
         let b = cond-else (ltb (length s) (at + 3)) (wrong-not-ends 1 at) (a .1) in
         let f = cond-then (fitting d (getD s at 0) (word s (at + 1))) (wrong-not-ends 2 at) (b .1) in
         let g = cond-else (ltb (length s) (at + 3 + word s (at + 1))) (wrong-not-ends 1 at) (f .1) in
         let h = g .1 in
         let z : _≡_ {A = ℕ} 0 1 = cc in omega arith
 
-    at-end : (b : Bool) → leb (length s) at ≡ b → cond b (cond (d .ends) ends (wrong 5 at)) (cond (d .over) (wrong 5 at) (cond (ltb (length s) (at + 3)) (wrong 1 at)
+    at-end : (b : Bool) → leb (length s) at ≡ b → cond b (cond (d .complete) ends (wrong 5 at)) (cond (d .full) (wrong 5 at) (cond (ltb (length s) (at + 3)) (wrong 1 at)
         (cond (fitting d (getD s at 0) (word s (at + 1))) (cond (ltb (length s) (at + 3 + word s (at + 1))) (wrong 1 at) (body (getD s at 0) (word s (at + 1)))) (wrong 2 at)))) ≡ ends
         → Ended d s at
-    at-end true q e = record { may = cond-then (d .ends) (wrong-not-ends 5 at) e .0; past = leb-true (length s) at q }
+    at-end true q e = record { may = cond-then (d .complete) (wrong-not-ends 5 at) e .0; past = leb-true (length s) at q }
     at-end false q e = absurd (late e)
 
 -- a byte of a body is a byte of the file

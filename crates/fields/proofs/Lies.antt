@@ -46,7 +46,7 @@ pub record Lies (d : Due) (s : List ℕ) (at t : ℕ) (b r : List ℕ) : Type 0 
   pub inner : take (length b) (drop (at + 3) s) ≡ b
   pub after : drop (at + 3 + length b) s ≡ r
 
-pub field-lies : (d : Due) (s : List ℕ) (at t : ℕ) (b r : List ℕ) → drop at s ≡ field-bytes t b ++ r → length b < 65536 → d .over ≡ false → fitting d t (length b) ≡ true
+pub field-lies : (d : Due) (s : List ℕ) (at t : ℕ) (b r : List ℕ) → drop at s ≡ field-bytes t b ++ r → length b < 65536 → d .full ≡ false → fitting d t (length b) ≡ true
     → Lies d s at t b r
 unfolding field-at
 field-lies d s at t b r e l o f =
@@ -64,6 +64,6 @@ field-lies d s at t b r e l o f =
     }
 
 -- the file's end
-pub ends-lie : (d : Due) (s : List ℕ) (at : ℕ) → drop at s ≡ [] → d .ends ≡ true → field-at d s at ≡ ends
+pub ends-lie : (d : Due) (s : List ℕ) (at : ℕ) → drop at s ≡ [] → d .complete ≡ true → field-at d s at ≡ ends
 unfolding field-at
 ends-lie d s at e h = simp (le-leb (length s) at (omega (arith, length-drop at s, ap length e)), h)

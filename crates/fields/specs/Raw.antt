@@ -28,7 +28,7 @@ body-in s at = body-of s at (raw-at s at)
 
 -- 5, 1 for the head, 2, 1 for the body
 abbrev pub judged : Due → ℕ → Raw → Field
-judged d at End = cond (d .ends) ends (wrong 5 at)
-judged d at Cut = cond (d .over) (wrong 5 at) (wrong 1 at)
-judged d at (Short t n) = cond (d .over) (wrong 5 at) (cond (fitting d t n) (wrong 1 at) (wrong 2 at))
-judged d at (Whole t n) = cond (d .over) (wrong 5 at) (cond (fitting d t n) (body t n) (wrong 2 at))
+judged d at End = cond (d .complete) ends (wrong 5 at)
+judged d at Cut = cond (d .full) (wrong 5 at) (wrong 1 at)
+judged d at (Short t n) = cond (d .full) (wrong 5 at) (cond (fitting d t n) (wrong 1 at) (wrong 2 at))
+judged d at (Whole t n) = cond (d .full) (wrong 5 at) (cond (fitting d t n) (body t n) (wrong 2 at))

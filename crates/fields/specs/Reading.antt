@@ -29,8 +29,8 @@ fitting d t n = leb (d .lo) t && leb t (d .hi) && among rows (d .file) t n
 
 unfoldable pub field-at : Due → List ℕ → ℕ → Field
 field-at d s at =
-    cond (leb (length s) at) (cond (d .ends) ends (wrong 5 at))
-    (cond (d .over) (wrong 5 at)
+    cond (leb (length s) at) (cond (d .complete) ends (wrong 5 at))
+    (cond (d .full) (wrong 5 at)
     (cond (ltb (length s) (at + 3)) (wrong 1 at)
     (cond (fitting d (getD s at 0) (word s (at + 1)))
     (cond (ltb (length s) (at + 3 + word s (at + 1))) (wrong 1 at) (body (getD s at 0) (word s (at + 1))))

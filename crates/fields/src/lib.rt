@@ -1,6 +1,6 @@
 // Fields of a file: why one is refused, the table of tags, and the field reader.
 ghost use mathlib.Core.Path.{_≡_};
-ghost use Prim.Native.Nat.{_+_, _≤_, _<_};
+ghost use Prim.Native.Nat.{_+_, _<_};
 ghost use lib.ListN.{length};
 ghost use Rattle.fields.specs.Table.{allowed, matching, among, rows, row-of};
 ghost use Rattle.fields.specs.Reading.{fitting, field-at, word, eight};
@@ -230,23 +230,23 @@ fn row_of(tag: u8) -> Row
     }
 }
 
-// Has the table the tag with this length for the file?
+// Whether the table has the tag, with this length, for the file.
 fn own(file: File, tag: u8, len: u16) -> bool
     ensures { λ r. ⌜ r ≡ among rows file tag len ⌝ }
 {
     matches(row_of(tag), file, tag, len)
 }
 
-// What is due at a place: the tags lo to hi; whether the file may end there; whether it must.
+// What is due at a place: the tags lo to hi; whether the file is complete there, so that it may end; whether it is full, so that it must.
 pub struct Due {
     pub file: File,
     pub lo: u8,
     pub hi: u8,
-    pub ends: bool,
-    pub over: bool,
+    pub complete: bool,
+    pub full: bool,
 }
 
-// Is the tag due, and the length its own?
+// Whether the tag is due and the length is its own.
 fn is_due(due: Due, tag: u8, len: u16) -> bool
     ensures { λ r. ⌜ r ≡ fitting due tag len ⌝ }
 {
@@ -344,19 +344,19 @@ fn judge(raw: Raw, at: usize, due: Due) -> Seen
 {
     match raw {
         Raw::End => {
-            if due.ends {
+            if due.complete {
                 return Seen::Ends;
             }
             Seen::Wrong(Refusal::WrongEnd(at))
         }
         Raw::Cut => {
-            if due.over {
+            if due.full {
                 return Seen::Wrong(Refusal::WrongEnd(at));
             }
             Seen::Wrong(Refusal::Truncated(at))
         }
         Raw::Short(t, n) => {
-            if due.over {
+            if due.full {
                 return Seen::Wrong(Refusal::WrongEnd(at));
             }
             if is_due(due, t, n) {
@@ -365,7 +365,7 @@ fn judge(raw: Raw, at: usize, due: Due) -> Seen
             Seen::Wrong(Refusal::Unexpected(at))
         }
         Raw::Whole(t, n) => {
-            if due.over {
+            if due.full {
                 return Seen::Wrong(Refusal::WrongEnd(at));
             }
             if is_due(due, t, n) {

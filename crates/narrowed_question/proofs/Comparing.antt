@@ -34,11 +34,23 @@ module _ (l : List ℕ) where
 
     pub greater : i < b → j < e → order-code (getD l j 0) < order-code (getD l i 0) → false ≡ A
     greater h k m =
-        rw (segment-next i b h hb, segment-next j e k he, le-ltb (order-code (getD l i 0)) (order-code (getD l j 0)) (omega arith), ne-eqb (order-code (getD l i 0)) (order-code (getD l j 0)) (omega arith)) at rest
+        rw (
+          segment-next i b h hb,
+          segment-next j e k he,
+          le-ltb (order-code (getD l i 0)) (order-code (getD l j 0)) (omega arith),
+          ne-eqb (order-code (getD l i 0)) (order-code (getD l j 0))
+              (omega arith),
+        ) at rest
 
     pub equal : i < b → j < e → order-code (getD l i 0) ≡ order-code (getD l j 0) → before? (segment-codes l (i + 1) b) (segment-codes l (j + 1) e) ≡ A
     equal h k m =
-        rw (segment-next i b h hb, segment-next j e k he, le-ltb (order-code (getD l i 0)) (order-code (getD l j 0)) (omega arith), eq-eqb (order-code (getD l i 0)) (order-code (getD l j 0)) m) at rest
+        rw (
+          segment-next i b h hb,
+          segment-next j e k he,
+          le-ltb (order-code (getD l i 0)) (order-code (getD l j 0)) (omega arith),
+          eq-eqb (order-code (getD l i 0))
+              (order-code (getD l j 0)) m,
+        ) at rest
 
     pub first-ends : b ≤ i → ltb j e ≡ A
     first-ends h = by-second (ltb j e) refl

@@ -150,7 +150,8 @@ module _ (s : List ℕ) (at : ℕ) (P : List ℕ) (ms : List Flat) (f t : ℕ) (
           omega (arith, d .0, y .1),
           d .1,
           λ v. refl,
-          subst (λ (x : Standing). Tracks s x N P ms f′ t′ []) w′ (subst (λ (b : ℕ). Tracks s (Within (l - 1) at q) N P ms f′ b []) ht (subst (λ (a : ℕ). Tracks s (Within (l - 1) at q) N P ms a (eight B 9) []) hf tracked)),
+          subst (λ (x : Standing). Tracks s x N P ms f′ t′ []) w′
+              (subst (λ (b : ℕ). Tracks s (Within (l - 1) at q) N P ms f′ b []) ht (subst (λ (a : ℕ). Tracks s (Within (l - 1) at q) N P ms a (eight B 9) []) hf tracked)),
           sym (ap (λ (x : Standing). total x []) w′) ∙ omega (arith, hn),
           subst Opened w′ (λ v. refl),
         )

@@ -51,8 +51,8 @@ pub data State : Type 0 where
   within : (left : ℕ) (prev : List ℕ) → List Flat → Open → State
 
 abbrev pub due : State → Due
-due head = record { file = file.Narrowed; lo = 0x41; hi = 0x41; ends = false; over = false }
-due (between left prev ms) = record { file = file.Narrowed; lo = 0x42; hi = 0x42; ends = eqb left 0; over = eqb left 0 }
+due head = record { file = file.Narrowed; lo = 0x41; hi = 0x41; complete = false; full = false }
+due (between left prev ms) = record { file = file.Narrowed; lo = 0x42; hi = 0x42; complete = eqb left 0; full = eqb left 0 }
 due (within left prev ms o) = due-symbols file.Narrowed (o .stack)
 
 -- 41: the number of members, 0 to 128; refusal 3

@@ -22,11 +22,11 @@ use Rattle.narrowed_question.specs.declared.Turn.{Turn}
 use Rattle.narrowed_question.specs.declared.Turn.the-variants as turn
 
 abbrev pub due-of : Standing → Due
-due-of Head = record { file = file.Narrowed; lo = 0x41; hi = 0x41; ends = false; over = false }
-due-of (Between l) = record { file = file.Narrowed; lo = 0x42; hi = 0x42; ends = eqb l 0; over = eqb l 0 }
+due-of Head = record { file = file.Narrowed; lo = 0x41; hi = 0x41; complete = false; full = false }
+due-of (Between l) = record { file = file.Narrowed; lo = 0x42; hi = 0x42; complete = eqb l 0; full = eqb l 0 }
 due-of (Within l p q) = due-symbols file.Narrowed q
 
--- what a field does: the file ends before it; it goes on; it opens a member of so many symbols with these sets; a symbol, with its set; a member's last symbol
+-- what a field does: the file ends before it; it goes on; it opens a member of the given number of symbols with these sets; a symbol, with its set; a member's last symbol
 pub data Move : Type 0 where
   ends : Move
   go : Standing → Move

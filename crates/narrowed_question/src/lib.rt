@@ -9,7 +9,7 @@ use symbols::Stack;
 ghost use mathlib.Core.Path.{_≡_};
 ghost use mathlib.Core.List.{[]};
 ghost use Prim.Native.Nat.{_+_, _≤_, _<_};
-ghost use lib.ListN.{length, replicate, set};
+ghost use lib.ListN.{length, set};
 ghost use Rattle.theory.specs.PathExpr.{before?};
 ghost use Rattle.fields.specs.Table.{tag-length};
 ghost use Rattle.fields.specs.Reading.{read as read-file, word};
@@ -93,17 +93,17 @@ fn due(st: Standing) -> Due
             file: File::Narrowed,
             lo: fields::NARROWED_TAG,
             hi: fields::NARROWED_TAG,
-            ends: false,
-            over: false,
+            complete: false,
+            full: false,
         },
         Standing::Between(l) => {
-            let over = l == 0;
+            let full = l == 0;
             Due {
                 file: File::Narrowed,
                 lo: fields::MEMBER_TAG,
                 hi: fields::MEMBER_TAG,
-                ends: over,
-                over,
+                complete: full,
+                full,
             }
         }
         Standing::Within(_, _, q) => symbols::symbols_due(File::Narrowed, q),
@@ -190,7 +190,7 @@ fn code(number: u8) -> u8
     number
 }
 
-// Do the symbols from a to b come before those from b to e, in members' order?
+// Whether the symbols from a to b come before those from b to e in the order of members.
 pub fn earlier(numbers: &[u8], a: usize, b: usize, e: usize) -> bool
     requires { ⌜ (a ≤ b) × ((b ≤ e) × (e ≤ length (now numbers))) ⌝ }
     ensures { λ r. ⌜ r ≡ before? (segment-codes (now (numbers .entry)) a b) (segment-codes (now (numbers .entry)) b e) ⌝ }

@@ -50,11 +50,11 @@ unfolding padded
 reading-start s = record { xs = []; going = going-start question-form s; holds = (refl, refl); filled = refl }
 
 module _ (s : List ℕ) (at count : ℕ) (code : List ℕ) where
-  counts : (st : Standing) (xs : List ℕ) → due-of st .ends ≡ true → Holds st count xs → got count ≡ counted (got (question-form .value (state-of st xs)))
+  counts : (st : Standing) (xs : List ℕ) → due-of st .complete ≡ true → Holds st count xs → got count ≡ counted (got (question-form .value (state-of st xs)))
   counts Head xs m h = absurd (false≢true m)
   counts (Within q) xs m h = ap got (h .0)
 
-  same-value : (st : Standing) (xs : List ℕ) → due-of st .ends ≡ true → question-form .value (state-of st xs) ≡ xs
+  same-value : (st : Standing) (xs : List ℕ) → due-of st .complete ≡ true → question-form .value (state-of st xs) ≡ xs
   same-value Head xs m = absurd (false≢true m)
   same-value (Within q) xs m = refl
 
@@ -129,6 +129,7 @@ module _ (s : List ℕ) (at count : ℕ) (code : List ℕ) where
             going = going-more question-form s _ _ at (r .going) t m e (within p (r .xs ++ (x .number ∷ [])))
                 (ap (onward (one-more q′ (r .xs) at (at + 3 + m))) hx ∙ ap (onward (λ q″. got (within q″ (r .xs ++ (x .number ∷ []))))) hp);
             holds = (omega (arith, d .0, length-append (r .xs) (x .number ∷ [])), omega (arith, d .1, f .some, pl), omega (arith, d .2, pd));
-            filled = ap₂ (λ (l : List ℕ) (v : ℕ). set l count v) (r .filled) (sym wc) ∙ ap (λ (i : ℕ). set (padded 32 (r .xs)) i (x .number)) (d .0) ∙ pad-set 32 (r .xs) (x .number) (omega (arith, few, d .0));
+            filled = ap₂ (λ (l : List ℕ) (v : ℕ). set l count v) (r .filled) (sym wc) ∙ ap (λ (i : ℕ). set (padded 32 (r .xs)) i (x .number)) (d .0)
+                ∙ pad-set 32 (r .xs) (x .number) (omega (arith, few, d .0));
           }),
         )

@@ -20,7 +20,7 @@ pub data State : Type 0 where
   within : Stack → List ℕ → State
 
 abbrev pub due-head : Due
-due-head = record { file = file.Question; lo = 0x21; hi = 0x21; ends = false; over = false }
+due-head = record { file = file.Question; lo = 0x21; hi = 0x21; complete = false; full = false }
 
 abbrev pub due : State → Due
 due head = due-head

@@ -54,8 +54,8 @@ fn due(st: Standing) -> Due
             file: File::Question,
             lo: fields::QUESTION_TAG,
             hi: fields::QUESTION_TAG,
-            ends: false,
-            over: false,
+            complete: false,
+            full: false,
         },
         Standing::Within(q) => symbols::symbols_due(File::Question, q),
     }

@@ -47,7 +47,7 @@ ends-linked n (e ∷ es) h =
 label-below : (n : ℕ) (e : Edge) → link? n e ≡ true → e .label < 64
 label-below n e h = ltb-true (e .label) 64 (and-right (ltb (e .from) n) _ (and-left _ (ltb (e .to) n) h))
 
-sound-limits : (st : State) → due st .ends ≡ true → SoundState st → Limits (value st)
+sound-limits : (st : State) → due st .complete ≡ true → SoundState st → Limits (value st)
 unfolding well-formed?
 sound-limits start e w = absurd (false≢true e)
 sound-limits (within q ks es) e w =

@@ -63,7 +63,7 @@ pub reading-start : (s : List ℕ) → Reading s Start 0
 reading-start s = record { kinds = []; links = []; going = going-start register-form s; sound = tt }
 
 module _ (s : List ℕ) (st : Position) (at : ℕ) (r : Reading s st at) where
-  sizes-is : (st : Position) (ks : List ℕ) (es : List Edge) → SoundState (state-of st ks es) → due-of st .ends ≡ true
+  sizes-is : (st : Position) (ks : List ℕ) (es : List Edge) → SoundState (state-of st ks es) → due-of st .complete ≡ true
       → sizes-of st ≡ sized (got (value (state-of st ks es)))
   sizes-is Start ks es w h = refl
   sizes-is (Within q) ks es w h =

@@ -21,7 +21,7 @@ use Rattle.register.specs.Passed.{KindAt, NumberAt, Passes, Passed, here
 use Rattle.register.proofs.Loop.{Reading, reading-more}
 
 -- ---- a whole field with the tag that is due and its length is found
-field-there : (d : Due) (s : List ℕ) (at t n : ℕ) → d .over ≡ false → fitting d t n ≡ true → at + 3 + n ≤ length s → getD s at 0 ≡ t → word s (at + 1) ≡ n
+field-there : (d : Due) (s : List ℕ) (at t n : ℕ) → d .full ≡ false → fitting d t n ≡ true → at + 3 + n ≤ length s → getD s at 0 ≡ t → word s (at + 1) ≡ n
     → field-at d s at ≡ body t n
 unfolding field-at
 field-there d s at t n o f h x y =
@@ -122,13 +122,20 @@ module _ {s : List ℕ} {q : Progress} {at i left floor v records : ℕ} (g : Li
       let y : eqb left 0 ≡ false = ne-eqb left 0 (λ e. omega (arith, p .due)) in
       let f = field-there (due-entry (standing q left floor)) s i 0x33 5 (simp y) refl (omega (arith, linked-room)) (k .tag) (k .len) in
       let kb : key b + 0x3300050000000000 ≡ v = rw (body-from s i, body-label s i, body-to s i) (k .key) in
-      let l = link-taken (standing q left floor) i b (rw (body-from s i, ← er) (k .from)) (rw (body-label s i) (omega (arith, k .label, p .label))) (rw (body-to s i, ← er) (omega (arith, k .to, p .to)))
+      let l = link-taken (standing q left floor) i b (rw (body-from s i, ← er) (k .from)) (rw (body-label s i) (omega (arith, k .label, p .label)))
+      (rw (body-to s i, ← er) (omega (arith, k .to, p .to)))
       (omega (arith, kb, g .base, p .low)) in
       let h : key b + 1 ≡ v + 1 - 0x3300050000000000 = omega (arith, kb) in
       let r : after-link (standing q left floor) b ≡ standing q (left - 1) (v + 1) =
       λ j. record { records = q .records; links = q .links; kindless = 0; left = left - 1; floor = h j } in
       let x : i + 3 + 5 ≡ i + 8 = omega arith in
-      record { passed = subst (Passed s q at (standing q (left - 1) (v + 1))) x (further (standing q left floor) i 0x33 5 _ (g .passed) f (l ∙ ap got r)); inside = linked-room; base = omega (arith, low); number = n }
+      record {
+        passed = subst (Passed s q at (standing q (left - 1) (v + 1))) x (further (standing q left floor) i 0x33 5 _ (g .passed) f (l ∙ ap got r));
+        inside = linked-room;
+        base = omega
+            (arith, low);
+        number = n;
+      }
 
 -- ---- what was passed over keeps what holds at the general loop's head
 pub reading-passed : {s : List ℕ} {q : Progress} {at : ℕ} (p : Progress) (i : ℕ) → Passed s q at p i → Reading s (Within q) at → Reading s (Within p) i

@@ -20,7 +20,7 @@ pub data State : Type 0 where
   within : Progress → List ℕ → List Edge → State
 
 abbrev pub due-head : Due
-due-head = record { file = file.Register; lo = 0x31; hi = 0x31; ends = false; over = false }
+due-head = record { file = file.Register; lo = 0x31; hi = 0x31; complete = false; full = false }
 
 -- the kinds first
 abbrev pub due-tag : Progress → ℕ
@@ -30,7 +30,7 @@ abbrev pub complete? : Progress → Bool
 complete? q = eqb (q .kindless) 0 && eqb (q .left) 0
 
 abbrev pub due-entry : Progress → Due
-due-entry q = record { file = file.Register; lo = due-tag q; hi = due-tag q; ends = complete? q; over = complete? q }
+due-entry q = record { file = file.Register; lo = due-tag q; hi = due-tag q; complete = complete? q; full = complete? q }
 
 -- 31: the numbers of records and links; refusal 3
 abbrev pub after-head : List ℕ → Progress

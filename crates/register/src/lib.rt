@@ -195,26 +195,26 @@ fn due_at(st: Position) -> Due
             file: File::Register,
             lo: fields::REGISTER_TAG,
             hi: fields::REGISTER_TAG,
-            ends: false,
-            over: false,
+            complete: false,
+            full: false,
         },
         Position::Within(q) => {
             if q.kindless == 0 {
-                let over = q.left == 0;
+                let full = q.left == 0;
                 return Due {
                     file: File::Register,
                     lo: fields::LINK_TAG,
                     hi: fields::LINK_TAG,
-                    ends: over,
-                    over,
+                    complete: full,
+                    full,
                 };
             }
             Due {
                 file: File::Register,
                 lo: fields::KIND_TAG,
                 hi: fields::KIND_TAG,
-                ends: false,
-                over: false,
+                complete: false,
+                full: false,
             }
         }
     }
@@ -236,7 +236,7 @@ pub struct Reached {
     pub progress: Progress,
 }
 
-// Is a kind due at a place, and a whole field of one there?
+// Whether a kind is due at a place and a whole field of one is there.
 fn kind_lies(s: &[u8], at: usize, q: Progress) -> bool
     requires { ⌜ at ≤ length (now s) ⌝ }
     ensures { λ r. ⌜ (r ≡ true → KindAt (now (s .entry)) q at) ⌝ }
@@ -264,7 +264,7 @@ fn number_at(s: &[u8], at: usize) -> u64
     fields::eight_at(s, at)
 }
 
-// Is a link due, and v the number of a valid one: not below `floor`, below `top`, its link below 64, its to a record?
+// Whether a link is due and v is the number of a valid one: not below `floor`, below `top`, its link below 64, its to record one of the register's.
 fn link_passes(v: u64, left: u16, floor: u64, top: u64, records: u64) -> bool
     ensures { λ r. ⌜ (r ≡ true → Passes v left floor top records) ⌝ }
 {

@@ -21,10 +21,10 @@ pub data State : Type 0 where
   within : Triples → List Edge → State
 
 abbrev pub due-head : Due
-due-head = record { file = file.Sheet; lo = 0x11; hi = 0x11; ends = false; over = false }
+due-head = record { file = file.Sheet; lo = 0x11; hi = 0x11; complete = false; full = false }
 
 abbrev pub due-triple : Triples → Due
-due-triple q = record { file = file.Sheet; lo = 0x12; hi = 0x12; ends = true; over = eqb (q .count) 512 }
+due-triple q = record { file = file.Sheet; lo = 0x12; hi = 0x12; complete = true; full = eqb (q .count) 512 }
 
 abbrev pub due : State → Due
 due head = due-head

@@ -86,15 +86,15 @@ fn due(st: Standing) -> Due
             file: File::Sheet,
             lo: fields::SHEET_TAG,
             hi: fields::SHEET_TAG,
-            ends: false,
-            over: false,
+            complete: false,
+            full: false,
         },
         Standing::Within(q) => Due {
             file: File::Sheet,
             lo: fields::TRIPLE_TAG,
             hi: fields::TRIPLE_TAG,
-            ends: true,
-            over: q.count == MOST_TRIPLES,
+            complete: true,
+            full: q.count == MOST_TRIPLES,
         },
     }
 }
@@ -202,7 +202,7 @@ pub fn word_of(from: Kind, link: Link) -> usize
     link.0 as usize * ROW + from.0 as usize
 }
 
-// Has the table the bit of a triple?
+// Whether the table has the bit of a triple.
 pub fn permits(table: &[u64; TABLE], from: Kind, link: Link, to: Kind) -> bool
     requires { ⌜ (from .0 < 64) × (link .0 < 64) × (to .0 < 64) ⌝ }
     ensures { λ r. ⌜ r ≡ tabled? (now (table .entry)) (from .0) (link .0) (to .0) ⌝ }

@@ -74,7 +74,7 @@ push q at next k =
 
 -- what is due within a path: its symbols, and nothing after them
 abbrev pub due-symbols : File → Stack → Due
-due-symbols f q = record { file = f; lo = 0x43; hi = 0x45; ends = eqb (q .left) 0; over = eqb (q .left) 0 }
+due-symbols f q = record { file = f; lo = 0x43; hi = 0x45; complete = eqb (q .left) 0; full = eqb (q .left) 0 }
 
 -- the number of a symbol, and its set
 abbrev pub number-symbol : Symbol → Numbered

@@ -156,12 +156,12 @@ pub fn push_symbol(q: Stack, at: usize, next: usize, k: u8) -> Pushed
 pub fn symbols_due(file: File, q: Stack) -> Due
     ensures { λ r. ⌜ r ≡ due-symbols file q ⌝ }
 {
-    let over = q.left == 0;
+    let full = q.left == 0;
     Due {
         file,
         lo: fields::STEP_TAG,
         hi: fields::THROUGH_TAG,
-        ends: over,
-        over,
+        complete: full,
+        full,
     }
 }

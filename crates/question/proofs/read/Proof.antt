@@ -28,7 +28,8 @@ at-body : (c : tie.After-known-told2 Inv-loop μ-loop) →
     field-at (due-of (l .st)) (now (c .before .before .before .before .before .before .before .args .s)) (l .at) ≡ body (v .0) (v .1 .0)
 at-body c = seen-at _ _ (c .before .before .before .before .due .ensures) (c .before .before .before .field .ensures) (c .before .tag .given .1)
 
-room : (c : tie.After-known-told2 Inv-loop μ-loop) → c .before .before .before .before .before .loop .at + 3 + c .before .tag .given .0 .1 .0 ≤ length (now (c .before .before .before .before .before .before .before .args .s))
+room : (c : tie.After-known-told2 Inv-loop μ-loop) → c .before .before .before .before .before .loop .at + 3 + c .before .tag .given .0 .1 .0 ≤ length
+    (now (c .before .before .before .before .before .before .before .args .s))
 room c =
     let c5 = c .before .before .before .before .before in
     let c7 = c5 .before .before in
@@ -36,7 +37,8 @@ room c =
 
 -- the part handed out is that field's body
 is-body : (c : tie.After-body-at Inv-loop μ-loop) →
-    now (c .body-at .result) ≡ take (c .before .before .tag .given .0 .1 .0) (drop (c .before .before .before .before .before .before .loop .at + 3) (now (c .before .before .before .before .before .before .before .before .args .s)))
+    now (c .body-at .result) ≡ take (c .before .before .tag .given .0 .1 .0)
+    (drop (c .before .before .before .before .before .before .loop .at + 3) (now (c .before .before .before .before .before .before .before .before .args .s)))
 is-body c =
     c .body-at .ensures ∙ body-found _ _ _ _ _ (at-body (c .before))
 
@@ -44,7 +46,8 @@ is-body c =
 is-judged : (c : tie.After-judge Inv-loop μ-loop) →
     let l = c .before .before .before .before .before .before .before .loop in
     let v = c .before .before .before .tag .given .0 in
-    judged (l .st) (l .at) (l .at + 3 + v .1 .0) (v .0) (take (v .1 .0) (drop (l .at + 3) (now (c .before .before .before .before .before .before .before .before .before .args .s)))) ≡ turn-said (c .judge .result)
+    judged (l .st) (l .at) (l .at + 3 + v .1 .0) (v .0) (take (v .1 .0) (drop (l .at + 3) (now (c .before .before .before .before .before .before .before .before .before .args .s)))) ≡ turn-said
+    (c .judge .result)
 is-judged c =
     rw (← is-body (c .before)) (sym (c .judge .ensures))
 

@@ -30,13 +30,15 @@ at-body c = seen-at _ _ (c .before .before .before .before .due-at .ensures) (c 
 
 -- the code's body is the definition's
 at-part : (c : tie.After-body-at Inv-loop μ-loop) →
-    now (c .body-at .result) ≡ take (c .before .before .len .given .0 .1 .0) (drop (c .before .before .before .before .before .before .loop .at + 3) (now (c .before .before .before .before .before .before .before .before .args .s)))
+    now (c .body-at .result) ≡ take (c .before .before .len .given .0 .1 .0)
+    (drop (c .before .before .before .before .before .before .loop .at + 3) (now (c .before .before .before .before .before .before .before .before .args .s)))
 at-part c =
     c .body-at .ensures ∙ body-found _ _ _ _ _ (at-body (c .before))
 
 is-judged : (c : tie.After-judge Inv-loop μ-loop) →
     let l = c .before .before .before .before .before .before .before .loop in
-    judged (l .st) (l .at) (take (c .before .before .before .len .given .0 .1 .0) (drop (l .at + 3) (now (c .before .before .before .before .before .before .before .before .before .args .s)))) ≡ turn-said (c .judge .result)
+    judged (l .st) (l .at) (take (c .before .before .before .len .given .0 .1 .0) (drop (l .at + 3) (now (c .before .before .before .before .before .before .before .before .before .args .s))))
+    ≡ turn-said (c .judge .result)
 is-judged c =
     rw (← at-part (c .before)) (sym (c .judge .ensures))
 

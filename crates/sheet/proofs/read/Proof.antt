@@ -29,7 +29,8 @@ at-body : (c : tie.After-known-told2 Inv-loop μ-loop) →
     field-at (due-of (l .st)) (now (c .before .before .before .before .before .before .before .args .s)) (l .at) ≡ body (v .0) (v .1 .0)
 at-body c = seen-at _ _ (c .before .before .before .before .due .ensures) (c .before .before .before .field .ensures) (c .before .len .given .1)
 
-room : (c : tie.After-known-told2 Inv-loop μ-loop) → c .before .before .before .before .before .loop .at + 3 + c .before .len .given .0 .1 .0 ≤ length (now (c .before .before .before .before .before .before .before .args .s))
+room : (c : tie.After-known-told2 Inv-loop μ-loop) → c .before .before .before .before .before .loop .at + 3 + c .before .len .given .0 .1 .0 ≤ length
+    (now (c .before .before .before .before .before .before .before .args .s))
 room c =
     let c5 = c .before .before .before .before .before in
     let c7 = c5 .before .before in
@@ -38,7 +39,8 @@ room c =
 -- where it is judged
 is-judged : (c : tie.After-judge Inv-loop μ-loop) →
     let l = c .before .before .before .before .before .before .before .loop in
-    judged (l .st) (l .at) (take (c .before .before .before .len .given .0 .1 .0) (drop (l .at + 3) (now (c .before .before .before .before .before .before .before .before .before .args .s)))) ≡ turn-said (c .judge .result)
+    judged (l .st) (l .at) (take (c .before .before .before .len .given .0 .1 .0) (drop (l .at + 3) (now (c .before .before .before .before .before .before .before .before .before .args .s))))
+    ≡ turn-said (c .judge .result)
 is-judged c =
     let c2 = c .before .before in
     rw (← body-found _ _ _ _ _ (at-body (c2)), ← c .before .body-at .ensures) (sym (c .judge .ensures))
@@ -48,7 +50,8 @@ at-more : (c : tie.After-known-told5 Inv-loop μ-loop) →
     let l = c .before .before .before .before .before .before .before .before .before .before .loop in
     let v = c .before .x .given .0 in
     let x = edge-said (v .0) in
-    ((x .from < 64) × (x .label < 64) × (x .to < 64)) × Progress (now (c .before .before .before .before .before .before .before .before .before .before .before .before .args .s)) (Within (v .1 .0)) (l .at + 3 + c .before .before .before .before .before .before .len .given .0 .1 .0) (permit (l .table) x)
+    ((x .from < 64) × (x .label < 64) × (x .to < 64)) × Progress (now (c .before .before .before .before .before .before .before .before .before .before .before .before .args .s)) (Within (v .1 .0))
+    (l .at + 3 + c .before .before .before .before .before .before .len .given .0 .1 .0) (permit (l .table) x)
 at-more c =
     let c3 = c .before .before .before in
     let c5 = c3 .before .before in

@@ -3,7 +3,8 @@
 use mathlib.Core.Path.{_≡_, refl, sym, ap, _∙_, subst}
 use mathlib.Core.Logic.{_⊎_, inl, inr, ⊎-elim}
 use mathlib.Core.Bool.{Bool, true, false, not, cond}
-use mathlib.Core.List.{List, [], _∷_, _++_, append-assoc, append-nil, List·Memᴰ as In, List·Memᴰ·head as here, List·Memᴰ·tail as there, List·Memᴰ·append-cases as in-append, List·Memᴰ·not-nil as in-nil, List·Memᴰ·eq-of-singleton as in-one, Memᴰ·append-left as in-left}
+use mathlib.Core.List.{List, [], _∷_, _++_, append-assoc, append-nil, List·Memᴰ as In, List·Memᴰ·head as here, List·Memᴰ·tail as there, List·Memᴰ·append-cases as in-append}
+use mathlib.Core.List.{List·Memᴰ·not-nil as in-nil, List·Memᴰ·eq-of-singleton as in-one, Memᴰ·append-left as in-left}
 use Prim.Native.Nat.{ℕ, zero, suc, _+_, _≤_, _<_}
 use native.Mathlib.Nat.{zero-add, add-suc, suc-add}
 use native.Mathlib.Decide.{decLe}
@@ -14,7 +15,8 @@ use borrow.Author.Tests.{lt-ltb, le-ltb}
 use Rattle.theory.specs.Lists.{guard, filter, some?, adjoin, adjoin-all, concat-map, tabulate, range, NoRepeat}
 use Rattle.theory.specs.PathExpr.{Op, union, conjunction, branch-right, branch-left, PathExpr, step, join, op, closure, size}
 use Rattle.theory.specs.Sheet.{Sheet}
-use Rattle.theory.specs.Inference.{Triple, triple, triple?, distinct, stepped?, between, of-step, of-join, pairs, end-to-end?, same-ends?, same-start?, joined, conjoined, branched-right, branched-left, of-op, reach, meets-cyclic?, acyclic?, walks, of-closure, triples, free, kept-closures}
+use Rattle.theory.specs.Inference.{Triple, triple, triple?, distinct, stepped?, between, of-step, of-join, pairs, end-to-end?, same-ends?, same-start?, joined, conjoined, branched-right}
+use Rattle.theory.specs.Inference.{branched-left, of-op, reach, meets-cyclic?, acyclic?, walks, of-closure, triples, free, kept-closures}
 use Rattle.theory.specs.Narrowing.{short?}
 use Rattle.algorithms.specs.Growth.{no-triple, grown, grow}
 use Rattle.theory.proofs.Tests.{test, of-true, cond-case, bool-eq, apart}

@@ -96,7 +96,8 @@ module _ {qs ws₀ : List ℕ} {s f : ℕ} (h : GrowWalks qs ws₀ s f) where
 
       at-i : In (triple-of qs ws i) (part-of qs ws s count)
       unfolding part-of
-      at-i = let z : s + (i - s) ≡ i = omega (arith, g .from) in subst (λ (k : ℕ). In (triple-of qs ws k) (part-of qs ws s count)) z (tabulate-in (triple-of qs ws) s count (i - s) (omega (arith, g .from)))
+      at-i = let z : s + (i - s) ≡ i = omega (arith, g .from) in subst (λ (k : ℕ). In (triple-of qs ws k) (part-of qs ws s count)) z
+          (tabulate-in (triple-of qs ws) s count (i - s) (omega (arith, g .from)))
 
       row : row-of qs ws 128 i s (s + f) ≡ of-join (triple-of qs ws i ∷ []) fs
       unfolding symbol-numbered
@@ -112,7 +113,8 @@ module _ {qs ws₀ : List ℕ} {s f : ℕ} (h : GrowWalks qs ws₀ s f) where
             room = record { room = omega (arith, h .room .room, g .kept .len); numbers = h .room .numbers; sound = g .sound; few = g .few };
             i-below = l;
             lies = record { ordered = omega arith; below = omega (arith, g .more) };
-            short = to-true (short? (row-of qs ws 128 i s (s + f))) (in-every short-path? (row-of qs ws 128 i s (s + f)) (λ t m. every-in short-path? (of-true (short? (walks 24 fs fs)) (h .short)) (row-walk t m)));
+            short = to-true (short? (row-of qs ws 128 i s (s + f)))
+                (in-every short-path? (row-of qs ws 128 i s (s + f)) (λ t m. every-in short-path? (of-true (short? (walks 24 fs fs)) (h .short)) (row-walk t m)));
           }
 
       module _ {ws′ : List ℕ} {r : ℕ} (d : Adds qs ws ws′ s count r (row-of qs ws 128 i s (s + f))) where

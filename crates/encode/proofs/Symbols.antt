@@ -11,7 +11,7 @@ use Rattle.encode.specs.BytesWritten.{BytesWritten}
 use Rattle.encode.proofs.Along.{Along, along-start, along-more, along-end, along-room}
 use Rattle.encode.proofs.Parts.{symbols-more}
 
--- of n symbols from the k-th on, those before the j-th are written, and so many are left
+-- of n symbols from the k-th on, those before the j-th are written, and the given number is left
 pub record Symbols (o : List ℕ) (at : ℕ) (numbers masks : List ℕ) (k n : ℕ) (out : List ℕ) (a j left : ℕ) : Type 0 where
   pub in-numbers : j + left ≤ length numbers
   pub in-masks : j + left ≤ length masks
@@ -24,7 +24,8 @@ symbols-start o at numbers masks k n f g h = record { in-numbers = f; in-masks =
 
 module _ {o : List ℕ} {at : ℕ} {numbers masks : List ℕ} {k n : ℕ} {out : List ℕ} {a j left : ℕ} (s : Symbols o at numbers masks k n out a j left) where
   pub symbols-room : 0 < left → a + length (symbol-bytes (symbol-given (getD numbers j 0) (getD masks j 0))) ≤ length out
-  symbols-room h = along-room (symbol-bytes (symbol-given (getD numbers j 0) (getD masks j 0))) (symbols-bytes (symbols-given numbers masks (left - 1) (j + 1))) (s .along) (symbols-more numbers masks left j h) (s .room)
+  symbols-room h = along-room (symbol-bytes (symbol-given (getD numbers j 0) (getD masks j 0))) (symbols-bytes (symbols-given numbers masks (left - 1) (j + 1))) (s .along)
+      (symbols-more numbers masks left j h) (s .room)
 
   pub symbols-next : {b : List ℕ} {y : ℕ} → 0 < left → BytesWritten out b a y (symbol-bytes (symbol-given (getD numbers j 0) (getD masks j 0)))
       → Symbols o at numbers masks k n b y (j + 1) (left - 1)
@@ -32,7 +33,8 @@ module _ {o : List ℕ} {at : ℕ} {numbers masks : List ℕ} {k n : ℕ} {out :
     in-numbers = omega (arith, s .in-numbers);
     in-masks = omega (arith, s .in-masks);
     room = s .room;
-    along = along-more (symbol-bytes (symbol-given (getD numbers j 0) (getD masks j 0))) (symbols-bytes (symbols-given numbers masks (left - 1) (j + 1))) (s .along) (symbols-more numbers masks left j h) w;
+    along = along-more (symbol-bytes (symbol-given (getD numbers j 0) (getD masks j 0))) (symbols-bytes (symbols-given numbers masks (left - 1) (j + 1))) (s .along)
+        (symbols-more numbers masks left j h) w;
   }
 
   pub symbols-end : left ≤ 0 → BytesWritten o out at a (symbols-bytes (symbols-given numbers masks n k))

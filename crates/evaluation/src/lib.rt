@@ -25,7 +25,7 @@ ghost use Rattle.evaluation.specs.Stack.{binary?, Applicable, Applied, E
 const ALL: u64 = 0xffffffffffffffff;
 
 // The number of a kind.
-pub fn wide(k: Kind) -> usize
+pub fn kind_index(k: Kind) -> usize
     ensures { λ r. ⌜ r ≡ k .0 ⌝ }
 {
     k.0 as usize
@@ -38,7 +38,7 @@ fn kind_word(register: &[u8], g: usize, m: usize, set: u64) -> u64
 {
     let mut v = 0;
     for i in 0..m {
-        let k = wide(register::kind_at(register, g + i));
+        let k = kind_index(register::kind_at(register, g + i));
         v = v | (((set >> k) % 2) << i);
     }
     v
@@ -160,7 +160,7 @@ fn combine(
     }
 }
 
-// Is the symbol a closure?
+// Whether the symbol is a closure.
 fn closes(number: u8) -> bool
     ensures { λ r. ⌜ r ≡ closes? number ⌝ }
 {

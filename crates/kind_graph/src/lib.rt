@@ -20,6 +20,9 @@ pub const GRAPH: usize = 2 * KINDS;
 // The most triples of a walk whose size is still asked for, but the first: one of more has more than 48 symbols.
 const ROUNDS: usize = 24;
 
+// The most symbols of a member's path.
+const MOST: u64 = fields::MEMBER_SYMBOLS as u64;
+
 // Sets bit (from, to) for each triple of the nodes xs.
 fn edges(words: &[u64], question: &[u8], xs: Span, work: &mut [u64])
     requires { ⌜ (xs .start ≤ xs .end) × (xs .end ≤ length (now words)) × (length (now work) ≡ 128) ⌝ }
@@ -70,7 +73,7 @@ pub fn graph(words: &[u64], question: &[u8], xs: Span, work: &mut [u64])
     relation::join(work, 0, KINDS, KINDS, 1, &mask);
 }
 
-// Is neither kind cyclic?
+// Whether neither kind is cyclic.
 pub fn acyclic(work: &[u64], a: Kind, b: Kind) -> bool
     requires { ⌜ (length (now work) ≡ 128) × (a .0 < 64) × (b .0 < 64) ⌝ }
     ensures { λ r. ⌜ TellsAcyclic (now (work .entry)) (a .0) (b .0) r ⌝ }
@@ -132,7 +135,7 @@ fn round(words: &[u64], question: &[u8], xs: Span, best: &[u64], next: &mut [u64
     }
 }
 
-// Is each number at most m?
+// Whether each number is at most m.
 fn at_most(best: &[u64], m: u64) -> bool
     ensures { λ r. ⌜ Decides (AtMost m (now (best .entry))) r ⌝ }
 {
@@ -146,14 +149,15 @@ fn at_most(best: &[u64], m: u64) -> bool
     true
 }
 
-// Has each walk over the nodes xs a path of at most 48 symbols? One of more than 25 triples has more; where there is none of n, there is none of more.
+// Whether each walk over the nodes xs has a path of at most 48 symbols. A walk of more than 25 triples has a longer one; and where there
+// is no walk of n triples, there is none of more.
 pub fn walks_short(words: &[u64], question: &[u8], xs: Span) -> bool
     requires { ⌜ Part (now question) (now words) xs ⌝ }
     ensures { λ r. ⌜ r ≡ short? (all-walks (triples-in (now (question .entry)) (now (words .entry)) xs)) ⌝ }
 {
     let mut best = [0u64; KINDS];
     first_round(words, question, xs, &mut best);
-    if !at_most(&best, 48) {
+    if !at_most(&best, MOST) {
         return false;
     }
     let mut n: usize = 0;
@@ -163,7 +167,7 @@ pub fn walks_short(words: &[u64], question: &[u8], xs: Span) -> bool
         }
         let mut next = [0u64; KINDS];
         round(words, question, xs, &best, &mut next);
-        if !at_most(&next, 48) {
+        if !at_most(&next, MOST) {
             return false;
         }
         best = next;

@@ -19,7 +19,7 @@ pub fn fill(kinds: &mut [u64], register: &[u8], n: usize, w: usize)
 {
     rows::clear(kinds, 0, KINDS * w);
     for t in 0..n {
-        let k = evaluation::wide(register::kind_at(register, t));
+        let k = evaluation::kind_index(register::kind_at(register, t));
         rows::set(kinds, k * w, t);
     }
 }

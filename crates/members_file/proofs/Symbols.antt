@@ -104,7 +104,8 @@ module _ {cs ss ys : List ℕ} {n j total : ℕ} (g : Going cs ss ys n j total) 
       let f : List Numbered = renumbered cs ss (n - (j + 1)) (j + 1) in
       let b : renumbered cs ss (n - j) j ≡ symbol-given c (getD ss j 0) ∷ f = rw (q, x, add-one j) in
       let a : length (symbols-bytes (renumbered cs ss (n - j) j)) ≡ w + length (symbols-bytes f)
-      = ap (λ (l : List Numbered). length (symbols-bytes l)) b ∙ length-append (symbol-bytes (symbol-given c (getD ss j 0))) (symbols-bytes f) ∙ ap (λ (k : ℕ). k + length (symbols-bytes f)) (sym (v ∙ size-is c (getD ss j 0))) in
+      = ap (λ (l : List Numbered). length (symbols-bytes l)) b ∙ length-append (symbol-bytes (symbol-given c (getD ss j 0))) (symbols-bytes f)
+      ∙ ap (λ (k : ℕ). k + length (symbols-bytes f)) (sym (v ∙ size-is c (getD ss j 0))) in
       record {
         within = omega arith;
         same-length = length-set ys j c ∙ g .same-length;

@@ -149,7 +149,8 @@ module _ {qs ws xs : List ℕ} {used s n : ℕ} (h : Arranging qs ws xs used s n
       let q : n - 0 ≡ n = omega arith in
       members-sorted (part-of qs ws s n) (λ t i. h .suits t i .linked)
       ∙ ap (λ ms. grouped (sorted ahead? ms)) (map-tabulate s n)
-      ∙ ap grouped (sorted-map (earlier? qs ws) ahead? (member-at qs ws) (λ x y. refl) (tabulate (λ k. k) s n) ∙ ap (map (member-at qs ws)) (sym (g .is ∙ ap₂ (λ (a b : ℕ). sorted (earlier? qs ws) (tabulate (λ k. k) a b)) e q)))
+      ∙ ap grouped (sorted-map (earlier? qs ws) ahead? (member-at qs ws) (λ x y. refl) (tabulate (λ k. k) s n)
+      ∙ ap (map (member-at qs ws)) (sym (g .is ∙ ap₂ (λ (a b : ℕ). sorted (earlier? qs ws) (tabulate (λ k. k) a b)) e q)))
     where
       map-tabulate : (s n : ℕ) → map of-triple (tabulate (triple-of qs ws) s n) ≡ map (member-at qs ws) (tabulate (λ k. k) s n)
       map-tabulate s zero = refl

@@ -21,7 +21,7 @@ pub struct Group {
     pub next: usize,
 }
 
-// Do the first n of a come before the first m of b?
+// Whether the first n codes of a come before the first m of b.
 fn precedes(a: &[u8], n: usize, b: &[u8], m: usize) -> bool
     requires { ⌜ (n ≤ length (now a)) × (m ≤ length (now b)) ⌝ }
     ensures { λ r. ⌜ r ≡ before? (segment (now (a .entry)) 0 n) (segment (now (b .entry)) 0 m) ⌝ }
@@ -42,7 +42,7 @@ fn precedes(a: &[u8], n: usize, b: &[u8], m: usize) -> bool
     false
 }
 
-// Do the codes of node i come before those of node j?
+// Whether the codes of node i come before those of node j.
 fn before(words: &[u64], used: usize, question: &[u8], i: usize, j: usize) -> bool
     requires { ⌜ Usable (now question) (now words) used i × Usable (now question) (now words) used j ⌝ }
     ensures { λ r. ⌜ r ≡ earlier? (now (question .entry)) (now (words .entry)) i j ⌝ }

@@ -206,7 +206,14 @@ module _ {q : Members} {i at prev first : ℕ} (r : AtMember q i at prev first) 
             index = omega arith;
             ordered = omega arith;
             used = omega (arith, r .used, member-size);
-            bound = omega (arith, r .bound, member-size, member-few at size found next e .1, length-take-le size (drop first (q .numbers)) (omega (arith, length-drop first (q .numbers), r .used, r .few, member-size)));
+            bound = omega (
+              arith,
+              r .bound,
+              member-size,
+              member-few at size found next e .1,
+              length-take-le size (drop first (q .numbers))
+                  (omega (arith, length-drop first (q .numbers), r .used, r .few, member-size)),
+            );
           }
 
 -- ---- what is not refused has few members, each of few symbols

@@ -4,7 +4,7 @@ use narrowed_question::Members;
 use symbols::Pushed;
 use symbols::Stack;
 ghost use mathlib.Core.Path.{_≡_};
-ghost use Prim.Native.Nat.{_+_, _*_, _≤_, _<_};
+ghost use Prim.Native.Nat.{_+_, _≤_, _<_};
 ghost use lib.ListN.{length, take, drop};
 ghost use Rattle.symbols.specs.Contract.{push-said};
 ghost use Rattle.narrowed_question.specs.ArrayMembers.{given};
@@ -17,14 +17,20 @@ pub enum Place {
     Refused(Refusal),
 }
 
-// Is it a symbol's number?
+// Numbers below this one are steps and operators.
+const KNOWN: u8 = symbols::CLOSURE + 1;
+
+// The most symbols of a member.
+const MOST: u8 = fields::MEMBER_SYMBOLS as u8;
+
+// Whether it is a symbol's number.
 fn known(number: u8) -> bool
     ensures { λ r. ⌜ r ≡ symbol? number ⌝ }
 {
-    if number < 134 {
+    if number < KNOWN {
         return true;
     }
-    number == 255
+    number == symbols::THROUGH
 }
 
 // Judges a symbol, by its number, at a place: refusals 3 and 6.
@@ -75,7 +81,7 @@ fn judge_member(numbers: &[u8], k: usize, n: u8, at: usize) -> Place
     if n < 1 {
         return Place::Refused(Refusal::OutOfRange(at));
     }
-    if 48 < n {
+    if MOST < n {
         return Place::Refused(Refusal::OutOfRange(at));
     }
     judge_path(numbers, k, n, at + encode::MEMBER_BYTES)
@@ -85,7 +91,7 @@ fn judge_member(numbers: &[u8], k: usize, n: u8, at: usize) -> Place
 fn judge(q: Members) -> Place
     ensures { λ r. ⌜ place-said r ≡ verdict (given q) ⌝ }
 {
-    if 128 < q.count {
+    if fields::MEMBERS < q.count {
         return Place::Refused(Refusal::OutOfRange(0));
     }
     let sizes = q.sizes;

@@ -15,7 +15,7 @@ use Rattle.fields.specs.declared.Source.the-variants.{Sheet, Question, Narrowed
 use Rattle.fields.specs.Call.{Outcome, accepts, refuses, Size}
 
 -- ---- numbers
--- the last digits of n, so many at most, and none in front that is 0
+-- the last digits of n, at most the given number of them, without a 0 in front
 abbrev pub last-digits : ℕ → ℕ → List ℕ
 last-digits zero n = []
 last-digits (suc k) n = cond (ltb n 10) ((48 + n) ∷ []) (last-digits k (n / 10) ++ ((48 + n % 10) ∷ []))

@@ -98,7 +98,8 @@ module _ {qs ws : List ℕ} {s count i : ℕ} {n : Node} (h : Room qs ws s count
         good = record {
           known = rw (new, e) (good .known);
           sized = rw (copy-triple, new, e) (good .sized);
-          two = rw new (λ a c. let t = good .two (rw e at a) (rw e at c) in record { left-below = rw (new, e) (omega (arith, b, t .left-below)); right-below = rw (new, e) (omega (arith, b, t .right-below)) });
+          two = rw new (λ a c. let t = good .two (rw e at a)
+              (rw e at c) in record { left-below = rw (new, e) (omega (arith, b, t .left-below)); right-below = rw (new, e) (omega (arith, b, t .right-below)) });
           kept = rw (new, e) (good .kept);
         };
       }

@@ -87,7 +87,8 @@ module _ {qs ws₀ : List ℕ} {made s p d q e : ℕ} (b : Paired made) (h : Two
         stand-more : r ≤ 128 → (j : ℕ) → p ≤ j → j < i + 1 → (t : Triple) → In t (row-of qs ws₀ made j q e) → In t (part-of qs ws′ s r)
         stand-more m j a b t n =
             rw (f .few m)
-            (⊎-elim (λ (z : j ≡ i). adjoin-all-new triple? triple-eq (part-of qs ws s count) (subst (λ (xs : List Triple). In t xs) (sym here) (subst (λ (k : ℕ). In t (row-of qs ws₀ made k q e)) z n)))
+            (⊎-elim (λ (z : j ≡ i). adjoin-all-new triple? triple-eq (part-of qs ws s count)
+            (subst (λ (xs : List Triple). In t xs) (sym here) (subst (λ (k : ℕ). In t (row-of qs ws₀ made k q e)) z n)))
             (λ (z : j < i). adjoin-all-old triple? (part-of qs ws s count) (row-of qs ws made i q e) (g .stand j a z t n)) (eq-or-lt-of-le (omega arith)))
 
         pub rule-turn : r ≤ 128 → RowsGrowing qs ws₀ ws′ made s r p d q e (i + 1)

@@ -54,7 +54,8 @@ module _ {qs ws : List ℕ} {made u i j : ℕ} {x y : Node} (h : Sound qs ws u) 
   pair-short-is = rw (two-one made p X Y, fits-is, ← giving-is) (short-guard (fitting made X Y) (giving made X Y))
 
 -- ---- the pair's node at the end
-module _ {qs ws : List ℕ} {made s count i j : ℕ} {x y : Node} (h : AddPair qs ws made s count i j) (lx : Loaded ws i x) (ly : Loaded ws j y) {r : Bool} (d : r ≡ fitting made (ends-of x) (ends-of y)) where
+module _ {qs ws : List ℕ} {made s count i j : ℕ} {x y : Node} (h : AddPair qs ws made s count i j) (lx : Loaded ws i x) (ly : Loaded ws j y) {r : Bool}
+    (d : r ≡ fitting made (ends-of x) (ends-of y)) where
   abbrev A : Triple
   A = triple-of qs ws i
 

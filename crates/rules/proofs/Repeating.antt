@@ -24,7 +24,8 @@ use Rattle.rules.proofs.Pairs.{from-is}
 pub not-alike : (qs ws : List ℕ) (i j : ℕ) → Alike qs ws i j false
 not-alike qs ws i j = record { same-from = λ e. absurd (true≢false (sym e)); same-path = λ e. absurd (true≢false (sym e)) }
 
-pub alike-paths : {qs ws : List ℕ} {i j : ℕ} {x y : Node} {r : Bool} → Loaded ws i x → Loaded ws j y → x .from .0 ≡ y .from .0 → Decides (triple-of qs ws i .path ≡ triple-of qs ws j .path) r → Alike qs ws i j r
+pub alike-paths : {qs ws : List ℕ} {i j : ℕ} {x y : Node} {r : Bool} → Loaded ws i x → Loaded ws j y → x .from .0 ≡ y .from .0 → Decides (triple-of qs ws i .path ≡ triple-of qs ws j .path) r
+    → Alike qs ws i j r
 alike-paths {qs} lx ly e d = record { same-from = λ _. sym (from-is qs lx) ∙ e ∙ from-is qs ly; same-path = d .holds }
 
 -- ---- the search
@@ -45,7 +46,8 @@ pub row-repeated : {qs ws : List ℕ} {made s count p i q e : ℕ} {r : Bool} �
     → Adds qs ws ws s count count (row-of qs ws made i q e)
 row-repeated {qs} {ws} {made} {s} {count} {p} {i} {q} {e} h f t =
     let w = f .found t in
-    let inside : (x : Triple) → In x (row-of qs ws made i q e) → In x (part-of qs ws s count) = λ x m. h .stand (w .node) (w .least) (w .below) x (subst (λ (l : List Triple). In x l) (w .same-rows (part qs ws q e)) m) in
+    let inside : (x : Triple) → In x (row-of qs ws made i q e)
+    → In x (part-of qs ws s count) = λ x m. h .stand (w .node) (w .least) (w .below) x (subst (λ (l : List Triple). In x l) (w .same-rows (part qs ws q e)) m) in
     record {
       kept = kept-refl (s + count) (s + 129) ws;
       sound = h .row .room .sound;

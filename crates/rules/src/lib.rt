@@ -31,7 +31,7 @@ pub enum Part {
 // Numbers below this one are forward steps.
 const LINKS: usize = fields::LINKS as usize;
 
-// Do two triples fit under the operator?
+// Whether two triples fit under the operator.
 fn fits(made: usize, x: Node, y: Node) -> bool
     ensures { λ r. ⌜ r ≡ fitting made (ends-of x) (ends-of y) ⌝ }
 {
@@ -77,7 +77,7 @@ fn paired(made: usize, i: usize, j: usize, x: Node, y: Node) -> Node
     }
 }
 
-// If the pair fits, does its path have at most 48 symbols?
+// Whether the path of the pair, if it fits, has at most 48 symbols.
 fn pair_short(made: usize, x: Node, y: Node) -> bool
     requires { ⌜ (x .size < 64) × (y .size < 64) ⌝ }
     ensures { λ r. ⌜ r ≡ pair-short? made x y ⌝ }
@@ -90,7 +90,7 @@ fn pair_short(made: usize, x: Node, y: Node) -> bool
 
 // ---- sizes: 13
 
-// Has each path that node i gives with the nodes ys at most 48 symbols?
+// Whether each path that node i gives with the nodes ys has at most 48 symbols.
 fn row_short(words: &[u64], question: &[u8], made: usize, s: usize, i: usize, ys: Span) -> bool
     requires { ⌜ Pairing (now question) (now words) made s × (i < s) × Lies s ys ⌝ }
     ensures { λ r. ⌜ r ≡ short? (row-in (now (question .entry)) (now (words .entry)) made i ys) ⌝ }
@@ -124,7 +124,7 @@ fn rows_short(words: &[u64], question: &[u8], made: usize, s: usize, xs: Span, y
 
 // ---- rows that repeat
 
-// Do nodes i and j have the same from kind and the same path?
+// Whether nodes i and j have the same from kind and the same path.
 fn alike(words: &[u64], used: usize, question: &[u8], i: usize, j: usize) -> bool
     requires { ⌜ Has (now question) (now words) used i × Has (now question) (now words) used j ⌝ }
     ensures { λ r. ⌜ Alike (now (question .entry)) (now (words .entry)) i j r ⌝ }
@@ -135,7 +135,7 @@ fn alike(words: &[u64], used: usize, question: &[u8], i: usize, j: usize) -> boo
     triples::same_path(words, used, question, i, j)
 }
 
-// Does one of the nodes p to i, i left out, give the same row as node i? A branch left drops the to kind of its left
+// Whether one of the nodes p to i, i left out, gives the same row as node i. A branch left drops the to kind of its left
 // triple, so nodes that differ only there do; the newest are tried first, since such nodes mostly stand side by side.
 fn repeats(words: &[u64], used: usize, question: &[u8], made: usize, p: usize, i: usize) -> bool
     requires { ⌜ Has (now question) (now words) used i × (p ≤ i) ⌝ }

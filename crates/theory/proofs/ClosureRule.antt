@@ -3,7 +3,8 @@
 use mathlib.Core.Path.{_≡_, refl, sym, subst}
 use mathlib.Core.Logic.{_⊎_, inl, inr}
 use mathlib.Core.Bool.{not}
-use mathlib.Core.List.{List, [], _∷_, List·Memᴰ as In, List·Memᴰ·head as here, List·Memᴰ·tail as there, List·Memᴰ·append-cases as in-append, List·Memᴰ·not-nil as in-nil, Memᴰ·append-left as in-left, Memᴰ·append-right as in-right}
+use mathlib.Core.List.{List, [], _∷_, List·Memᴰ as In, List·Memᴰ·head as here, List·Memᴰ·tail as there, List·Memᴰ·append-cases as in-append, List·Memᴰ·not-nil as in-nil}
+use mathlib.Core.List.{Memᴰ·append-left as in-left, Memᴰ·append-right as in-right}
 use Prim.Native.Nat.{ℕ, zero, suc, _≤_}
 use lib.Dec.{T, T-not, not-T, eqb→eq, eqb-refl}
 use Rattle.theory.specs.Lists.{filter}

@@ -29,8 +29,10 @@ module _ (S : Sheet) (r : Register) where
   unfolding breach conforms?
   of-breached (conforming t) =
       ap₂ or-else
-      (none-fails (kind-known? S) (r .kinds) (λ k m u. T-not (kind-known? S k) u (every-in (kind-known? S) (and-left (every? (kind-known? S) (r .kinds)) (every? (link-permitted? S r) (r .links)) t) m)) 0)
-      (none-fails (link-permitted? S r) (r .links) (λ e m u. T-not (link-permitted? S r e) u (every-in (link-permitted? S r) (and-right (every? (kind-known? S) (r .kinds)) (every? (link-permitted? S r) (r .links)) t) m)) (records r))
+      (none-fails (kind-known? S) (r .kinds) (λ k m u. T-not (kind-known? S k) u
+      (every-in (kind-known? S) (and-left (every? (kind-known? S) (r .kinds)) (every? (link-permitted? S r) (r .links)) t) m)) 0)
+      (none-fails (link-permitted? S r) (r .links) (λ e m u. T-not (link-permitted? S r e) u
+      (every-in (link-permitted? S r) (and-right (every? (kind-known? S) (r .kinds)) (every? (link-permitted? S r) (r .links)) t) m)) (records r))
   of-breached (unknown-kind {i = i} f) =
       ap (λ o. or-else o (first-failing (link-permitted? S r) (records r) (r .links)))
       (first-fails (kind-known? S) (first-map unknown known f) 0 ∙ ap some (zero-add i))

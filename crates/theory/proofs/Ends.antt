@@ -7,7 +7,8 @@ use mathlib.Core.List.{List, List·Memᴰ·append-cases as in-append}
 use Prim.Native.Nat.{ℕ, zero, suc, _<_}
 use Rattle.theory.specs.PathExpr.{Op, union, conjunction, branch-right, branch-left, PathExpr, step, join, op, closure}
 use Rattle.theory.specs.Sheet.{Sheet}
-use Rattle.theory.specs.Inference.{Triple, stepped?, of-step, pairs, end-to-end?, same-ends?, same-start?, joined, conjoined, branched-right, branched-left, of-join, of-op, reach, meets-cyclic?, acyclic?, walks, of-closure, triples, free}
+use Rattle.theory.specs.Inference.{Triple, stepped?, of-step, pairs, end-to-end?, same-ends?, same-start?, joined, conjoined, branched-right, branched-left, of-join, of-op, reach}
+use Rattle.theory.specs.Inference.{meets-cyclic?, acyclic?, walks, of-closure, triples, free}
 use Rattle.theory.proofs.Lists.{in-filter}
 use Rattle.theory.proofs.Triples.{in-distinct, in-pairs, between-ends}
 use Rattle.theory.proofs.Reach.{Inside}

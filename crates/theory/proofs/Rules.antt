@@ -4,7 +4,8 @@ use mathlib.Core.List.{List}
 use Prim.Native.Nat.{ℕ}
 use Rattle.theory.specs.PathExpr.{Direction, Via, Op, PathExpr, step, join, op, closure}
 use Rattle.theory.specs.Sheet.{Sheet}
-use Rattle.theory.specs.Derivation.{Triples, Step, Join, joins, Operate, union-left, union-right, conjoins, branches-right, branches-left, Walk, first, then, Cyclic, Closure, kept, unrolled, Derives}
+use Rattle.theory.specs.Derivation.{Triples, Step, Join, joins, Operate, union-left, union-right, conjoins, branches-right, branches-left, Walk, first, then, Cyclic, Closure, kept}
+use Rattle.theory.specs.Derivation.{unrolled, Derives}
 
 abbrev pub Sub : Triples → Triples → Type 0
 Sub P Q = (a : ℕ) (p : PathExpr) (b : ℕ) → P a p b → Q a p b

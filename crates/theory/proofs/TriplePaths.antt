@@ -1,9 +1,9 @@
 -- What holds of the paths of all triples of a question: their links are the question's; joins have sets, but for those in kept closures.
 -- Assumes nothing.
-use mathlib.Core.Path.{_≡_, sym, subst}
+use mathlib.Core.Path.{sym, subst}
 use mathlib.Core.Logic.{inl, inr}
 use mathlib.Core.Bool.{Bool}
-use mathlib.Core.List.{List, _++_, map, List·Memᴰ as In, List·Memᴰ·append-cases as in-append}
+use mathlib.Core.List.{List, _++_, List·Memᴰ as In, List·Memᴰ·append-cases as in-append}
 use Prim.Native.Nat.{ℕ, zero, suc, _<_}
 use lib.Pow.{pow-pos}
 use lib.Dec.{T}
@@ -11,8 +11,8 @@ use Rattle.theory.specs.Lists.{filter}
 use Rattle.theory.specs.KindSet.{singleton}
 use Rattle.theory.specs.PathExpr.{Direction, Via, any, through, Op, union, conjunction, branch-right, branch-left, PathExpr, step, join, op, closure, plain?, links?}
 use Rattle.theory.specs.Sheet.{Sheet}
-use Rattle.theory.specs.Inference.{Triple, stepped?, between, of-step, pairs, end-to-end?, joined, of-join, same-ends?, same-start?, conjoined, branched-right, branched-left, of-op, reach, meets-cyclic?, acyclic?, walks, of-closure, triples}
-use Rattle.theory.specs.Merging.{of-triple, members}
+use Rattle.theory.specs.Inference.{Triple, stepped?, between, of-step, pairs, end-to-end?, joined, of-join, same-ends?, same-start?, conjoined, branched-right, branched-left, of-op}
+use Rattle.theory.specs.Inference.{reach, meets-cyclic?, acyclic?, walks, of-closure, triples}
 use Rattle.theory.specs.JoinSets.{steps, joins, ops, closures, Inferred}
 use Rattle.theory.proofs.Tests.{and-left, and-right, and-both}
 use Rattle.theory.proofs.Lists.{in-filter}

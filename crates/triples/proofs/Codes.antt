@@ -5,7 +5,8 @@ use mathlib.Core.Logic.{⊎-elim}
 use mathlib.Core.List.{List}
 use Prim.Native.Nat.{ℕ, zero, suc, _+_, _-_, _<_}
 use native.Mathlib.Omega.{arith}
-use Rattle.theory.specs.PathExpr.{Direction, forward, reverse, Op, union, conjunction, branch-right, branch-left, PathExpr, step, join, op, closure, Symbol, s-step, s-join, s-op, s-closure, step-code, op-code, code}
+use Rattle.theory.specs.PathExpr.{Direction, forward, reverse, Op, union, conjunction, branch-right, branch-left, PathExpr, step, join, op, closure, Symbol, s-step, s-join, s-op, s-closure}
+use Rattle.theory.specs.PathExpr.{step-code, op-code, code}
 use Rattle.theory.specs.Inference.{Triple}
 use Rattle.symbols.specs.Symbols.{symbol-numbered}
 use Rattle.symbols.proofs.Numbers.{forward-number, reverse-number}

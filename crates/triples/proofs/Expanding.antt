@@ -98,7 +98,8 @@ module _ {qs ws : List ℕ} {used i at : ℕ} {xs ys : List ℕ} (h : Expandable
         pub last-room : (end < length xs₂) × (end < length ys₂) × (n .made < 256)
         last-room = let f = facts in omega (arith, h .codes-room, h .sets-room, known (h .has) n e)
 
-        pub join-done : {xs₃ ys₃ : List ℕ} {r k : ℕ} → n .made ≡ 128 → k ≡ singleton (node-at ws (n .left) .to .0) → PathWritten end (128 ∷ []) (k ∷ []) xs₂ ys₂ xs₃ ys₃ r → Expanded (triple-of qs ws i .path) at xs ys xs₃ ys₃ r
+        pub join-done : {xs₃ ys₃ : List ℕ} {r k : ℕ} → n .made ≡ 128 → k ≡ singleton (node-at ws (n .left) .to .0) → PathWritten end (128 ∷ []) (k ∷ []) xs₂ ys₂ xs₃ ys₃ r
+            → Expanded (triple-of qs ws i .path) at xs ys xs₃ ys₃ r
         join-done {xs₃} {ys₃} {r} j k c =
             subst (λ (p : PathExpr). Expanded p at xs ys xs₃ ys₃ r) (sym (join-path (h .has) n e l m j))
             (expanded-join p q (through (singleton (node-at ws (n .left) .to .0))) a b (wrote-as c refl (ap (λ (x : ℕ). x ∷ []) k)))

@@ -36,7 +36,8 @@ unfolding triple-of
 triple-kept {xs = xs} {ys} h qs k l = triple-same (suc k) (suc k) qs ys xs k (omega arith) (omega arith) (λ j m. h .below j (omega arith))
 
 -- a node whose operands stand below it
-pub triple-two : (qs ws : List ℕ) (i : ℕ) → node-at ws i .left < i → node-at ws i .right < i → triple-of qs ws i ≡ of-node qs (node-at ws i) (triple-of qs ws (node-at ws i .left)) (triple-of qs ws (node-at ws i .right))
+pub triple-two : (qs ws : List ℕ) (i : ℕ) → node-at ws i .left < i → node-at ws i .right < i
+    → triple-of qs ws i ≡ of-node qs (node-at ws i) (triple-of qs ws (node-at ws i .left)) (triple-of qs ws (node-at ws i .right))
 unfolding triple-of triple-at
 triple-two qs ws i l r =
     rw (lt-ltb (node-at ws i .left) i l, lt-ltb (node-at ws i .right) i r)
@@ -70,7 +71,8 @@ module _ (qs ws : List ℕ) (i : ℕ) where
   path-kept s = let b = path-built in b .2 ∙ ap (built qs (node-at ws i) (b .0) (b .1)) s
 
   module _ (l : node-at ws i .left < i) (r : node-at ws i .right < i) where
-    by-symbol : (s : Symbol) → symbol-numbered (node-at ws i .made) 0 ≡ s → triple-of qs ws i .path ≡ built qs (node-at ws i) (triple-of qs ws (node-at ws i .left)) (triple-of qs ws (node-at ws i .right)) s
+    by-symbol : (s : Symbol) → symbol-numbered (node-at ws i .made) 0 ≡ s
+        → triple-of qs ws i .path ≡ built qs (node-at ws i) (triple-of qs ws (node-at ws i .left)) (triple-of qs ws (node-at ws i .right)) s
     by-symbol s e = ap (λ (t : Triple). t .path) (triple-two qs ws i l r) ∙ ap (built qs (node-at ws i) (triple-of qs ws (node-at ws i .left)) (triple-of qs ws (node-at ws i .right))) e
 
     pub path-join : (v : Via) → symbol-numbered (node-at ws i .made) 0 ≡ s-join v

@@ -13,7 +13,19 @@ use Rattle.triples.specs.Table.{word-of, unpacked, InRange, node-at}
 pub unpacked-word : (n : Node) → InRange n → unpacked (word-of n) ≡ n
 unfolding unpacked
 unpacked-word n h =
-    rw (digits-mod _ (h .to-fits), digits-div _ (h .to-fits), digits-mod _ (h .from-fits), digits-div _ (h .from-fits), digits-mod _ (h .size-fits), digits-div _ (h .size-fits), digits-mod _ (h .right-fits), digits-div _ (h .right-fits), digits-mod _ (h .left-fits), digits-div _ (h .left-fits))
+    rw (
+      digits-mod _ (h .to-fits),
+      digits-div _ (h .to-fits),
+      digits-mod _ (h .from-fits),
+      digits-div _ (h .from-fits),
+      digits-mod _ (h .size-fits),
+      digits-div _ (h .size-fits),
+      digits-mod _
+          (h .right-fits),
+      digits-div _ (h .right-fits),
+      digits-mod _ (h .left-fits),
+      digits-div _ (h .left-fits),
+    )
 
 pub node-new : (ws : List ℕ) (u : ℕ) (n : Node) → u < length ws → InRange n → node-at (set ws u (word-of n)) u ≡ n
 node-new ws u n l h = ap unpacked (getD-set-same ws u (word-of n) 0 l) ∙ unpacked-word n h

@@ -13,7 +13,8 @@ use Rattle.theory.specs.JoinSets.{set-of}
 use Rattle.triples.specs.Expansion.{PathWritten, Expanded}
 
 -- ---- one after the other
-pub wrote-then : {at mid end : ℕ} {cs ss cs₂ ss₂ xs ys xs₁ ys₁ xs₂ ys₂ : List ℕ} → PathWritten at cs ss xs ys xs₁ ys₁ mid → PathWritten mid cs₂ ss₂ xs₁ ys₁ xs₂ ys₂ end → PathWritten at (cs ++ cs₂) (ss ++ ss₂) xs ys xs₂ ys₂ end
+pub wrote-then : {at mid end : ℕ} {cs ss cs₂ ss₂ xs ys xs₁ ys₁ xs₂ ys₂ : List ℕ} → PathWritten at cs ss xs ys xs₁ ys₁ mid → PathWritten mid cs₂ ss₂ xs₁ ys₁ xs₂ ys₂ end
+    → PathWritten at (cs ++ cs₂) (ss ++ ss₂) xs ys xs₂ ys₂ end
 wrote-then {at} {mid} {end} {cs} {ss} {cs₂} {ss₂} {xs} {ys} p q =
     record {
       codes-are = q .codes-are ∙ rw (p .codes-are, p .ends) (sets-append cs cs₂ xs at);
@@ -51,8 +52,10 @@ module _ (p q : PathExpr) {at mid end r : ℕ} {xs ys xs₁ ys₁ xs₂ ys₂ xs
       → Expanded (join v p q) at xs ys xs₃ ys₃ r
   expanded-join v a b c = wrote-as (wrote-then a (wrote-then b c)) (sym (simp map-append)) (sym (simp map-append))
 
-  pub expanded-op : (o : Op) → Expanded p at xs ys xs₁ ys₁ mid → Expanded q mid xs₁ ys₁ xs₂ ys₂ end → PathWritten end (op-code o ∷ []) (0 ∷ []) xs₂ ys₂ xs₃ ys₃ r → Expanded (op o p q) at xs ys xs₃ ys₃ r
+  pub expanded-op : (o : Op) → Expanded p at xs ys xs₁ ys₁ mid → Expanded q mid xs₁ ys₁ xs₂ ys₂ end → PathWritten end (op-code o ∷ []) (0 ∷ []) xs₂ ys₂ xs₃ ys₃ r
+      → Expanded (op o p q) at xs ys xs₃ ys₃ r
   expanded-op o a b c = wrote-as (wrote-then a (wrote-then b c)) (sym (simp map-append)) (sym (simp map-append))
 
-pub expanded-closure : (p : PathExpr) {at mid r : ℕ} {xs ys xs₁ ys₁ xs₂ ys₂ : List ℕ} → Expanded p at xs ys xs₁ ys₁ mid → PathWritten mid (133 ∷ []) (0 ∷ []) xs₁ ys₁ xs₂ ys₂ r → Expanded (closure p) at xs ys xs₂ ys₂ r
+pub expanded-closure : (p : PathExpr) {at mid r : ℕ} {xs ys xs₁ ys₁ xs₂ ys₂ : List ℕ} → Expanded p at xs ys xs₁ ys₁ mid → PathWritten mid (133 ∷ []) (0 ∷ []) xs₁ ys₁ xs₂ ys₂ r
+    → Expanded (closure p) at xs ys xs₂ ys₂ r
 expanded-closure p a c = wrote-as (wrote-then a c) (sym (simp map-append)) (sym (simp map-append))

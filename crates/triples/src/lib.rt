@@ -2,7 +2,7 @@
 use fields::Kind;
 ghost use mathlib.Core.Path.{_≡_};
 ghost use mathlib.Core.List.{[], _∷_};
-ghost use Prim.Native.Nat.{ℕ, _+_, _-_, _<_, _≤_};
+ghost use Prim.Native.Nat.{_+_, _-_, _<_, _≤_};
 ghost use lib.ListN.{length, set, take, drop, replicate};
 ghost use Rattle.theory.specs.Lists.{some?};
 ghost use Rattle.theory.specs.Inference.{triple?};
@@ -135,7 +135,7 @@ pub fn expand(
     mark(codes, vias, end, made, 0)
 }
 
-// Do n symbols of the question from s on equal m symbols from t on?
+// Whether n symbols of the question from s on equal m symbols from t on.
 fn same_codes(question: &[u8], s: usize, n: usize, t: usize, m: usize) -> bool
     requires { ⌜ (s + n ≤ length (now question)) × (t + m ≤ length (now question)) ⌝ }
     ensures { λ r. ⌜ Decides (take n (drop s (now (question .entry))) ≡ take m (drop t (now (question .entry)))) r ⌝ }
@@ -153,7 +153,7 @@ fn same_codes(question: &[u8], s: usize, n: usize, t: usize, m: usize) -> bool
     true
 }
 
-// Have nodes a and b the same path? Paths share their operands, so that most comparisons end where two nodes
+// Whether nodes a and b have the same path. Paths share their operands, so that most comparisons end where two nodes
 // are one; the last symbols of the right operands come first, since a chain of joins often differs there.
 pub fn same_path(words: &[u64], used: usize, question: &[u8], a: usize, b: usize) -> bool
     requires { ⌜ Has (now question) (now words) used a × Has (now question) (now words) used b ⌝ }
@@ -188,7 +188,7 @@ pub fn same_path(words: &[u64], used: usize, question: &[u8], a: usize, b: usize
     same_path(words, used, question, x.right, y.right)
 }
 
-// Are the triples at nodes a and b equal?
+// Whether the triples at nodes a and b are equal.
 pub fn same(words: &[u64], used: usize, question: &[u8], a: usize, b: usize) -> bool
     requires { ⌜ Has (now question) (now words) used a × Has (now question) (now words) used b ⌝ }
     ensures { λ r. ⌜ r ≡ triple? (triple-of (now (question .entry)) (now (words .entry)) a) (triple-of (now (question .entry)) (now (words .entry)) b) ⌝ }
@@ -204,7 +204,7 @@ pub fn same(words: &[u64], used: usize, question: &[u8], a: usize, b: usize) -> 
     same_path(words, used, question, a, b)
 }
 
-// Is the triple of node u among those of nodes s to u - 1? The newest come first: under a branch right a triple
+// Whether the triple of node u is among those of nodes s to u - 1. The newest come first: under a branch right a triple
 // repeats the one just added.
 fn stands(words: &[u64], question: &[u8], s: usize, u: usize) -> bool
     requires { ⌜ Has (now question) (now words) (u + 1) u × (s ≤ u) ⌝ }

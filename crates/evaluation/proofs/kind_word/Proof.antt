@@ -15,7 +15,7 @@ use Rattle.evaluation.proofs.kind_word.Statement.{statement}
 use Rattle.evaluation.proofs.kind_word.Tie as tie
 use Rattle.evaluation.proofs.kind_word.Reads as reads
 use Rattle.evaluation.proofs.kind_word.Lts as lts
-use Rattle.evaluation.proofs.wide.Reads as wide-reads
+use Rattle.evaluation.proofs.kind_index.Reads as kind-index-reads
 use Rattle.register.proofs.kind_at.Reads as kind-at-reads
 
 abbrev Inv-loop : tie.InvT-loop
@@ -33,15 +33,15 @@ add-kind-at c = omega (arith, accepted-register _ _ (c .before .before .before .
 kind-at-requires : tie.Need-kind-at-requires Inv-loop μ-loop
 kind-at-requires c κs = search needs
 
-wide-requires : tie.Need-wide-requires Inv-loop μ-loop
-wide-requires c κs = search needs
+kind-index-requires : tie.Need-kind-index-requires Inv-loop μ-loop
+kind-index-requires c κs = search needs
 
 shr-v : tie.Need-shr-v Inv-loop μ-loop
 shr-v c =
     let c3 = c .before .before .before in
     let c5 = c3 .before .before in
     let k = accepted-register _ _ (c5 .pre .0) .kinds (c5 .args .g + c3 .loop .i) in
-    omega (arith, c .wide .ensures, c .before .kind-at .ensures)
+    omega (arith, c .kind-index .ensures, c .before .kind-at .ensures)
 
 shl-v : tie.Need-shl-v Inv-loop μ-loop
 shl-v c = search needs
@@ -56,7 +56,7 @@ loop-again : tie.Need-loop-again Inv-loop μ-loop
 loop-again c =
     let c3 = c .before .before .before in
     let c5 = c3 .before .before in
-    (omega arith, word-more _ (c3 .loop .inv .1) (kind-moved (c5 .args .set) (c3 .loop .i) _ (c .wide .ensures) (c .before .kind-at .ensures) (omega arith)))
+    (omega arith, word-more _ (c3 .loop .inv .1) (kind-moved (c5 .args .set) (c3 .loop .i) _ (c .kind-index .ensures) (c .before .kind-at .ensures) (omega arith)))
 
 returns : tie.Need-returns Inv-loop μ-loop
 returns c = let e : c .before .loop .i ≡ c .before .before .before .args .m = omega arith in rw e at (c .before .loop .inv .1)
@@ -70,7 +70,7 @@ kind-word-spec =
     loop-holds
     add-kind-at
     kind-at-requires
-    wide-requires
+    kind-index-requires
     shr-v
     shl-v
     add-i

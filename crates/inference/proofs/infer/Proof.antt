@@ -15,7 +15,8 @@ use Rattle.inference.proofs.Turning.{Running, enough, turn-at}
 use Rattle.inference.proofs.Running.{running-start, running-many, running-long, running-more, running-end}
 
 abbrev Inv-loop : tie.InvT-loop
-Inv-loop words₀ question count table kinds parts₀ depth₀ used₀ i₀ words parts depth used i = (h : Asking question words₀ count kinds) × Running question words₀ words table count kinds (h .path) parts depth used i
+Inv-loop words₀ question count table kinds parts₀ depth₀ used₀ i₀ words parts depth used i = (h : Asking question words₀ count kinds) × Running question words₀ words table count kinds
+    (h .path) parts depth used i
 
 abbrev μ-loop : tie.MeasureT-loop
 μ-loop words₀ question count table kinds parts₀ depth₀ used₀ i₀ words parts depth used i = count - i

@@ -14,7 +14,7 @@ use Rattle.kind_rows.proofs.fill.Statement.{statement}
 use Rattle.kind_rows.proofs.fill.Tie as tie
 use Rattle.kind_rows.proofs.fill.Reads as reads
 use Rattle.kind_rows.proofs.fill.Lts as lts
-use Rattle.evaluation.proofs.wide.Reads as wide-reads
+use Rattle.evaluation.proofs.kind_index.Reads as kind-index-reads
 use Rattle.register.proofs.kind_at.Reads as kind-at-reads
 use Rattle.rows.proofs.clear.Reads as clear-reads
 use Rattle.rows.proofs.set.Reads as set-reads
@@ -40,8 +40,8 @@ loop-holds c =
 kind-at-requires : tie.Need-kind-at-requires Inv-loop μ-loop
 kind-at-requires c κs = omega (arith, c .loop-test .taken, c .before .before .before .before .before .before .before .before .pre .1 .count)
 
-wide-requires : tie.Need-wide-requires Inv-loop μ-loop
-wide-requires c κs = search needs
+kind-index-requires : tie.Need-kind-index-requires Inv-loop μ-loop
+kind-index-requires c κs = search needs
 
 mul-set : tie.Need-mul-set Inv-loop μ-loop
 mul-set c =
@@ -50,8 +50,8 @@ mul-set c =
     let c4 = c2 .before .before in
     let c11 = c4 .before .before .before .before .before .before .before in
     let p = c11 .pre in
-    let e : c1 .wide .result < 64 = (let e = limits (c11 .pre .1) .kinds (c4 .loop .t) in
-    omega (arith, c1 .wide .ensures, c2 .kind-at .ensures, e)) in omega (arith, row-le (c11 .args .w) e, narrow (p .1))
+    let e : c1 .kind-index .result < 64 = (let e = limits (c11 .pre .1) .kinds (c4 .loop .t) in
+    omega (arith, c1 .kind-index .ensures, c2 .kind-at .ensures, e)) in omega (arith, row-le (c11 .args .w) e, narrow (p .1))
 
 set-requires : tie.Need-set-requires Inv-loop μ-loop
 set-requires c κs =
@@ -61,8 +61,8 @@ set-requires c κs =
     let c4 = c3 .before in
     let c11 = c4 .before .before .before .before .before .before .before in
     let p = c11 .pre in
-    let e : c1 .wide .result < 64 = (let e = limits (c11 .pre .1) .kinds (c4 .loop .t) in
-    omega (arith, c1 .wide .ensures, c2 .kind-at .ensures, e)) in omega (arith, row-le (c11 .args .w) e, c4 .loop .inv .1 .room, rows-hold (p .1), c3 .loop-test .taken)
+    let e : c1 .kind-index .result < 64 = (let e = limits (c11 .pre .1) .kinds (c4 .loop .t) in
+    omega (arith, c1 .kind-index .ensures, c2 .kind-at .ensures, e)) in omega (arith, row-le (c11 .args .w) e, c4 .loop .inv .1 .room, rows-hold (p .1), c3 .loop-test .taken)
 
 add-t : tie.Need-add-t Inv-loop μ-loop
 add-t c = search needs
@@ -84,8 +84,8 @@ loop-again c =
     let k = limits (p .1) .kinds (l .t) in
     let h : l .t / 64 < a .w = omega (arith, rows-hold (p .1), c6 .loop-test .taken) in (
       omega (arith, c6 .loop-test .taken),
-      kinds-more (c4 .wide .result) (l .inv .1) (c2 .set .ensures) (c4 .wide .ensures ∙ c5 .kind-at .ensures)
-          (omega (arith, c4 .wide .ensures, c5 .kind-at .ensures, k)) h,
+      kinds-more (c4 .kind-index .result) (l .inv .1) (c2 .set .ensures) (c4 .kind-index .ensures ∙ c5 .kind-at .ensures)
+          (omega (arith, c4 .kind-index .ensures, c5 .kind-at .ensures, k)) h,
       c2 .set .ensures (a .w) h .kept .len ∙ l .inv .2,
     )
 
@@ -105,7 +105,7 @@ fill-spec =
     clear-requires
     loop-holds
     kind-at-requires
-    wide-requires
+    kind-index-requires
     mul-set
     set-requires
     add-t

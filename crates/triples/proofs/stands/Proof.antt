@@ -16,7 +16,8 @@ use Rattle.triples.proofs.stands.Lts as lts
 use Rattle.triples.proofs.same.Reads as same-reads
 
 abbrev Inv-loop : tie.InvT-loop
-Inv-loop words question s u j₀ j = (s ≤ j) × (j ≤ u) × (some? (triple? (triple-of question words u)) (part-of question words s (u - s)) ≡ some? (triple? (triple-of question words u)) (part-of question words s (j - s)))
+Inv-loop words question s u j₀ j = (s ≤ j) × (j ≤ u) × (some? (triple? (triple-of question words u)) (part-of question words s (u - s)) ≡ some? (triple? (triple-of question words u))
+    (part-of question words s (j - s)))
 
 abbrev μ-loop : tie.MeasureT-loop
 μ-loop words question s u j₀ j = j

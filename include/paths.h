@@ -3,9 +3,9 @@
  * Files are bytes in memory, in the form that the specification gives; the readers take any bytes of any length, and refuse by number
  * and place. No call relies on an earlier one: each reads its files anew.
  *   sheet      kinds, link names and permitted triples        at most  3,077 bytes
- *   question   a path of 1 to 32 symbols                      at most    164 bytes
+ *   question   a path of 1 to 32 symbols                      at most    148 bytes
  *   register   N records (0 to 1,024) and their links         at most 36,871 bytes
- *   narrowed   a narrowed question: members with kind sets    at most 70,149 bytes
+ *   narrowed   a narrowed question: members with kind sets    at most 50,821 bytes
  *
  * Areas are lent by the caller, of any length and with any contents; a length counts elements.
  *   work       words to work in: PATHS_NARROW_WORK, PATHS_ANSWER_WORK(N), PATHS_JOB_WORK(N)
@@ -91,7 +91,7 @@ enum {
 #define PATHS_ANSWER_WORK(n) (28 * PATHS_ANSWER_WORDS(n))
 #define PATHS_NARROW_WORK ((size_t)8192)
 #define PATHS_JOB_WORK(n) (PATHS_ANSWER_WORK(n) < PATHS_NARROW_WORK ? PATHS_NARROW_WORK : PATHS_ANSWER_WORK(n))
-#define PATHS_FILE_BYTES ((size_t)70149)
+#define PATHS_FILE_BYTES ((size_t)50821)
 
 /* Does the register obey the sheet? */
 uint64_t paths_check(const uint8_t *sheet, size_t sheet_length,

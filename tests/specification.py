@@ -6,7 +6,7 @@ takes every item of the blocks marked `example`. A file has to be read, or refus
 narrowed and shortened files, and what calls tell, have to be those of reference/calls.py and of the library, and both have to leave
 every word and byte of every area alike. What is printed has to be what reference/program.py and the program print. The program in C is
 compiled with the header and run. Bytes in the running text have to be whole fields or kind sets, and the tables of tags and of symbols
-those of reference/files.py. `--library ""` or `--program ""` leaves that one out.
+those of reference/files.py; the files that the table of places names have to be there. `--library ""` or `--program ""` leaves that one out.
 
 Whatever differs is printed with its line, and the exit status is 1. So it is if a block or an item has a form that is not known, if
 nothing is said of a file, or if a symbol, a call, or a refusal of a file or of a call has no example.
@@ -348,6 +348,21 @@ def symbol_faults(text: list) -> Iterator:
         yield Fault(1, "the table of symbols has not each symbol")
 
 
+def place_faults(text: list) -> Iterator:
+    """Each section of the table of places is one of this document, and each file that it names is there."""
+    titles = {line.lstrip("# ") for line in text if line.startswith("##")}
+    rows = table(text, "section", "definition", "code", "proof")
+    if not rows:
+        yield Fault(1, "no table says where the sections stand")
+    for number, (sections, *places) in rows:
+        for title in sections.split(", "):
+            if title.removeprefix("but ") not in titles:
+                yield Fault(number, f"no section has the title {title}")
+        for place in re.findall(r"[a-z_]+/(?:specs|src|proofs)/[\w/]+\.(?:antt|rt)", " ".join(places)):
+            if not (ROOT / "crates" / place).is_file():
+                yield Fault(number, f"there is no file crates/{place}")
+
+
 # All of it, held against the programs.
 
 class Programs(NamedTuple):
@@ -398,7 +413,7 @@ def output_faults(block: Block, line: int, expected: str, programs: Programs) ->
 
 
 def faults(text: list, examples: Examples, in_c: list, programs: Programs) -> Iterator:
-    for part in (text_faults, tag_faults, symbol_faults):
+    for part in (text_faults, tag_faults, symbol_faults, place_faults):
         yield from part(text)
     for check in examples.checks:
         yield from check_faults(check, programs)

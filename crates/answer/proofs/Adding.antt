@@ -14,6 +14,7 @@ use Rattle.theory.specs.Register.{Register}
 use Rattle.theory.specs.Merging.{member}
 use Rattle.theory.specs.Evaluation.{member-answer, narrowed-answer}
 use Rattle.symbols.specs.Symbols.{symbols-given}
+use Rattle.symbols.proofs.Numbers.{length-given}
 use Rattle.narrowed_question.specs.declared.Members.{Members}
 use Rattle.narrowed_question.specs.Form.{Flat, flat}
 use Rattle.narrowed_question.specs.Formed.{InOrder}
@@ -40,10 +41,6 @@ rest-more q i k h =
     let a : q .count - i ≡ suc (q .count - (i + 1)) = omega arith in
     let b : suc i ≡ i + 1 = omega arith in
     ap (λ (n : ℕ). members-given q n i k) a ∙ ap (λ (j : ℕ). member-at q i k ∷ members-given q (q .count - (i + 1)) j (k + getD (q .sizes) i 0)) b
-
-length-given : (ns ms : List ℕ) (n k : ℕ) → length (symbols-given ns ms n k) ≡ n
-length-given ns ms zero k = refl
-length-given ns ms (suc n) k = ap suc (length-given ns ms n (suc k))
 
 given-length : (q : Members) → length (given q) ≡ q .count
 unfolding given

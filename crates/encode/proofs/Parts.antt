@@ -13,6 +13,7 @@ use Rattle.narrowed_question.specs.declared.Members.{Members}
 use Rattle.narrowed_question.specs.Form.{Flat, flat}
 use Rattle.fields.specs.Writing.{two-bytes, eight-bytes, field-bytes}
 use Rattle.symbols.specs.Writing.{symbol-bytes, symbols-bytes}
+use Rattle.symbols.proofs.Numbers.{length-given}
 use Rattle.narrowed_question.specs.Writing.{member-bytes, members-bytes, encode}
 use Rattle.symbols.specs.Symbols.{symbol-given, symbols-given}
 use Rattle.narrowed_question.specs.ArrayMembers.{members-given, given}
@@ -60,14 +61,10 @@ symbols-more a b n k h =
     ∙ ap (λ (j : ℕ). symbol-bytes (symbol-given (getD a k 0) (getD b k 0)) ++ symbols-bytes (symbols-given a b (n - 1) j)) (let z : suc k ≡ k + 1 = omega arith in z)
 
 -- ---- a member
-pub symbols-many : (a b : List ℕ) (n k : ℕ) → length (symbols-given a b n k) ≡ n
-symbols-many a b zero k = refl
-symbols-many a b (suc n) k = ap suc (symbols-many a b n (suc k))
-
 pub member-parts : (a b : List ℕ) (n k f t : ℕ)
     → member-bytes (flat f t (symbols-given a b n k)) ≡ field-bytes 0x42 (n ∷ (eight-bytes f ++ eight-bytes t)) ++ symbols-bytes (symbols-given a b n k)
 member-parts a b n k f t =
-    ap (λ (c : ℕ). field-bytes 0x42 (c ∷ (eight-bytes f ++ eight-bytes t)) ++ symbols-bytes (symbols-given a b n k)) (symbols-many a b n k)
+    ap (λ (c : ℕ). field-bytes 0x42 (c ∷ (eight-bytes f ++ eight-bytes t)) ++ symbols-bytes (symbols-given a b n k)) (length-given a b n k)
 
 pub member-wrote : {o p q : List ℕ} {at x y : ℕ} (a b : List ℕ) (n k f t : ℕ) → BytesWritten o p at x (field-bytes 0x42 (n ∷ (eight-bytes f ++ eight-bytes t)))
     → BytesWritten p q x y (symbols-bytes (symbols-given a b n k)) → BytesWritten o q at y (member-bytes (flat f t (symbols-given a b n k)))

@@ -1,9 +1,9 @@
 -- An array filled from the front.
 -- Assumes nothing.
-use Prim.Native.Nat.{ℕ, _-_, _<_, _≤_}
+use Prim.Native.Nat.{ℕ, zero, suc, _-_, _<_, _≤_}
 use mathlib.Core.Path.{_≡_, refl, ap, _∙_, sym}
 use mathlib.Core.List.{List, [], _∷_, _++_, append-assoc}
-use lib.ListN.{length, set, replicate, length-append, length-replicate}
+use lib.ListN.{length, getD, set, replicate, length-append, length-replicate}
 use lib.Seq.{set-at}
 use native.Mathlib.Omega.{arith}
 use Rattle.fields.specs.Padded.{padded}
@@ -23,3 +23,9 @@ pad-set n xs v h =
 pub pad-length : (n : ℕ) (xs : List ℕ) → length xs ≤ n → length (padded n xs) ≡ n
 unfolding padded
 pad-length n xs h = length-append xs (replicate (n - length xs) 0) ∙ omega (arith, length-replicate {A = ℕ} (n - length xs) 0)
+
+-- an array of zeros has 0 everywhere, past its end too
+pub zero-at : (n i : ℕ) → _≡_ {A = ℕ} (getD (replicate n 0) i 0) 0
+zero-at zero i = refl
+zero-at (suc n) zero = refl
+zero-at (suc n) (suc i) = zero-at n i

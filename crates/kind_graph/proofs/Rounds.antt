@@ -23,6 +23,7 @@ use Rattle.triples.specs.Paths.{triple-of}
 use Rattle.triples.specs.Parts.{part-of, span}
 use Rattle.triples.proofs.Triples.{triple-from, triple-to}
 use Rattle.triples.proofs.Growing.{part-next, part-over}
+use Rattle.fields.proofs.Padded.{zero-at}
 use Rattle.kind_graph.specs.Sizes.{Part, largest, to-kind, extended, size-of, weight, Raised, Raising, AtMost, Small}
 use Rattle.kind_graph.proofs.LongestWalks.{best, best-none, rounds-short, round-long}
 
@@ -106,11 +107,6 @@ pub record Rounds (fs : List Triple) (n : ℕ) (xs : List ℕ) : Type 0 where
   pub is : (k : ℕ) → getD xs k 0 ≡ best fs n k
   pub below : (m k : ℕ) → m ≤ n → best fs m k ≤ 48
 
-zeros : (n k : ℕ) → _≡_ {A = ℕ} (getD (replicate n 0) k 0) 0
-zeros zero k = refl
-zeros (suc n) zero = refl
-zeros (suc n) (suc k) = zeros n k
-
 -- a number over 48 ends it
 not-small : (fs : List Triple) (n : ℕ) (xs : List ℕ) → n ≤ 24 → ((k : ℕ) → getD xs k 0 ≡ best fs n k) → ¬ Small xs → false ≡ short? (walks 24 fs fs)
 not-small fs n xs h is not = go (short? (walks 24 fs fs)) refl
@@ -122,7 +118,7 @@ not-small fs n xs h is not = go (short? (walks 24 fs fs)) refl
 
 module _ {fs : List Triple} where
   first-is : {xs : List ℕ} → Raising size-of fs (replicate 64 0) xs → (k : ℕ) → getD xs k 0 ≡ best fs 0 k
-  first-is r k = omega (arith, r .at k, zeros 64 k)
+  first-is r k = omega (arith, r .at k, zero-at 64 k)
 
   pub first-long : {xs : List ℕ} → Raising size-of fs (replicate 64 0) xs → ¬ Small xs → false ≡ short? (walks 24 fs fs)
   first-long {xs} r not = not-small fs 0 xs (omega arith) (first-is r) not
@@ -136,7 +132,7 @@ module _ {fs : List Triple} where
     same-weight k (t ∷ ts) = ap₂ max (ap (λ (b : ℕ). cond (eqb (t .to) k) (extended b (size (t .path))) 0) (g .is (t .from))) (same-weight k ts)
 
     round-is : (k : ℕ) → getD ys k 0 ≡ best fs (n + 1) k
-    round-is k = rw (add-one n) (omega (arith, r .at k, zeros 64 k, same-weight k fs))
+    round-is k = rw (add-one n) (omega (arith, r .at k, zero-at 64 k, same-weight k fs))
 
     pub rounds-turn : Small ys → Rounds fs (n + 1) ys
     rounds-turn h =

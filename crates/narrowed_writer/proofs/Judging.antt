@@ -21,7 +21,8 @@ use Rattle.narrowed_question.specs.Form.{order-codes, numbers}
 use Rattle.narrowed_question.specs.ArrayMembers.{members-given, given}
 use Rattle.narrowed_question.specs.Contract.{segment-codes}
 use Rattle.narrowed_question.proofs.ArraysFilled.{codes-numbers}
-use Rattle.encode.proofs.Parts.{symbols-many, members-many}
+use Rattle.symbols.proofs.Numbers.{length-given}
+use Rattle.encode.proofs.Parts.{members-many}
 use Rattle.encode.specs.BytesWritten.{Few}
 use Rattle.encode.specs.Size.{symbol-size}
 use Rattle.narrowed_writer.specs.Verdict.{symbol?, offered, path-verdict, member-verdict, members-verdict, verdict}
@@ -168,7 +169,7 @@ module _ {q : Members} {i at prev first : ℕ} (r : AtMember q i at prev first) 
 
     same : member-verdict at (length xs) (numbers xs) ≡ member-verdict at size found
     same =
-        ap (λ (n : ℕ). member-verdict at n (numbers xs)) (symbols-many (q .numbers) (q .sets) size first)
+        ap (λ (n : ℕ). member-verdict at n (numbers xs)) (length-given (q .numbers) (q .sets) size first)
         ∙ member-same at size (numbers xs) found (λ z. given-numbers (q .numbers) (q .sets) size first (omega (arith, r .used, r .few)))
 
     step-member : onward onwards (member-verdict at size found) ≡ verdict (given q)
@@ -223,7 +224,7 @@ members-few q (suc n) i k prev at next e j h =
     let ys = symbols-given (q .numbers) (q .sets) (getD (q .sizes) i 0) k in
     let (a, f, e′) = onward-got (λ b. cond (before? prev (order-codes ys)) (members-verdict (order-codes ys) b (members-given q n (suc i) (k + getD (q .sizes) i 0))) (refused 4 at))
     (member-verdict at (length ys) (numbers ys)) next e in
-    let here : getD (q .sizes) i 0 ≤ 48 = subst (λ (m : ℕ). m ≤ 48) (symbols-many (q .numbers) (q .sets) (getD (q .sizes) i 0) k) (member-few at (length ys) (numbers ys) a f .0) in
+    let here : getD (q .sizes) i 0 ≤ 48 = subst (λ (m : ℕ). m ≤ 48) (length-given (q .numbers) (q .sets) (getD (q .sizes) i 0) k) (member-few at (length ys) (numbers ys) a f .0) in
     let on = cond-then (before? prev (order-codes ys)) (not-got 4 at next) e′ .1 in
     by-index j h here (members-few q n (suc i) (k + getD (q .sizes) i 0) (order-codes ys) a next on)
   where

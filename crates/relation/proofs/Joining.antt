@@ -15,6 +15,7 @@ use Rattle.bits.specs.Bit.{bitOf, Lowest}
 use Rattle.bits.proofs.Bits.{bit-zero, bit-shr, bit-high, bit-and}
 use Rattle.theory.specs.Lists.{some?, range}
 use Rattle.theory.specs.Evaluation.{join?}
+use Rattle.theory.proofs.Tests.{and-left, of-true, to-true}
 use Rattle.rows.specs.Row.{row-bit, Row}
 use Rattle.rows.proofs.Words.{le-or-lt}
 use Rattle.rows.proofs.Ranges.{some-suc, some-same, some-none, some-no, some-add, some-skip, some-cut}
@@ -118,15 +119,13 @@ row-word xs r i j h =
 masked-word : (fs ms : List ℕ) (d m i j : ℕ) → j < 64 → bitOf (bitAnd (getD fs (d + i) 0) (getD ms (m + i) 0)) j ≡ row-bit fs d (64 * i + j) && row-bit ms m (64 * i + j)
 masked-word fs ms d m i j h = bit-and (getD fs (d + i) 0) (getD ms (m + i) 0) j ∙ ap₂ _&&_ (sym (row-word fs d i j h)) (sym (row-word ms m i j h))
 
-and-left : (a b : Bool) → a && b ≡ true → a ≡ true
-and-left true b e = refl
-and-left false b e = e
-
 -- a bit of such a word stands for a record
 pub word-clean : (fs ms : List ℕ) (d m n w i : ℕ) → CleanRow fs d n w → i < w → getD fs (d + i) 0 < 2 ^ 64
     → (j : ℕ) → bitOf (bitAnd (getD fs (d + i) 0) (getD ms (m + i) 0)) j ≡ true → 64 * i + j < n
 word-clean fs ms d m n w i c h l j e =
-    let b : bitOf (getD fs (d + i) 0) j ≡ true = and-left _ (bitOf (getD ms (m + i) 0) j) (sym (bit-and (getD fs (d + i) 0) (getD ms (m + i) 0) j) ∙ e) in
+    let f = bitOf (getD fs (d + i) 0) j in
+    let g = bitOf (getD ms (m + i) 0) j in
+    let b : f ≡ true = to-true f (and-left f g (of-true (f && g) (sym (bit-and (getD fs (d + i) 0) (getD ms (m + i) 0) j) ∙ e))) in
     let k = bit-below 64 (getD fs (d + i) 0) j l b in
     c (64 * i + j) (omega arith) (row-word fs d i j k ∙ b)
 

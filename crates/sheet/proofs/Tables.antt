@@ -3,7 +3,7 @@
 use mathlib.Core.Path.{_≡_, refl, ap, ap₂, sym, _∙_}
 use mathlib.Core.Bool.{Bool, true, false, _&&_, _||_, or-false, or-assoc}
 use mathlib.Core.List.{List, [], _∷_, _++_, foldl, foldl-append}
-use Prim.Native.Nat.{ℕ, zero, suc, _+_, _*_, _<_}
+use Prim.Native.Nat.{ℕ, _+_, _*_, _<_}
 use native.Mathlib.Omega.{arith}
 use lib.Dec.{T, eqb, ltb→lt}
 use lib.ListN.{length, getD, set, replicate, length-set, length-replicate}
@@ -16,18 +16,13 @@ use Rattle.theory.specs.Register.{Edge, edge, same-edge?}
 use Rattle.theory.specs.Sheet.{Sheet, sizes?, in-range?, sheet?, permits?}
 use Rattle.theory.proofs.Tests.{tests, and-left, and-right}
 use Rattle.theory.proofs.Sheet.{kinds-fit, names-fit}
+use Rattle.fields.proofs.Padded.{zero-at}
 use Rattle.sheet.specs.Table.{cell, permit, table-of}
 
 -- one triple more, at the end
 pub table-more : (es : List Edge) (e : Edge) → table-of (es ++ (e ∷ [])) ≡ permit (table-of es) e
 unfolding table-of
 table-more es e = foldl-append permit (replicate 4096 0) es (e ∷ [])
-
--- an empty table has no bit
-none-at : (n i : ℕ) → _≡_ {A = ℕ} (getD (replicate n 0) i 0) 0
-none-at zero i = refl
-none-at (suc n) zero = refl
-none-at (suc n) (suc i) = none-at n i
 
 module _ (a l b : ℕ) (ha : a < 64) where
   -- one triple sets its own bit alone
@@ -74,5 +69,5 @@ pub table-permits : (S : Sheet) → T (sheet? S) → (a l b : ℕ) → a < 64 �
 unfolding table-of permits? sheet?
 table-permits S ok a l b ha =
     fold-bit a l b ha S ok (S .permitted) (replicate 4096 0) (length-replicate {A = ℕ} 4096 0) (and-right (sizes? S) (every? (in-range? S) (S .permitted)) ok)
-    ∙ ap (λ x. bitOf x b || some? (same-edge? (edge a l b)) (S .permitted)) (none-at 4096 (l * 64 + a))
+    ∙ ap (λ x. bitOf x b || some? (same-edge? (edge a l b)) (S .permitted)) (zero-at 4096 (l * 64 + a))
     ∙ ap (λ x. x || some? (same-edge? (edge a l b)) (S .permitted)) (bit-zero b)

@@ -14,9 +14,7 @@ use Rattle.theory.specs.PathExpr.{forward, reverse, any, through, union, conjun
 use Rattle.theory.specs.PathExpr.{Symbol, s-step, s-join, s-op, s-closure, postfix, size, code, codes, links?}
 use Rattle.theory.specs.Narrowing.{via-fits, sets-fit}
 use Rattle.theory.proofs.Tests.{tests}
-use Rattle.symbols.specs.Symbols.{Numbered, numbered, order-code, arity, operator-numbered, symbol-numbered}
-use Rattle.symbols.specs.Symbols.{Fine}
-use Rattle.symbols.specs.Symbols.{number-symbol}
+use Rattle.symbols.specs.Symbols.{Numbered, numbered, order-code, arity, operator-numbered, symbol-numbered, Fine, number-symbol, symbols-given}
 
 -- a file can hold the symbol
 abbrev pub Held : Symbol → Type 0
@@ -173,3 +171,8 @@ length-postfix (closure p) = simp (length-append, length-postfix p) (omega arith
 
 pub length-codes : (p : PathExpr) → length (codes p) ≡ size p
 length-codes p = length-map (postfix p) code ∙ length-postfix p
+
+-- symbols in two arrays are as many as are asked for
+pub length-given : (numbers masks : List ℕ) (n k : ℕ) → length (symbols-given numbers masks n k) ≡ n
+length-given numbers masks zero k = refl
+length-given numbers masks (suc n) k = ap suc (length-given numbers masks n (suc k))

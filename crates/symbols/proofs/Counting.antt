@@ -15,12 +15,12 @@ use Rattle.theory.specs.Postfix.{push as push-path, go-on, read as read-paths}
 use Rattle.theory.proofs.Postfix.{none-some}
 use Rattle.symbols.specs.declared.Stack.{Stack}
 use Rattle.theory.specs.Result.{got}
-use Rattle.symbols.specs.Symbols.{Numbered, arity, push}
+use Rattle.symbols.specs.Symbols.{Numbered, symbol-of, operands, arity, push}
 use Rattle.fields.proofs.Bools.{cond-else, not-got}
 use Rattle.symbols.proofs.Symbols.{push-got}
 use Rattle.symbols.specs.Symbols.{Runs}
 use Rattle.symbols.specs.Symbols.{number-symbol}
-use Rattle.symbols.proofs.Numbers.{operands, AllHeld, number-of, symbol-of, symbol-comes}
+use Rattle.symbols.proofs.Numbers.{AllHeld, number-of, symbol-comes}
 
 -- ---- theory's stack: a symbol lacks an operand, or takes its operands and leaves one path
 record Pushed (s : Symbol) (st : List PathExpr) : Type 0 where

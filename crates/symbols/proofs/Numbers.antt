@@ -6,15 +6,18 @@ use mathlib.Core.Logic.{inl, inr}
 use mathlib.Core.List.{List, [], _∷_, _++_, map}
 use lib.Dec.{T, ltb→lt}
 use lib.ListN.{length, length-append, length-map}
-use native.Mathlib.Decide.{decLe}
+use native.Mathlib.Decide.{decLe, ℕ-discrete}
 use native.Mathlib.Omega.{arith}
 use borrow.Author.Tests.{lt-ltb, le-ltb, eq-eqb, ne-eqb}
 use Rattle.theory.specs.KindSet.{is-set}
-use Rattle.theory.specs.PathExpr.{forward, reverse, any, through, union, conjunction, branch-right, branch-left, PathExpr, step, join, op, closure}
+use Rattle.theory.specs.PathExpr.{Direction, forward, reverse, any, through, union, conjunction, branch-right, branch-left, PathExpr, step, join, op, closure}
 use Rattle.theory.specs.PathExpr.{Symbol, s-step, s-join, s-op, s-closure, postfix, size, code, codes, links?}
 use Rattle.theory.specs.Narrowing.{via-fits, sets-fit}
 use Rattle.theory.proofs.Tests.{tests}
-use Rattle.symbols.specs.Symbols.{Numbered, numbered, order-code, arity, operator-numbered, symbol-numbered, Fine, number-symbol, symbols-given}
+use Rattle.symbols.specs.declared.Symbol as declared·Symbol
+use Rattle.symbols.specs.declared.Symbol.the-variants as symbol
+use Rattle.symbols.specs.Contract.{direction-said, symbol-said, LinkFits}
+use Rattle.symbols.specs.Symbols.{Numbered, numbered, symbol-of, operands, order-code, arity, operator-numbered, symbol-numbered, Fine, number-symbol, symbols-given}
 
 -- a file can hold the symbol
 abbrev pub Held : Symbol → Type 0
@@ -23,16 +26,6 @@ Held (s-join v) = via-fits v
 Held (s-op o) = Unit {0}
 Held s-closure = Unit {0}
 
--- the number of paths that it takes
-abbrev pub operands : Symbol → ℕ
-operands (s-step d l) = 0
-operands (s-join v) = 2
-operands (s-op o) = 2
-operands s-closure = 1
-
-abbrev pub symbol-of : Numbered → Symbol
-symbol-of x = symbol-numbered (x .number) (x .set)
-
 -- ---- from the symbol to its number
 pub record Number (s : Symbol) : Type 0 where
   pub fine : Fine (number-symbol s)
@@ -40,19 +33,19 @@ pub record Number (s : Symbol) : Type 0 where
   pub takes : arity (number-symbol s .number) ≡ operands s
   pub back : symbol-of (number-symbol s) ≡ s
 
-step-number : (c : ℕ) → c < 128 → Fine (numbered c 0) × (order-code c ≡ c) × (arity c ≡ 0)
-unfolding order-code arity
-step-number c h = (inl (omega arith, refl), rw (ne-eqb c 255 (omega arith)), rw (lt-ltb c 128 h))
+plain-code : (c : ℕ) → c < 255 → order-code c ≡ c
+unfolding order-code
+plain-code c h = rw (ne-eqb c 255 (omega arith))
 
 pub number-of : (s : Symbol) → Held s → Number s
 unfolding order-code arity symbol-numbered
 number-of (s-step forward l) h =
-    let r = step-number l (omega arith) in
-    record { fine = r .0; same-code = r .1; takes = r .2; back = rw (lt-ltb l 64 h) }
+    let e : symbol-numbered l 0 ≡ s-step forward l = rw (lt-ltb l 64 h) in
+    record { fine = inl (omega arith, refl); same-code = plain-code l (omega arith); takes = ap operands e; back = e }
 number-of (s-step reverse l) h =
-    let r = step-number (64 + l) (omega arith) in
-    let e : 64 + l - 64 ≡ l = omega arith in
-    record { fine = r .0; same-code = r .1; takes = r .2; back = rw (le-ltb (64 + l) 64 (omega arith), lt-ltb (64 + l) 128 (omega arith), e) }
+    let i : 64 + l - 64 ≡ l = omega arith in
+    let e : symbol-numbered (64 + l) 0 ≡ s-step reverse l = rw (le-ltb (64 + l) 64 (omega arith), lt-ltb (64 + l) 128 (omega arith), i) in
+    record { fine = inl (omega arith, refl); same-code = plain-code (64 + l) (omega arith); takes = ap operands e; back = e }
 number-of (s-join any) h = record { fine = inl (omega arith, refl); same-code = refl; takes = refl; back = refl }
 number-of (s-join (through m)) h = record { fine = inr (refl, h); same-code = refl; takes = refl; back = refl }
 number-of (s-op union) h = record { fine = inl (omega arith, refl); same-code = refl; takes = refl; back = refl }
@@ -105,6 +98,15 @@ pub reverse-number : (c m : ℕ) → 64 ≤ c → c < 128 → symbol-numbered c 
 unfolding symbol-numbered
 reverse-number c m l h = simp (le-ltb c 64 l, lt-ltb c 128 h)
 
+above : {c k : ℕ} → k ≤ c → ¬ (c ≡ k) → suc k ≤ c
+above l n = omega arith
+
+from-133 : {c : ℕ} → 133 ≤ c → 5 ≤ c - 128
+from-133 h = omega arith
+
+last-operator : (k : ℕ) → 5 ≤ k → operator-numbered k ≡ s-closure
+last-operator k h = let e : k ≡ suc (suc (suc (suc (suc (k - 5))))) = omega arith in ap operator-numbered e
+
 module _ (c m : ℕ) (l : 128 ≤ c) where
   pub operator-number : (c ≡ 255 → ⊥) → symbol-numbered c m ≡ operator-numbered (c - 128)
   unfolding symbol-numbered
@@ -134,12 +136,39 @@ module _ (c m : ℕ) (l : 128 ≤ c) where
   unfolding symbol-numbered
   left-number e = rw e
 
+  -- all that is left
+  pub closure-number : ¬ (c ≡ 128) → ¬ (c ≡ 129) → ¬ (c ≡ 130) → ¬ (c ≡ 131) → ¬ (c ≡ 132) → ¬ (c ≡ 255) → symbol-numbered c m ≡ s-closure
+  closure-number j u o r b t = operator-number t ∙ last-operator (c - 128) (from-133 (above (above (above (above (above l j) u) o) r) b))
+
 pub code-number : (c : ℕ) → c < 134 → code (symbol-numbered c 0) ≡ c
-unfolding order-code
 code-number c h =
     let k = symbol-comes (numbered c 0) (inl (h, refl)) in
-    let z : order-code c ≡ c = rw (ne-eqb c 255 (omega arith)) in
-    sym (number-of (symbol-numbered c 0) (k .0) .same-code) ∙ ap (λ (x : Numbered). order-code (x .number)) (k .1) ∙ z
+    sym (number-of (symbol-numbered c 0) (k .0) .same-code) ∙ ap (λ (x : Numbered). order-code (x .number)) (k .1) ∙ plain-code c (omega arith)
+
+-- ---- what is known of a step's link
+pub step-below : (c m : ℕ) (d : Direction) (l : ℕ) → symbol-numbered c m ≡ s-step d l → l < 64
+unfolding symbol-numbered
+step-below c m d l e = go (decLe 64 c) (decLe 128 c) (ℕ-discrete c 255)
+  where
+    link : Symbol → ℕ
+    link (s-step d l) = l
+    link (s-join v) = 0
+    link (s-op o) = 0
+    link s-closure = 0
+
+    operator-link : (k : ℕ) → link (operator-numbered k) ≡ 0
+    operator-link zero = refl
+    operator-link (suc zero) = refl
+    operator-link (suc (suc zero)) = refl
+    operator-link (suc (suc (suc zero))) = refl
+    operator-link (suc (suc (suc (suc zero)))) = refl
+    operator-link (suc (suc (suc (suc (suc k))))) = refl
+
+    go : Dec (64 ≤ c) → Dec (128 ≤ c) → Dec (c ≡ 255) → l < 64
+    go (no a) b x = let z : c ≡ l = ap link (sym (forward-number c m (omega arith)) ∙ e) in omega arith
+    go (yes a) (no b) x = let z : c - 64 ≡ l = ap link (sym (reverse-number c m a (omega arith)) ∙ e) in omega arith
+    go (yes a) (yes b) (yes x) = let z : 0 ≡ l = ap link (sym (through-number c m b x) ∙ e) in omega arith
+    go (yes a) (yes b) (no x) = let z : 0 ≡ l = sym (operator-link (c - 128)) ∙ ap link (sym (operator-number c m b x) ∙ e) in omega arith
 
 -- ---- the symbols of a path
 abbrev pub AllHeld : List Symbol → Type 0
@@ -176,3 +205,14 @@ length-codes p = length-map (postfix p) code ∙ length-postfix p
 pub length-given : (numbers masks : List ℕ) (n k : ℕ) → length (symbols-given numbers masks n k) ≡ n
 length-given numbers masks zero k = refl
 length-given numbers masks (suc n) k = ap suc (length-given numbers masks n (suc k))
+
+-- what is decoded has a number
+pub decoded-fits : (x : declared·Symbol.Symbol) (c m : ℕ) → symbol-said x ≡ symbol-numbered c m → LinkFits x
+decoded-fits (symbol.Step d l) c m e = step-below c m (direction-said d) (l .0) (sym e)
+decoded-fits (symbol.Join v) c m e = tt
+decoded-fits (symbol.Op o) c m e = tt
+decoded-fits symbol.Closure c m e = tt
+
+-- in an arm of a match on what was decoded: the symbol of the number
+pub decoded : {r x : declared·Symbol.Symbol} {s : Symbol} → symbol-said r ≡ s → r ≡ x → s ≡ symbol-said x
+decoded e t = sym e ∙ ap symbol-said t

@@ -1,27 +1,33 @@
 -- The symbols of a path: what is known of one that was read, and of the stack after it.
 -- Assumes nothing.
-use mathlib.Core.Path.{_≡_, refl, sym, ap}
+use mathlib.Core.Path.{_≡_, refl, sym, ap, subst}
 use mathlib.Core.Bool.{Bool, true, false, cond, not, _&&_}
 use mathlib.Core.List.{List}
-use Prim.Native.Nat.{ℕ, _+_, _-_, _*_, _≤_}
+use Prim.Native.Nat.{ℕ, _<_, _+_, _-_, _≤_}
 use native.Mathlib.Omega.{arith}
 use lib.Dec.{ltb, leb, eqb}
 use lib.ListN.{getD}
 use borrow.Author.Tests.{ltb-true, leb-true, eqb-false}
+use Rattle.theory.specs.PathExpr.{Direction, forward, reverse, s-step}
 use Rattle.symbols.specs.declared.Stack.{Stack}
 use Rattle.theory.specs.Result.{got}
 use Rattle.fields.specs.Reading.{eight}
-use Rattle.symbols.specs.Symbols.{Numbered, numbered, step-of, operator-of, symbol-in, push, PlainSymbol}
-use Rattle.fields.proofs.Bools.{cond-else, cond-then, and-left, and-right, not-got}
+use Rattle.symbols.specs.Symbols.{Numbered, numbered, number-symbol, direction-numbered, step-of, operator-of, symbol-in, push, PlainSymbol}
+use Rattle.fields.proofs.Bools.{cond-else, cond-then, and-right, not-got}
 
 step-plain : (at : ℕ) (b : List ℕ) (x : Numbered) → step-of at b ≡ got x → PlainSymbol x
 unfolding step-of
 step-plain at b x e =
-    let a = cond-then (ltb (getD b 0 0) 2 && ltb (getD b 1 0) 64) (not-got 3 at x) e in
-    let z : numbered (getD b 0 0 * 64 + getD b 1 0) 0 ≡ x = cc (a .1) in
-    let d = ltb-true (getD b 0 0) 2 (and-left _ (ltb (getD b 1 0) 64) (a .0)) in
-    let l = ltb-true (getD b 1 0) 64 (and-right (ltb (getD b 0 0) 2) _ (a .0)) in
-    (omega (arith, ap (λ (y : Numbered). y .number) z), sym (ap (λ (y : Numbered). y .set) z))
+    let d = getD b 0 0 in
+    let k = getD b 1 0 in
+    let a = cond-then (ltb d 2 && ltb k 64) (not-got 3 at x) e in
+    let z : number-symbol (s-step (direction-numbered d) k) ≡ x = cc (a .1) in
+    let l = ltb-true k 64 (and-right (ltb d 2) _ (a .0)) in
+    subst PlainSymbol z (plain (direction-numbered d) k l)
+  where
+    plain : (d : Direction) (k : ℕ) → k < 64 → PlainSymbol (number-symbol (s-step d k))
+    plain forward k h = (omega arith, refl)
+    plain reverse k h = (omega arith, refl)
 
 operator-plain : (at : ℕ) (b : List ℕ) (x : Numbered) → operator-of at b ≡ got x → PlainSymbol x
 unfolding operator-of

@@ -1,18 +1,19 @@
--- The symbols of a path: what a symbol's field holds, and the counting of operands.
+-- The symbols of a path: a symbol as a number, what its field holds, and the counting of operands.
 -- SPECIFICATION, Paths and symbols; Refusals, 3 and 6.
 -- Assumes nothing.
 use mathlib.Core.Path.{_≡_}
 use mathlib.Core.Logic.{_⊎_}
-use mathlib.Core.Bool.{cond, not, _&&_}
+use mathlib.Core.Bool.{Bool, cond, not, _&&_}
 use mathlib.Core.List.{List, [], _∷_}
-use Prim.Native.Nat.{ℕ, _+_, _-_, _*_, _<_, zero, suc}
+use Prim.Native.Nat.{ℕ, _+_, _-_, _<_, zero, suc}
 use lib.Dec.{leb, ltb, eqb}
 use lib.ListN.{getD}
-use Rattle.theory.specs.PathExpr.{forward, reverse, any, through, union, conjunction, branch-right, branch-left, Symbol, s-step, s-join, s-op, s-closure, code}
+use Rattle.theory.specs.PathExpr.{Direction, forward, reverse, any, through, union, conjunction, branch-right, branch-left, Symbol, s-step, s-join, s-op, s-closure, code}
 use Rattle.theory.specs.KindSet.{is-set}
 use Rattle.fields.specs.declared.File.{File}
 use Rattle.fields.specs.declared.Due.{Due}
 use Rattle.symbols.specs.declared.Stack.{Stack}
+pub use Rattle.symbols.specs.declared.Numbered.{Numbered}
 use Rattle.fields.specs.Table.{tag-length}
 use Rattle.theory.specs.Result.{Result, got, refused}
 use Rattle.fields.specs.Reading.{eight}
@@ -32,29 +33,53 @@ symbol-numbered c m =
     (cond (ltb c 128) (s-step reverse (c - 64))
     (cond (eqb c 255) (s-join (through m)) (operator-numbered (c - 128))))
 
+-- number and set
+abbrev pub numbered : ℕ → ℕ → Numbered
+numbered c m = record { number = c; set = m }
+
+-- the symbol of a number, and back
+abbrev pub symbol-of : Numbered → Symbol
+symbol-of x = symbol-numbered (x .number) (x .set)
+
+abbrev pub number-symbol : Symbol → Numbered
+number-symbol (s-step d l) = numbered (code (s-step d l)) 0
+number-symbol (s-join any) = numbered 128 0
+number-symbol (s-join (through m)) = numbered 255 m
+number-symbol (s-op o) = numbered (code (s-op o)) 0
+number-symbol s-closure = numbered 133 0
+
+-- it is the number of a symbol: the one that the symbol has
+unfoldable pub symbol? : ℕ → Bool
+symbol? c = eqb (number-symbol (symbol-numbered c 0) .number) c
+
 -- the code by which members are compared: "45 is a join and has code 128"
 unfoldable pub order-code : ℕ → ℕ
 order-code c = cond (eqb c 255) 128 c
 
 -- ---- how many paths a symbol takes
-unfoldable pub arity : ℕ → ℕ
-arity c = cond (ltb c 128) 0 (cond (eqb c 133) 1 2)
+abbrev pub operands : Symbol → ℕ
+operands (s-step d l) = 0
+operands (s-join v) = 2
+operands (s-op o) = 2
+operands s-closure = 1
 
--- the length of a symbol's body: that of a step, of an operator, of a join through a set
+-- by its number
+unfoldable pub arity : ℕ → ℕ
+arity c = operands (symbol-numbered c 0)
+
+-- ---- a symbol's field
+-- the length of its body: that of a step, of an operator, of a join through a set
 abbrev pub symbol-length : ℕ → ℕ
 symbol-length t = cond (eqb t 0x43) (tag-length 0x43) (cond (eqb t 0x44) (tag-length 0x44) (tag-length 0x45))
 
--- number and set
-pub record Numbered : Type 0 where
-  pub number : ℕ
-  pub set : ℕ
-
-abbrev pub numbered : ℕ → ℕ → Numbered
-numbered c m = record { number = c; set = m }
+-- direction: 0 forward, 1 reverse
+abbrev pub direction-numbered : ℕ → Direction
+direction-numbered zero = forward
+direction-numbered (suc n) = reverse
 
 -- 43: direction and link; refusal 3
 unfoldable pub step-of : ℕ → List ℕ → Result Numbered
-step-of at b = cond (ltb (getD b 0 0) 2 && ltb (getD b 1 0) 64) (got (numbered (getD b 0 0 * 64 + getD b 1 0) 0)) (refused 3 at)
+step-of at b = cond (ltb (getD b 0 0) 2 && ltb (getD b 1 0) 64) (got (number-symbol (s-step (direction-numbered (getD b 0 0)) (getD b 1 0)))) (refused 3 at)
 
 -- 44: an operator; refusal 3
 unfoldable pub operator-of : ℕ → List ℕ → Result Numbered
@@ -62,7 +87,7 @@ operator-of at b = cond (leb 128 (getD b 0 0) && leb (getD b 0 0) 133) (got (num
 
 -- the symbol of a field at a place, by its tag: 43, 44 or 45
 unfoldable pub symbol-in : ℕ → ℕ → List ℕ → Result Numbered
-symbol-in at t b = cond (eqb t 0x43) (step-of at b) (cond (eqb t 0x44) (operator-of at b) (got (numbered 255 (eight b 0))))
+symbol-in at t b = cond (eqb t 0x43) (step-of at b) (cond (eqb t 0x44) (operator-of at b) (got (number-symbol (s-join (through (eight b 0))))))
 
 -- ---- operands: `left` symbols are still due, `depth` paths stand on the stack
 -- one symbol more, that takes k paths; its field is at a place, with the place after it: refusal 6
@@ -75,14 +100,6 @@ push q at next k =
 -- what is due within a path: its symbols, and nothing after them
 abbrev pub due-symbols : File → Stack → Due
 due-symbols f q = record { file = f; lo = 0x43; hi = 0x45; complete = eqb (q .left) 0; full = eqb (q .left) 0 }
-
--- the number of a symbol, and its set
-abbrev pub number-symbol : Symbol → Numbered
-number-symbol (s-step d l) = numbered (code (s-step d l)) 0
-number-symbol (s-join any) = numbered 128 0
-number-symbol (s-join (through m)) = numbered 255 m
-number-symbol (s-op o) = numbered (code (s-op o)) 0
-number-symbol s-closure = numbered 133 0
 
 -- ---- symbols in two arrays: their numbers, and their sets
 -- a symbol; only a join through a set has one

@@ -1,4 +1,4 @@
-// The symbols of a path: what a symbol's field holds, and the counting of operands.
+// The symbols of a path: a symbol as an enum, as a number and as a field, and the counting of operands.
 use fields::Due;
 use fields::File;
 use fields::Link;
@@ -7,8 +7,9 @@ ghost use mathlib.Core.Path.{_≡_};
 ghost use Prim.Native.Nat.{_<_, _%_};
 ghost use lib.ListN.{length};
 ghost use Rattle.fields.specs.Table.{tag-length};
-ghost use Rattle.symbols.specs.Symbols.{symbol-length, step-of, operator-of, symbol-in, push, arity, due-symbols};
-ghost use Rattle.symbols.specs.Contract.{symbol-said, push-said};
+ghost use Rattle.symbols.specs.Symbols.{symbol-length, step-of, operator-of, symbol-in, push, arity, due-symbols, symbol-numbered, number-symbol, order-code, symbol?, numbered, direction-numbered};
+ghost use Rattle.theory.specs.PathExpr.{s-join, step-code, op-code};
+ghost use Rattle.symbols.specs.Contract.{direction-said, via-said, operator-said, symbol-said, LinkFits, read-said, push-said};
 
 // Forward and reverse.
 const DIRECTIONS: u8 = 2;
@@ -32,6 +33,117 @@ pub const CLOSURE: u8 = 133;
 // The number of a join through a set.
 pub const THROUGH: u8 = 255;
 
+// Along a link, or against it.
+pub enum Direction {
+    Forward,
+    Reverse,
+}
+
+// What a join passes through: any record (a plain join), or those whose kind is in a set.
+pub enum Via {
+    Any,
+    Through(u64),
+}
+
+// The other operators of two operands.
+pub enum Operator {
+    Union,
+    Conjunction,
+    BranchRight,
+    BranchLeft,
+}
+
+// A symbol.
+pub enum Symbol {
+    Step(Direction, Link),
+    Join(Via),
+    Op(Operator),
+    Closure,
+}
+
+// A symbol as arrays have it: its code, and 255 for a join through a set; and the set, 0 where there is none.
+pub struct Numbered {
+    pub number: u8,
+    pub set: u64,
+}
+
+// The symbol of a number and a set. A number that is no symbol's counts as a closure.
+pub fn decode(number: u8, set: u64) -> Symbol
+    ensures { λ r. ⌜ symbol-said r ≡ symbol-numbered number set ⌝ }
+{
+    if number < fields::LINKS {
+        return Symbol::Step(Direction::Forward, Link(number));
+    }
+    if number < STEPS {
+        return Symbol::Step(Direction::Reverse, Link(number - fields::LINKS));
+    }
+    match number {
+        JOIN => Symbol::Join(Via::Any),
+        UNION => Symbol::Op(Operator::Union),
+        CONJUNCTION => Symbol::Op(Operator::Conjunction),
+        BRANCH_RIGHT => Symbol::Op(Operator::BranchRight),
+        BRANCH_LEFT => Symbol::Op(Operator::BranchLeft),
+        THROUGH => Symbol::Join(Via::Through(set)),
+        _ => Symbol::Closure,
+    }
+}
+
+// The number of a step.
+fn step_number(direction: Direction, link: Link) -> u8
+    requires { ⌜ link .0 < 64 ⌝ }
+    ensures { λ r. ⌜ r ≡ step-code (direction-said direction) (link .0) ⌝ }
+{
+    match direction {
+        Direction::Forward => link.0,
+        Direction::Reverse => fields::LINKS + link.0,
+    }
+}
+
+// The number of an operator.
+pub fn operator_number(o: Operator) -> u8
+    ensures { λ r. ⌜ r ≡ op-code (operator-said o) ⌝ }
+{
+    match o {
+        Operator::Union => UNION,
+        Operator::Conjunction => CONJUNCTION,
+        Operator::BranchRight => BRANCH_RIGHT,
+        Operator::BranchLeft => BRANCH_LEFT,
+    }
+}
+
+// A number without a set.
+fn plain(number: u8) -> Numbered
+    ensures { λ r. ⌜ r ≡ numbered number 0 ⌝ }
+{
+    Numbered { number, set: 0 }
+}
+
+// The number of a join, and its set.
+fn join_number(via: Via) -> Numbered
+    ensures { λ r. ⌜ r ≡ number-symbol (s-join (via-said via)) ⌝ }
+{
+    match via {
+        Via::Any => plain(JOIN),
+        Via::Through(set) => Numbered {
+            number: THROUGH,
+            set,
+        },
+    }
+}
+
+// The number of a symbol, and its set.
+pub fn encode(x: Symbol) -> Numbered
+    requires { ⌜ LinkFits x ⌝ }
+    ensures { λ r. ⌜ r ≡ number-symbol (symbol-said x) ⌝ }
+{
+    match x {
+        Symbol::Step(direction, link) => plain(step_number(direction, link)),
+        Symbol::Join(via) => join_number(via),
+        Symbol::Op(o) => plain(operator_number(o)),
+        Symbol::Closure => plain(CLOSURE),
+    }
+}
+
 // Places in bodies: in 43 direction and link, in 44 the code of the operator, in 45 the set.
 const DIRECTION_IN: usize = 0;
 
@@ -41,27 +153,29 @@ const CODE_IN: usize = 0;
 
 const SET_IN: usize = 0;
 
-// A symbol as a number: its code, and 255 for a join through a set; and the set, 0 where there is none.
-pub struct Symbol {
-    pub number: u8,
-    pub set: u64,
-}
-
 pub enum Read {
     Refused(Refusal),
-    Is(Symbol),
+    Is(Numbered),
+}
+
+// The direction in a step's field: 0 forward, any other number reverse.
+fn direction_in(b: u8) -> Direction
+    ensures { λ r. ⌜ direction-said r ≡ direction-numbered b ⌝ }
+{
+    if b == 0 {
+        return Direction::Forward;
+    }
+    Direction::Reverse
 }
 
 fn step_in(at: usize, b: &[u8]) -> Read
     requires { ⌜ length (now b) ≡ tag-length 0x43 ⌝ }
-    ensures { λ r. ⌜ symbol-said r ≡ step-of at (now (b .entry)) ⌝ }
+    ensures { λ r. ⌜ read-said r ≡ step-of at (now (b .entry)) ⌝ }
 {
     if b[DIRECTION_IN] < DIRECTIONS {
         if b[LINK_IN] < fields::LINKS {
-            return Read::Is(Symbol {
-                number: b[DIRECTION_IN] * fields::LINKS + b[LINK_IN],
-                set: 0,
-            });
+            let step = Symbol::Step(direction_in(b[DIRECTION_IN]), Link(b[LINK_IN]));
+            return Read::Is(encode(step));
         }
         return Read::Refused(Refusal::OutOfRange(at));
     }
@@ -70,14 +184,11 @@ fn step_in(at: usize, b: &[u8]) -> Read
 
 fn operator_in(at: usize, b: &[u8]) -> Read
     requires { ⌜ length (now b) ≡ tag-length 0x44 ⌝ }
-    ensures { λ r. ⌜ symbol-said r ≡ operator-of at (now (b .entry)) ⌝ }
+    ensures { λ r. ⌜ read-said r ≡ operator-of at (now (b .entry)) ⌝ }
 {
     if JOIN <= b[CODE_IN] {
         if b[CODE_IN] <= CLOSURE {
-            return Read::Is(Symbol {
-                number: b[CODE_IN],
-                set: 0,
-            });
+            return Read::Is(plain(b[CODE_IN]));
         }
         return Read::Refused(Refusal::OutOfRange(at));
     }
@@ -87,7 +198,7 @@ fn operator_in(at: usize, b: &[u8]) -> Read
 // The symbol in a field's body, by its tag; refusal 3.
 pub fn symbol_in(at: usize, tag: u8, b: &[u8]) -> Read
     requires { ⌜ length (now b) ≡ symbol-length tag ⌝ }
-    ensures { λ r. ⌜ symbol-said r ≡ symbol-in at tag (now (b .entry)) ⌝ }
+    ensures { λ r. ⌜ read-said r ≡ symbol-in at tag (now (b .entry)) ⌝ }
 {
     if tag == fields::STEP_TAG {
         return step_in(at, b);
@@ -95,10 +206,7 @@ pub fn symbol_in(at: usize, tag: u8, b: &[u8]) -> Read
     if tag == fields::OPERATOR_TAG {
         return operator_in(at, b);
     }
-    Read::Is(Symbol {
-        number: THROUGH,
-        set: fields::eight_at(b, SET_IN),
-    })
+    Read::Is(join_number(Via::Through(fields::eight_at(b, SET_IN))))
 }
 
 // The link of a step, forward or reverse, by its number.
@@ -112,13 +220,29 @@ pub fn step_link(number: u8) -> Link
 pub fn operands(number: u8) -> u8
     ensures { λ r. ⌜ r ≡ arity number ⌝ }
 {
-    if number < STEPS {
-        return 0;
+    match decode(number, 0) {
+        Symbol::Step(_, _) => 0,
+        Symbol::Join(_) => 2,
+        Symbol::Op(_) => 2,
+        Symbol::Closure => 1,
     }
-    if number == CLOSURE {
-        return 1;
+}
+
+// The code by which members are compared.
+pub fn order_code(number: u8) -> u8
+    ensures { λ r. ⌜ r ≡ order-code number ⌝ }
+{
+    if number == THROUGH {
+        return JOIN;
     }
-    2
+    number
+}
+
+// Whether it is the number of a symbol: the one that the symbol has.
+pub fn is_symbol(number: u8) -> bool
+    ensures { λ r. ⌜ r ≡ symbol? number ⌝ }
+{
+    encode(decode(number, 0)).number == number
 }
 
 // A path being read: the symbols still due, and the paths that stand on the stack.

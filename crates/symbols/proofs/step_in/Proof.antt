@@ -1,7 +1,12 @@
--- `symbols::step_in` meets its contract: a direction below 2 and a link below 64 make a number that fits a byte, and all else is refusal 3.
+-- `symbols::step_in` meets its contract: a direction below 2 and a link below 64 make a step, whose number it is, and all else is refusal 3.
 -- Assumes nothing.
+use mathlib.Core.Path.{_∙_, ap}
+use lib.ListN.{getD}
+use denote.Ref.{now}
+use Rattle.theory.specs.PathExpr.{s-step}
+use Rattle.theory.specs.Result.{got}
 use Rattle.fields.specs.Table.{rows, tag-length}
-use Rattle.symbols.specs.Symbols.{step-of}
+use Rattle.symbols.specs.Symbols.{step-of, number-symbol}
 use borrow.Author.Tests.{lt-ltb, le-ltb}
 use borrow.Author.Needs.{needs}
 use Rattle.symbols.proofs.step_in.Statement.{statement}
@@ -15,23 +20,26 @@ shared-slice-read-if2 : tie.Need-shared-slice-read-if2
 unfolding tag-length rows
 shared-slice-read-if2 c = search needs
 
-shared-slice-read-t10 : tie.Need-shared-slice-read-t10
+shared-slice-read-direction-in : tie.Need-shared-slice-read-direction-in
 unfolding tag-length rows
-shared-slice-read-t10 c = search needs
+shared-slice-read-direction-in c = search needs
 
-mul-t11 : tie.Need-mul-t11
-mul-t11 c = search needs
+direction-in-requires : tie.Need-direction-in-requires
+direction-in-requires c κs = search needs
 
-shared-slice-read-t13 : tie.Need-shared-slice-read-t13
+shared-slice-read-t14 : tie.Need-shared-slice-read-t14
 unfolding tag-length rows
-shared-slice-read-t13 c = search needs
+shared-slice-read-t14 c = search needs
 
-add-t14 : tie.Need-add-t14
-add-t14 c = search needs
+encode-requires : tie.Need-encode-requires
+encode-requires c κs = search needs
 
 returns : tie.Need-returns
 unfolding step-of
-returns c = simp (lt-ltb _ _ (c .before .before .if2 .taken), lt-ltb _ _ (c .before .before .before .before .if1 .taken))
+returns c =
+    let c9 = c .before .before .before .before .before .before .before .before .before in
+    let e = ap (λ d. number-symbol (s-step d (getD (now (c9 .args .b)) 1 0))) (c .before .before .direction-in .ensures) in
+    simp (lt-ltb _ _ (c .before .before .before .before .if2 .taken), lt-ltb _ _ (c .before .before .before .before .before .before .if1 .taken)) (ap got (c .encode .ensures ∙ e))
 
 returns-2 : tie.Need-returns-2
 unfolding step-of
@@ -47,10 +55,10 @@ step-in-spec =
     (tie.spec
     shared-slice-read-if1
     shared-slice-read-if2
-    shared-slice-read-t10
-    mul-t11
-    shared-slice-read-t13
-    add-t14
+    shared-slice-read-direction-in
+    direction-in-requires
+    shared-slice-read-t14
+    encode-requires
     returns
     returns-2
     returns-3)

@@ -1,11 +1,13 @@
 -- `symbols::symbol_in` meets its contract: the tag says which of three bodies it is, and so how long it is.
 -- Assumes nothing.
+use mathlib.Core.Path.{_∙_, ap}
+use Rattle.theory.specs.PathExpr.{through, s-join}
+use Rattle.theory.specs.Result.{got}
 use Rattle.fields.specs.Table.{rows, tag-length}
 use native.Mathlib.Omega.{arith}
+use Rattle.symbols.specs.Symbols.{symbol-in, number-symbol}
 use borrow.Author.Tests.{eq-eqb, ne-eqb}
-use mathlib.Core.Path.{_∙_, ap}
-use Rattle.theory.specs.Result.{got}
-use Rattle.symbols.specs.Symbols.{symbol-in, numbered}
+use borrow.Author.Needs.{needs}
 use Rattle.symbols.proofs.symbol_in.Statement.{statement}
 use Rattle.symbols.proofs.symbol_in.Tie as tie
 
@@ -27,11 +29,21 @@ eight-at-requires : tie.Need-eight-at-requires
 unfolding tag-length rows
 eight-at-requires c κs = let e = simp (ne-eqb _ _ (c .before .if1 .left), ne-eqb _ _ (c .if2 .left)) at (c .before .before .before .pre) in omega arith
 
+join-number-requires : tie.Need-join-number-requires
+join-number-requires c κs = search needs
+
 returns-3 : tie.Need-returns-3
 unfolding symbol-in
-returns-3 c = simp (ne-eqb _ _ (c .before .before .if1 .left), ne-eqb _ _ (c .before .if2 .left)) (ap (λ n. got (numbered 255 n)) (c .eight-at .ensures))
+returns-3 c = simp (ne-eqb _ _ (c .before .before .before .if1 .left), ne-eqb _ _ (c .before .before .if2 .left)) (ap got (c .join-number .ensures ∙ ap (λ m. number-symbol (s-join (through m))) (c .before .eight-at .ensures)))
 
 pub symbol-in-spec : {M : Type 1} → statement M
 symbol-in-spec =
     tie.close
-    (tie.spec step-in-requires returns operator-in-requires returns-2 eight-at-requires returns-3)
+    (tie.spec
+    step-in-requires
+    returns
+    operator-in-requires
+    returns-2
+    eight-at-requires
+    join-number-requires
+    returns-3)

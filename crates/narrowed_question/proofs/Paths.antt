@@ -9,13 +9,13 @@ use Rattle.theory.specs.Merging.{Member, member}
 use Rattle.theory.specs.Narrowing.{MemberFits}
 use Rattle.theory.proofs.Postfix.{postfix-path-of, path-of-postfix}
 use Rattle.symbols.specs.declared.Stack.{Stack}
-use Rattle.symbols.specs.Symbols.{Numbered}
+use Rattle.symbols.specs.Symbols.{Numbered, symbol-of}
 use Rattle.narrowed_question.specs.Form.{Flat, flat}
 use Rattle.symbols.specs.Symbols.{Runs}
 use Rattle.narrowed_question.specs.Formed.{Formed}
 use Rattle.symbols.specs.Symbols.{number-symbol}
 use Rattle.narrowed_question.specs.Members.{flat-of, flat-path}
-use Rattle.symbols.proofs.Numbers.{symbol-of, symbol-comes, held-postfix, numbered-symbols}
+use Rattle.symbols.proofs.Numbers.{symbol-comes, held-postfix, numbered-symbols}
 use Rattle.symbols.proofs.Counting.{runs-read}
 
 symbols-come : (xs : List Numbered) (q : Stack) → Runs q xs → map number-symbol (map symbol-of xs) ≡ xs

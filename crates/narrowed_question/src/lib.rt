@@ -13,7 +13,7 @@ ghost use lib.ListN.{length, set};
 ghost use Rattle.theory.specs.PathExpr.{before?};
 ghost use Rattle.fields.specs.Table.{tag-length};
 ghost use Rattle.fields.specs.Reading.{read as read-file, word};
-ghost use Rattle.symbols.specs.Symbols.{order-code, symbol-length};
+ghost use Rattle.symbols.specs.Symbols.{symbol-length};
 ghost use Rattle.narrowed_question.specs.Form.{narrowed-form};
 ghost use Rattle.narrowed_question.specs.Contract.{ReadsNarrowed, Blank, ReadsInto, segment-codes, Packed, arrays};
 ghost use Rattle.narrowed_question.specs.Internal.{due-of, count-of, open-move, symbol-move, judged, BodyReady, turn-said, Able, turned, marked};
@@ -180,16 +180,6 @@ fn judge(st: Standing, at: usize, next: usize, tag: u8, b: &[u8]) -> Turn
     }
 }
 
-// The code by which members are compared.
-fn code(number: u8) -> u8
-    ensures { λ r. ⌜ r ≡ order-code number ⌝ }
-{
-    if number == symbols::THROUGH {
-        return symbols::JOIN;
-    }
-    number
-}
-
 // Whether the symbols from a to b come before those from b to e in the order of members.
 pub fn earlier(numbers: &[u8], a: usize, b: usize, e: usize) -> bool
     requires { ⌜ (a ≤ b) × ((b ≤ e) × (e ≤ length (now numbers))) ⌝ }
@@ -201,8 +191,8 @@ pub fn earlier(numbers: &[u8], a: usize, b: usize, e: usize) -> bool
         if e <= j {
             return false;
         }
-        let x = code(numbers[i]);
-        let y = code(numbers[j]);
+        let x = symbols::order_code(numbers[i]);
+        let y = symbols::order_code(numbers[j]);
         if x < y {
             return true;
         }

@@ -7,7 +7,7 @@ use Rattle.fields.specs.Case.{Case, case, AllRead}
 use Rattle.theory.specs.Result.{got, refused}
 use Rattle.fields.specs.Table.{among, rows}
 use Rattle.fields.specs.Reading.{eight, read, walk, field-at, fitting}
-use Rattle.symbols.specs.Symbols.{step-of, operator-of, symbol-in, arity, push}
+use Rattle.symbols.specs.Symbols.{symbol-numbered, step-of, operator-of, symbol-in, arity, push}
 use Rattle.question.specs.Form.{question-form, head-of}
 
 -- the fields, before what comes after them
@@ -46,5 +46,5 @@ cases =
     ∷ []
 
 pub all-read : AllRead question-form cases
-unfolding read walk field-at fitting among rows head-of eight step-of operator-of symbol-in arity push
+unfolding read walk field-at fitting among rows head-of eight step-of operator-of symbol-in arity symbol-numbered push
 all-read = refl

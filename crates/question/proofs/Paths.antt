@@ -19,14 +19,14 @@ use Rattle.symbols.specs.declared.Stack.{Stack}
 use Rattle.theory.specs.Result.{got}
 use Rattle.fields.specs.Table.{rows, among, tag-length}
 use Rattle.fields.specs.Reading.{ends, body, field-at, fitting, read}
-use Rattle.symbols.specs.Symbols.{Numbered, numbered, symbol-in, symbol-numbered, number-symbol, arity, push, due-symbols, Runs}
+use Rattle.symbols.specs.Symbols.{Numbered, numbered, symbol-in, symbol-numbered, number-symbol, arity, push, due-symbols, Runs, symbol-of}
 use Rattle.fields.proofs.Bools.{onward-got, cond-then, not-got, and-left, and-right}
 use Rattle.fields.proofs.Rows.{own-length}
 use Rattle.fields.proofs.Fields.{found, ended}
 use Rattle.symbols.proofs.InPath.{in-path}
 use Rattle.fields.proofs.Accepted.{accepted-ind}
 use Rattle.symbols.proofs.Symbols.{symbol-plain, push-got, push-anywhere}
-use Rattle.symbols.proofs.Numbers.{Held, symbol-of, symbol-comes, code-number, length-postfix}
+use Rattle.symbols.proofs.Numbers.{Held, symbol-comes, code-number, length-postfix}
 use Rattle.symbols.proofs.Counting.{runs-read}
 use Rattle.question.specs.Form.{State, head, within, question-form, due, judge, head-of, fresh, one-more, question-symbols}
 use Rattle.question.specs.Writing.{numbered-codes}

@@ -2,14 +2,14 @@
 -- Assumes nothing.
 use mathlib.Core.Path.{_≡_, refl, sym, ap, ap₂, _∙_, subst}
 use mathlib.Core.Bool.{true}
+use mathlib.Core.Logic.{inl}
 use mathlib.Core.List.{List, [], _∷_, _++_, map, append-assoc, append-nil}
 use mathlib.Core.Option.{some}
 use Prim.Native.Nat.{ℕ, _+_, _<_, _≤_}
 use native.Mathlib.Omega.{arith}
-use native.Mathlib.Decide.{decLe}
 use lib.Dec.{T, ltb→lt}
 use lib.ListN.{length, take, drop, length-map}
-use borrow.Author.Tests.{lt-ltb, le-ltb, eq-eqb, ne-eqb, le-leb}
+use borrow.Author.Tests.{eq-eqb, ne-eqb, le-leb}
 use Rattle.theory.specs.PathExpr.{forward, reverse, any, through, union, conjunction, branch-right, branch-left, PathExpr, step, join, op, closure}
 use Rattle.theory.specs.PathExpr.{Symbol, s-step, s-join, s-op, s-closure, postfix, code, codes, size, plain?, links?}
 use Rattle.theory.specs.Postfix.{read as read-paths, path-of}
@@ -24,10 +24,10 @@ use Rattle.fields.specs.Reading.{fitting, read}
 use Rattle.fields.proofs.ReaderLoop.{Going, going-start, going-ends, going-more}
 use Rattle.fields.proofs.Lies.{field-lies, ends-lie}
 use Rattle.symbols.specs.declared.Stack.{Stack}
-use Rattle.symbols.specs.Symbols.{Numbered, numbered, arity, due-symbols, number-symbol, Runs}
-use Rattle.symbols.specs.Writing.{symbol-tag, symbol-body, symbols-bytes}
+use Rattle.symbols.specs.Symbols.{Numbered, numbered, symbol-numbered, arity, due-symbols, number-symbol, Runs, symbol-of}
+use Rattle.symbols.specs.Writing.{tag-of, body-of, symbol-tag, symbol-body, symbols-bytes}
 use Rattle.symbols.proofs.Symbols.{push-got, push-anywhere}
-use Rattle.symbols.proofs.Numbers.{symbol-of, held-postfix, numbered-symbols, length-codes}
+use Rattle.symbols.proofs.Numbers.{symbol-comes, held-postfix, numbered-symbols, length-codes}
 use Rattle.symbols.proofs.Bytes.{symbol-short, symbol-reads}
 use Rattle.symbols.proofs.Counting.{read-runs}
 use Rattle.question.specs.Form.{head, within, question-form, due, judge, head-of, fresh, question-symbols}
@@ -71,11 +71,14 @@ asked-numbers (s ∷ ss) h =
 -- ---- their bytes are read as these codes
 code-fits : (q : Stack) (c : ℕ) → c < 134 → fitting (due-symbols file.Question q) (symbol-tag (numbered c 0)) (length (symbol-body (numbered c 0))) ≡ true
 unfolding fitting among rows
-code-fits q c h = go (decLe 128 c)
+code-fits q c h = go (symbol-numbered c 0) (symbol-comes (numbered c 0) (inl (h, refl)) .1)
   where
-    go : Dec (128 ≤ c) → fitting (due-symbols file.Question q) (symbol-tag (numbered c 0)) (length (symbol-body (numbered c 0))) ≡ true
-    go (yes l) = rw (le-ltb c 128 l, ne-eqb c 255 (omega arith))
-    go (no l) = rw (lt-ltb c 128 (omega arith))
+    go : (s : Symbol) → number-symbol s ≡ numbered c 0 → fitting (due-symbols file.Question q) (tag-of s) (length (body-of c s)) ≡ true
+    go (s-step d l) e = refl
+    go (s-join any) e = refl
+    go (s-join (through m)) e = let z : 255 ≡ c = ap (λ (x : Numbered). x .number) e in absurd (omega arith)
+    go (s-op o) e = refl
+    go s-closure e = refl
 
 module _ (s : List ℕ) (A : Result (List ℕ)) where
   symbols-forth : (ys : List ℕ) (q : Stack) (cs : List ℕ) (at : ℕ) → Going question-form s A (within q cs) at → drop at s ≡ symbols-bytes (numbered-codes ys) → Runs q (numbered-codes ys) → Small ys

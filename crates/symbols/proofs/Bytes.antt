@@ -1,6 +1,6 @@
 -- A symbol's field, both ways: its bytes as they were read, and what is read from its bytes.
 -- Assumes nothing.
-use Prim.Native.Nat.{ℕ, zero, suc, _-_, _+_, _<_, _≤_}
+use Prim.Native.Nat.{ℕ, zero, suc, _-_, _<_, _≤_}
 use mathlib.Core.Path.{_≡_, refl, ap, _∙_, sym, subst}
 use mathlib.Core.Logic.{inl, inr}
 use mathlib.Core.Bool.{Bool, true, false, cond, _&&_}
@@ -12,7 +12,7 @@ use borrow.Author.Tests.{eqb-true, eqb-false, ltb-true, leb-true, lt-ltb}
 use Rattle.theory.specs.Result.{got}
 use Rattle.fields.specs.Reading.{eight, fitting}
 use Rattle.theory.specs.PathExpr.{forward, reverse, any, through, union, conjunction, branch-right, branch-left, Symbol, s-step, s-join, s-op, s-closure}
-use Rattle.symbols.specs.Symbols.{Numbered, numbered, symbol-of, symbol-numbered, number-symbol, direction-numbered, step-of, operator-of, symbol-in, symbol-length, due-symbols}
+use Rattle.symbols.specs.Symbols.{Numbered, numbered, symbol-of, symbol-numbered, operator-numbered, number-symbol, direction-numbered, step-of, operator-of, symbol-in, symbol-length, due-symbols}
 use Rattle.fields.proofs.Bools.{cond-then, not-got, and-left, and-right}
 use Rattle.fields.specs.Writing.{Bytes, field-bytes}
 use Rattle.symbols.specs.Writing.{direction-number, tag-of, body-of, symbol-tag, symbol-body, symbol-bytes}
@@ -20,7 +20,7 @@ use Rattle.symbols.specs.Symbols.{Fine}
 use Rattle.fields.specs.declared.File.the-variants as file
 use Rattle.symbols.specs.declared.Stack.{Stack}
 use Rattle.fields.specs.Table.{among, rows, tag-length}
-use Rattle.symbols.proofs.Numbers.{Held, number-of, symbol-comes}
+use Rattle.symbols.proofs.Numbers.{Held, number-of, symbol-comes, operator-number}
 use Rattle.fields.proofs.Bytes.{listed, eight-of, eight-set, eight-back}
 
 -- ---- a symbol that was read: its field's bytes, and its ranges
@@ -28,8 +28,8 @@ abbrev Split : ℕ → List ℕ → Numbered → Type 0
 Split t b x = (field-bytes t b ≡ symbol-bytes x) × Fine x
 
 -- the bytes of a symbol, by its number
-numbered-bytes : (s : Symbol) → Held s → symbol-bytes (number-symbol s) ≡ field-bytes (tag-of s) (body-of s)
-numbered-bytes s h = ap (λ (r : Symbol). field-bytes (tag-of r) (body-of r)) (number-of s h .back)
+numbered-bytes : (s : Symbol) → Held s → symbol-bytes (number-symbol s) ≡ field-bytes (tag-of s) (body-of (number-symbol s .number) s)
+numbered-bytes s h = ap (λ (r : Symbol). field-bytes (tag-of r) (body-of (number-symbol s .number) r)) (number-of s h .back)
 
 direction-back : (d : ℕ) → d < 2 → direction-number (direction-numbered d) ≡ d
 direction-back zero h = refl
@@ -49,16 +49,17 @@ step-split at b x l e =
     let y = numbered-bytes s hk ∙ ap (λ (n : ℕ). field-bytes 0x43 (n ∷ k ∷ [])) (direction-back d hd) in
     subst (λ (u : Numbered). Split 0x43 b u) z (ap (field-bytes 0x43) (listed 2 b l) ∙ sym y, number-of s hk .fine)
 
--- an operator has its code as body
-operator-bytes : (k : ℕ) → k < 6 → symbol-bytes (numbered (128 + k) 0) ≡ field-bytes 0x44 ((128 + k) ∷ [])
-unfolding symbol-numbered
-operator-bytes zero h = refl
-operator-bytes (suc zero) h = refl
-operator-bytes (suc (suc zero)) h = refl
-operator-bytes (suc (suc (suc zero))) h = refl
-operator-bytes (suc (suc (suc (suc zero)))) h = refl
-operator-bytes (suc (suc (suc (suc (suc zero))))) h = refl
-operator-bytes (suc (suc (suc (suc (suc (suc k)))))) h = absurd (omega arith)
+-- an operator has its number as body
+operator-field : (c k : ℕ) → field-bytes (tag-of (operator-numbered k)) (body-of c (operator-numbered k)) ≡ field-bytes 0x44 (c ∷ [])
+operator-field c zero = refl
+operator-field c (suc zero) = refl
+operator-field c (suc (suc zero)) = refl
+operator-field c (suc (suc (suc zero))) = refl
+operator-field c (suc (suc (suc (suc zero)))) = refl
+operator-field c (suc (suc (suc (suc (suc k))))) = refl
+
+pub operator-bytes : (c m : ℕ) → 128 ≤ c → ¬ (c ≡ 255) → symbol-bytes (numbered c m) ≡ field-bytes 0x44 (c ∷ [])
+operator-bytes c m l n = ap (λ (s : Symbol). field-bytes (tag-of s) (body-of c s)) (operator-number c m l n) ∙ operator-field c (c - 128)
 
 operator-split : (at : ℕ) (b : List ℕ) (x : Numbered) → length b ≡ 1 → operator-of at b ≡ got x → Split 0x44 b x
 unfolding operator-of
@@ -68,8 +69,7 @@ operator-split at b x l e =
     let z : numbered o 0 ≡ x = cc (a .1) in
     let low = leb-true 128 o (and-left _ (leb o 133) (a .0)) in
     let high = leb-true o 133 (and-right (leb 128 o) _ (a .0)) in
-    let i : 128 + (o - 128) ≡ o = omega arith in
-    let y = subst (λ (c : ℕ). symbol-bytes (numbered c 0) ≡ field-bytes 0x44 (c ∷ [])) i (operator-bytes (o - 128) (omega arith)) in
+    let y = operator-bytes o 0 low (λ e. omega arith) in
     subst (λ (u : Numbered). Split 0x44 b u) z (ap (field-bytes 0x44) (listed 1 b l) ∙ sym y, inl (omega arith, refl))
 
 pub symbol-split : (at t : ℕ) (b : List ℕ) (x : Numbered) → Bytes b → 0x43 ≤ t → t ≤ 0x45 → length b ≡ symbol-length t → symbol-in at t b ≡ got x → Split t b x
@@ -92,7 +92,7 @@ pub symbol-fits : (q : Stack) (x : Numbered) → fitting (due-symbols file.Narro
 unfolding fitting among rows
 symbol-fits q x = go (symbol-of x)
   where
-    go : (s : Symbol) → fitting (due-symbols file.Narrowed q) (tag-of s) (length (body-of s)) ≡ true
+    go : (s : Symbol) → fitting (due-symbols file.Narrowed q) (tag-of s) (length (body-of (x .number) s)) ≡ true
     go (s-step d l) = refl
     go (s-join any) = refl
     go (s-join (through m)) = refl
@@ -102,14 +102,14 @@ symbol-fits q x = go (symbol-of x)
 pub symbol-short : (x : Numbered) → length (symbol-body x) < 65536
 symbol-short x = go (symbol-of x)
   where
-    go : (s : Symbol) → length (body-of s) < 65536
+    go : (s : Symbol) → length (body-of (x .number) s) < 65536
     go (s-step d l) = omega arith
     go (s-join any) = omega arith
     go (s-join (through m)) = omega arith
     go (s-op o) = omega arith
     go s-closure = omega arith
 
-body-reads : (at : ℕ) (s : Symbol) → Held s → symbol-in at (tag-of s) (body-of s) ≡ got (number-symbol s)
+body-reads : (at : ℕ) (s : Symbol) → Held s → symbol-in at (tag-of s) (body-of (number-symbol s .number) s) ≡ got (number-symbol s)
 unfolding symbol-in step-of operator-of
 body-reads at (s-step forward l) h = rw (lt-ltb l 64 h)
 body-reads at (s-step reverse l) h = rw (lt-ltb l 64 h)
@@ -122,4 +122,6 @@ body-reads at (s-op branch-left) h = refl
 body-reads at s-closure h = refl
 
 pub symbol-reads : (at : ℕ) (x : Numbered) → Fine x → symbol-in at (symbol-tag x) (symbol-body x) ≡ got x
-symbol-reads at x f = let c = symbol-comes x f in body-reads at (symbol-of x) (c .0) ∙ ap got (c .1)
+symbol-reads at x f =
+    let c = symbol-comes x f in
+    ap (λ (y : Numbered). symbol-in at (symbol-tag x) (body-of (y .number) (symbol-of x))) (sym (c .1)) ∙ body-reads at (symbol-of x) (c .0) ∙ ap got (c .1)

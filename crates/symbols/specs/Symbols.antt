@@ -13,7 +13,7 @@ use Rattle.theory.specs.KindSet.{is-set}
 use Rattle.fields.specs.declared.File.{File}
 use Rattle.fields.specs.declared.Due.{Due}
 use Rattle.symbols.specs.declared.Stack.{Stack}
-pub use Rattle.symbols.specs.declared.Numbered.{Numbered}
+use Rattle.symbols.specs.declared.Numbered as declared·Numbered
 use Rattle.fields.specs.Table.{tag-length}
 use Rattle.theory.specs.Result.{Result, got, refused}
 use Rattle.fields.specs.Reading.{eight}
@@ -34,6 +34,9 @@ symbol-numbered c m =
     (cond (eqb c 255) (s-join (through m)) (operator-numbered (c - 128))))
 
 -- number and set
+abbrev pub Numbered : Type 0
+Numbered = declared·Numbered.Numbered
+
 abbrev pub numbered : ℕ → ℕ → Numbered
 numbered c m = record { number = c; set = m }
 

@@ -26,17 +26,17 @@ returns c =
     let c2 = c .before .before in
     second-ends _ _ _ _ _ _ (c2 .loop .inv .1 .1 .1 .1) (c2 .loop .inv .1 .1 .0) (c2 .loop .inv .1 .1 .1 .0) (c .before .loop-test .taken) (c .if1 .taken)
 
-shared-slice-read-code : tie.Need-shared-slice-read-code Inv-loop μ-loop
-shared-slice-read-code c = search needs
+shared-slice-read-order-code : tie.Need-shared-slice-read-order-code Inv-loop μ-loop
+shared-slice-read-order-code c = search needs
 
-code-requires : tie.Need-code-requires Inv-loop μ-loop
-code-requires c κs = search needs
+order-code-requires : tie.Need-order-code-requires Inv-loop μ-loop
+order-code-requires c κs = search needs
 
-shared-slice-read-code-2 : tie.Need-shared-slice-read-code-2 Inv-loop μ-loop
-shared-slice-read-code-2 c = search needs
+shared-slice-read-order-code-2 : tie.Need-shared-slice-read-order-code-2 Inv-loop μ-loop
+shared-slice-read-order-code-2 c = search needs
 
-code-requires-2 : tie.Need-code-requires-2 Inv-loop μ-loop
-code-requires-2 c κs = search needs
+order-code-requires-2 : tie.Need-order-code-requires-2 Inv-loop μ-loop
+order-code-requires-2 c κs = search needs
 
 returns-2 : tie.Need-returns-2 Inv-loop μ-loop
 returns-2 c =
@@ -45,7 +45,7 @@ returns-2 c =
     let c6 = c5 .before in
     let c7 = c6 .before in
     less _ _ _ _ _ _ (c7 .loop .inv .1 .1 .1 .1) (c7 .loop .inv .1 .1 .0) (c7 .loop .inv .1 .1 .1 .0) (c6 .loop-test .taken) (c5 .if1 .left)
-    (omega (arith, c3 .code .ensures, c .before .code2 .ensures, c .if2 .taken))
+    (omega (arith, c3 .order-code .ensures, c .before .order-code2 .ensures, c .if2 .taken))
 
 returns-3 : tie.Need-returns-3 Inv-loop μ-loop
 returns-3 c =
@@ -55,7 +55,7 @@ returns-3 c =
     let c7 = c6 .before in
     let c8 = c7 .before in
     greater _ _ _ _ _ _ (c8 .loop .inv .1 .1 .1 .1) (c8 .loop .inv .1 .1 .0) (c8 .loop .inv .1 .1 .1 .0) (c7 .loop-test .taken) (c6 .if1 .left)
-    (omega (arith, c4 .code .ensures, c2 .code2 .ensures, c .if3 .taken))
+    (omega (arith, c4 .order-code .ensures, c2 .order-code2 .ensures, c .if3 .taken))
 
 add-i : tie.Need-add-i Inv-loop μ-loop
 add-i c = search needs
@@ -81,7 +81,7 @@ loop-again c =
           (
             c8 .loop .inv .1 .1 .1 .0,
             equal _ _ _ _ _ _ (c8 .loop .inv .1 .1 .1 .1) (c8 .loop .inv .1 .1 .0) (c8 .loop .inv .1 .1 .1 .0) (c7 .loop-test .taken) (c6 .if1 .left)
-                (omega (arith, c4 .code .ensures, c2 .code2 .ensures, c .if3 .left, c .before .if2 .left)),
+                (omega (arith, c4 .order-code .ensures, c2 .order-code2 .ensures, c .if3 .left, c .before .if2 .left)),
           ),
         ),
       ),
@@ -98,10 +98,10 @@ earlier-spec =
     μ-loop
     loop-holds
     returns
-    shared-slice-read-code
-    code-requires
-    shared-slice-read-code-2
-    code-requires-2
+    shared-slice-read-order-code
+    order-code-requires
+    shared-slice-read-order-code-2
+    order-code-requires-2
     returns-2
     returns-3
     add-i

@@ -1,57 +1,49 @@
 -- Of what the bytes of a symbol, of symbols and of members are made.
 -- Assumes nothing.
-use Prim.Native.Nat.{ℕ, zero, suc, _+_, _-_, _/_, _%_, _<_, _≤_}
+use Prim.Native.Nat.{ℕ, zero, suc, _+_, _-_, _<_, _≤_}
 use mathlib.Core.Path.{_≡_, refl, ap, _∙_, sym, subst}
-use mathlib.Core.Bool.{Bool, true, false, cond}
-use mathlib.Core.List.{List, [], _∷_, _++_}
-use lib.Dec.{ltb, eqb}
+use mathlib.Core.List.{List, _∷_, _++_}
 use lib.ListN.{length, getD}
 use native.Mathlib.Omega.{arith}
-use borrow.Author.Tests.{lt-ltb, le-ltb, eq-eqb, ne-eqb}
 use Rattle.fields.specs.Table.{rows, tag-length, field-size}
 use Rattle.narrowed_question.specs.declared.Members.{Members}
 use Rattle.narrowed_question.specs.Form.{Flat, flat}
 use Rattle.fields.specs.Writing.{two-bytes, eight-bytes, field-bytes}
-use Rattle.symbols.specs.Writing.{symbol-bytes, symbols-bytes}
+use Rattle.theory.specs.PathExpr.{any, through, Symbol, s-step, s-join, s-op, s-closure}
+use Rattle.symbols.specs.Writing.{tag-of, symbol-bytes, symbols-bytes}
+use Rattle.symbols.proofs.Bytes.{given-bytes, field-length, tag-same}
 use Rattle.symbols.proofs.Numbers.{length-given}
 use Rattle.narrowed_question.specs.Writing.{member-bytes, members-bytes, encode}
-use Rattle.symbols.specs.Symbols.{symbol-given, symbols-given}
+use Rattle.symbols.specs.Symbols.{symbol-numbered, symbol-given, symbols-given}
 use Rattle.narrowed_question.specs.ArrayMembers.{members-given, given}
 use Rattle.encode.specs.Size.{symbol-size}
 use Rattle.encode.specs.BytesWritten.{BytesWritten}
 use Rattle.encode.proofs.Along.{wrote-more}
 
 -- ---- a symbol, by its number
-pub step-bytes : (c m : ℕ) {l : ℕ} → c < 128 → l ≡ c % 64 → symbol-bytes (symbol-given c m) ≡ field-bytes 0x43 (c / 64 ∷ l ∷ [])
-step-bytes c m h e = rw e (simp (lt-ltb c 128 h))
-
-pub through-bytes : (c m : ℕ) → 128 ≤ c → c ≡ 255 → symbol-bytes (symbol-given c m) ≡ field-bytes 0x45 (eight-bytes m)
-through-bytes c m g h = simp (le-ltb c 128 g, eq-eqb c 255 h)
-
-pub operator-bytes : (c m : ℕ) → 128 ≤ c → (c ≡ 255 → ⊥) → symbol-bytes (symbol-given c m) ≡ field-bytes 0x44 (c ∷ [])
-operator-bytes c m g h = simp (le-ltb c 128 g, ne-eqb c 255 h)
-
--- the size of a symbol's field
+-- the size of its field
 pub size-is : (c m : ℕ) → symbol-size c ≡ length (symbol-bytes (symbol-given c m))
+unfolding symbol-size
+size-is c m = ap field-size (sym (tag-same c m)) ∙ sym (field-length c (symbol-numbered c m)) ∙ sym (ap length (given-bytes c m refl))
+
+pub size-of : (c : ℕ) {s : Symbol} → symbol-numbered c 0 ≡ s → symbol-size c ≡ field-size (tag-of s)
+unfolding symbol-size
+size-of c e = ap (λ (s : Symbol). field-size (tag-of s)) e
+
+pub size-few : (c : ℕ) → symbol-size c ≤ 11
 unfolding symbol-size field-size tag-length rows
-size-is c m = go (ltb c 128) (eqb c 255) refl refl
+size-few c = go (symbol-numbered c 0)
   where
-    go : (a b : Bool) → ltb c 128 ≡ a → eqb c 255 ≡ b → cond (ltb c 128) 5 (cond (eqb c 255) 11 4) ≡ length (symbol-bytes (symbol-given c m))
-    go true b e f = rw e
-    go false true e f = rw (e, f)
-    go false false e f = rw (e, f)
+    go : (s : Symbol) → field-size (tag-of s) ≤ 11
+    go (s-step d l) = omega arith
+    go (s-join any) = omega arith
+    go (s-join (through m)) = omega arith
+    go (s-op o) = omega arith
+    go s-closure = omega arith
 
-pub step-room : (c m at : ℕ) {room : ℕ} → c < 128 → at + length (symbol-bytes (symbol-given c m)) ≤ room → at + field-size 0x43 ≤ room
-unfolding field-size tag-length rows
-step-room c m at h r = omega (arith, ap length (step-bytes c m h refl), r)
-
-pub through-room : (c m at : ℕ) {room : ℕ} → 128 ≤ c → c ≡ 255 → at + length (symbol-bytes (symbol-given c m)) ≤ room → at + field-size 0x45 ≤ room
-unfolding field-size tag-length rows
-through-room c m at g h r = omega (arith, ap length (through-bytes c m g h), r)
-
-pub operator-room : (c m at : ℕ) {room : ℕ} → 128 ≤ c → (c ≡ 255 → ⊥) → at + length (symbol-bytes (symbol-given c m)) ≤ room → at + field-size 0x44 ≤ room
-unfolding field-size tag-length rows
-operator-room c m at g h r = omega (arith, ap length (operator-bytes c m g h), r)
+-- the room that its bytes have is enough for its field
+pub symbol-room : (c m at : ℕ) {room : ℕ} (s : Symbol) → symbol-numbered c m ≡ s → at + length (symbol-bytes (symbol-given c m)) ≤ room → at + field-size (tag-of s) ≤ room
+symbol-room c m at s e r = omega (arith, ap length (given-bytes c m e), field-length c s)
 
 -- ---- symbols, one more
 pub symbols-more : (a b : List ℕ) (n k : ℕ) → 0 < n

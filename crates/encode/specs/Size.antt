@@ -1,10 +1,10 @@
--- How many bytes a symbol's field takes.
+-- How many bytes a symbol's field takes, by its number.
 -- SPECIFICATION, Files in general: 43, 44, 45.
 -- Assumes nothing.
-use mathlib.Core.Bool.{cond}
 use Prim.Native.Nat.{ℕ}
-use lib.Dec.{ltb, eqb}
 use Rattle.fields.specs.Table.{field-size}
+use Rattle.symbols.specs.Symbols.{symbol-numbered}
+use Rattle.symbols.specs.Writing.{tag-of}
 
 unfoldable pub symbol-size : ℕ → ℕ
-symbol-size c = cond (ltb c 128) (field-size 0x43) (cond (eqb c 255) (field-size 0x45) (field-size 0x44))
+symbol-size c = field-size (tag-of (symbol-numbered c 0))

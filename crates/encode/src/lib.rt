@@ -1,6 +1,9 @@
 // Puts fields into the caller's area: those of a path's symbols, and those of a narrowed question.
 use fields::Link;
 use narrowed_question::Members;
+use symbols::Direction;
+use symbols::Symbol;
+use symbols::Via;
 ghost use mathlib.Core.Path.{_≡_};
 ghost use mathlib.Core.List.{[], _∷_, _++_};
 ghost use Prim.Native.Nat.{_+_, _≤_, _<_};
@@ -9,7 +12,9 @@ ghost use lib.Seq.{sets};
 ghost use Rattle.fields.specs.Table.{field-size};
 ghost use Rattle.narrowed_question.specs.Form.{flat};
 ghost use Rattle.fields.specs.Writing.{two-bytes, eight-bytes, field-bytes};
-ghost use Rattle.symbols.specs.Writing.{symbol-bytes, symbols-bytes};
+ghost use Rattle.theory.specs.PathExpr.{s-join};
+ghost use Rattle.symbols.specs.Contract.{direction-said, via-said};
+ghost use Rattle.symbols.specs.Writing.{direction-number, tag-of, body-of, symbol-bytes, symbols-bytes};
 ghost use Rattle.narrowed_question.specs.Writing.{member-bytes, encode};
 ghost use Rattle.symbols.specs.Symbols.{symbol-given, symbols-given};
 ghost use Rattle.narrowed_question.specs.ArrayMembers.{given};
@@ -35,17 +40,26 @@ const FOUR: u64 = TWO * TWO;
 
 const SIX: u64 = TWO * FOUR;
 
+// The bytes of a join's field.
+fn join_size(via: Via) -> usize
+    ensures { λ r. ⌜ r ≡ field-size (tag-of (s-join (via-said via))) ⌝ }
+{
+    match via {
+        Via::Any => OPERATOR_BYTES,
+        Via::Through(_) => THROUGH_BYTES,
+    }
+}
+
 // The bytes of a symbol's field.
 pub fn symbol_size(number: u8) -> usize
     ensures { λ r. ⌜ (r ≡ symbol-size number) × (r ≤ 11) ⌝ }
 {
-    if number < symbols::STEPS {
-        return STEP_BYTES;
+    match symbols::decode(number, 0) {
+        Symbol::Step(_, _) => STEP_BYTES,
+        Symbol::Join(via) => join_size(via),
+        Symbol::Op(_) => OPERATOR_BYTES,
+        Symbol::Closure => OPERATOR_BYTES,
     }
-    if number == symbols::THROUGH {
-        return THROUGH_BYTES;
-    }
-    OPERATOR_BYTES
 }
 
 pub fn put_byte(out: &mut [u8], at: usize, b: u8) -> usize
@@ -119,12 +133,12 @@ fn put_open(out: &mut [u8], at: usize, n: u8, from: u64, to: u64) -> usize
 }
 
 // 43: direction and link.
-fn put_step(out: &mut [u8], at: usize, direction: u8, link: Link) -> usize
+fn put_step(out: &mut [u8], at: usize, direction: Direction, link: Link) -> usize
     requires { ⌜ at + field-size 0x43 ≤ length (now out) ⌝ }
-    ensures { λ r. ⌜ BytesWritten (now (out .entry)) (now (out .exit)) at r (field-bytes 0x43 (direction ∷ link .0 ∷ [])) ⌝ }
+    ensures { λ r. ⌜ BytesWritten (now (out .entry)) (now (out .exit)) at r (field-bytes 0x43 (direction-number (direction-said direction) ∷ link .0 ∷ [])) ⌝ }
 {
     let a = put_head(out, at, fields::STEP_TAG, fields::STEP_LENGTH);
-    let b = put_byte(out, a, direction);
+    let b = put_byte(out, a, symbols::direction_number(direction));
     put_byte(out, b, link.0)
 }
 
@@ -146,18 +160,28 @@ fn put_through(out: &mut [u8], at: usize, set: u64) -> usize
     put_eight(out, a, set)
 }
 
+// A join, of that number.
+fn put_join(out: &mut [u8], at: usize, number: u8, via: Via) -> usize
+    requires { ⌜ at + field-size (tag-of (s-join (via-said via))) ≤ length (now out) ⌝ }
+    ensures { λ r. ⌜ BytesWritten (now (out .entry)) (now (out .exit)) at r (field-bytes (tag-of (s-join (via-said via))) (body-of number (s-join (via-said via)))) ⌝ }
+{
+    match via {
+        Via::Any => put_operator(out, at, number),
+        Via::Through(set) => put_through(out, at, set),
+    }
+}
+
 // A symbol, by its number.
 fn put_symbol(out: &mut [u8], at: usize, number: u8, set: u64) -> usize
     requires { ⌜ at + length (symbol-bytes (symbol-given number set)) ≤ length (now out) ⌝ }
     ensures { λ r. ⌜ BytesWritten (now (out .entry)) (now (out .exit)) at r (symbol-bytes (symbol-given number set)) ⌝ }
 {
-    if number < symbols::STEPS {
-        return put_step(out, at, number / fields::LINKS, symbols::step_link(number));
+    match symbols::decode(number, set) {
+        Symbol::Step(direction, link) => put_step(out, at, direction, link),
+        Symbol::Join(via) => put_join(out, at, number, via),
+        Symbol::Op(_) => put_operator(out, at, number),
+        Symbol::Closure => put_operator(out, at, number),
     }
-    if number == symbols::THROUGH {
-        return put_through(out, at, set);
-    }
-    put_operator(out, at, number)
 }
 
 // n symbols from the k-th on.

@@ -6,14 +6,14 @@ use mathlib.Core.Bool.{Bool, true, false, cond, _&&_}
 use mathlib.Core.List.{List, [], _∷_, map}
 use lib.ListN.{length, length-drop, getD, take, drop}
 use lib.Seq.{drop-cons, length-take-le}
-use lib.Dec.{leb, ltb, eqb}
+use lib.Dec.{leb}
 use native.Mathlib.Omega.{arith}
 use borrow.Author.Tests.{leb-true, lt-leb, le-leb}
 use Rattle.theory.specs.PathExpr.{before?}
 use Rattle.symbols.specs.declared.Stack.{Stack}
 use Rattle.fields.specs.Table.{rows, tag-length, field-size}
 use Rattle.theory.specs.Result.{Result, got, refused, onward}
-use Rattle.symbols.specs.Symbols.{Numbered, arity, order-code, symbols-given}
+use Rattle.symbols.specs.Symbols.{Numbered, arity, order-code, symbols-given, symbol?}
 use Rattle.fields.proofs.Bools.{cond-then, not-got, onward-got, and-right}
 use Rattle.symbols.proofs.Symbols.{push-got}
 use Rattle.narrowed_question.specs.declared.Members.{Members}
@@ -25,7 +25,8 @@ use Rattle.symbols.proofs.Numbers.{length-given}
 use Rattle.encode.proofs.Parts.{members-many}
 use Rattle.encode.specs.BytesWritten.{Few}
 use Rattle.encode.specs.Size.{symbol-size}
-use Rattle.narrowed_writer.specs.Verdict.{symbol?, offered, path-verdict, member-verdict, members-verdict, verdict}
+use Rattle.encode.proofs.Parts.{size-few}
+use Rattle.narrowed_writer.specs.Verdict.{offered, path-verdict, member-verdict, members-verdict, verdict}
 
 -- the first of some elements from k on
 take-more : (l : List ℕ) (k n : ℕ) → 0 < n → k + n ≤ length l → take n (drop k l) ≡ getD l k 0 ∷ take (n - 1) (drop (k + 1) l)
@@ -85,15 +86,6 @@ given-codes ns ms n k h =
     codes-numbers (symbols-given ns ms n k) ∙ ap (map order-code) (given-numbers ns ms n k h ∙ ap (λ (m : ℕ). take m (drop k ns)) i)
 
 -- ---- how far a judgement goes
-size-few : (c : ℕ) → symbol-size c ≤ 11
-unfolding symbol-size field-size tag-length rows
-size-few c = go (ltb c 128) (eqb c 255)
-  where
-    go : (a b : Bool) → cond a 5 (cond b 11 4) ≤ 11
-    go true b = omega arith
-    go false true = omega arith
-    go false false = omega arith
-
 path-far : (q : Stack) (at : ℕ) (cs : List ℕ) (next : ℕ) → path-verdict q at cs ≡ got next → next ≤ at + 11 * length cs
 path-far q at [] next e = let z : at ≡ next = cc in omega arith
 path-far q at (c ∷ cs) next e =

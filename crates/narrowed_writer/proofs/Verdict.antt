@@ -1,35 +1,38 @@
 -- The judgement of members without their bytes is the reader's judgement of the file that they make.
 -- Assumes nothing.
-use Prim.Native.Nat.{ℕ, zero, suc, _+_, _/_, _%_, _-_, _<_, _≤_}
+use Prim.Native.Nat.{ℕ, zero, suc, _+_, _-_, _<_, _≤_}
 use mathlib.Core.Path.{_≡_, refl, ap, _∙_, sym, subst}
-use mathlib.Core.Bool.{Bool, true, false, cond, _&&_, _||_}
+use mathlib.Core.Bool.{Bool, true, false, cond, _&&_}
 use mathlib.Core.List.{List, [], _∷_, _++_, append-assoc, append-nil}
 use lib.ListN.{length, getD, take, drop, length-drop}
-use lib.Dec.{leb, ltb, eqb}
+use lib.Dec.{leb, eqb}
 use native.Mathlib.Omega.{arith}
-use borrow.Author.Tests.{leb-true, eqb-true, ltb-true, ltb-false, lt-ltb, le-ltb, le-leb, lt-leb, eq-eqb, ne-eqb}
+use native.Mathlib.Decide.{decLe, ℕ-discrete}
+use mathlib.Core.Logic.{inl}
+use borrow.Author.Tests.{leb-true, eq-eqb, ne-eqb}
 use Rattle.theory.specs.PathExpr.{before?}
 use Rattle.fields.specs.declared.File.the-variants as file
 use Rattle.symbols.specs.declared.Stack.{Stack}
 use Rattle.fields.specs.Table.{rows, tag-length, field-size}
 use Rattle.theory.specs.Result.{Result, got, refused, onward}
 use Rattle.fields.specs.Reading.{read}
-use Rattle.symbols.specs.Symbols.{Numbered, numbered, operator-of, symbol-in, arity, push, due-symbols, symbols-given}
+use Rattle.symbols.specs.Symbols.{Numbered, numbered, symbol-numbered, symbol-of, symbol?, symbol-in, arity, push, due-symbols, symbols-given}
 use Rattle.fields.proofs.Bools.{and-left}
 use Rattle.fields.proofs.ReaderLoop.{Going, going-start, going-ends, going-more, going-refused}
 use Rattle.narrowed_question.specs.declared.Members.{Members}
 use Rattle.narrowed_question.specs.Form.{Flat, flat, numbers, State, Open, open-as, between, within, head, due, grown, judge, narrowed-form, order-codes}
-use Rattle.fields.specs.Writing.{two-bytes, eight-bytes}
+use Rattle.fields.specs.Writing.{two-bytes}
 use Rattle.symbols.specs.Writing.{symbol-tag, symbol-body, symbol-bytes, symbols-bytes}
 use Rattle.narrowed_question.specs.Writing.{head-bytes, member-bytes, members-bytes, encode}
 use Rattle.narrowed_question.specs.ArrayMembers.{members-given, given}
 use Rattle.narrowed_question.proofs.MembersAhead.{one-more}
-use Rattle.fields.proofs.Bytes.{word-back, eight-back}
+use Rattle.fields.proofs.Bytes.{word-back}
 use Rattle.fields.proofs.Lies.{Lies, field-lies, ends-lie}
-use Rattle.symbols.proofs.Bytes.{symbol-fits, symbol-short, step-back, operator-back}
+use Rattle.symbols.proofs.Bytes.{symbol-fits, symbol-short, symbol-reads, through-reads, operator-refused, field-length, tag-same}
+use Rattle.symbols.proofs.Numbers.{known-below, known-through, unknown, closure-above}
 use Rattle.narrowed_question.proofs.WrittenThenRead.{head-fits, open-fits, opened, head-body, from-back, to-back}
 use Rattle.encode.specs.Size.{symbol-size}
-use Rattle.narrowed_writer.specs.Verdict.{symbol?, offered, path-verdict, member-verdict, members-verdict, verdict}
+use Rattle.narrowed_writer.specs.Verdict.{offered, path-verdict, member-verdict, members-verdict, verdict}
 use Rattle.narrowed_writer.proofs.Judging.{offered-got}
 
 -- only a join through a set has one
@@ -57,46 +60,32 @@ unfolding given
 given-normal q = members-normal q (q .count) 0 0
 
 -- ---- one symbol
-or-false : (b : Bool) → b ≡ b || false
-or-false true = refl
-or-false false = refl
-
 size-is : (x : Numbered) → 3 + length (symbol-body x) ≡ symbol-size (x .number)
-unfolding symbol-size field-size tag-length rows
-size-is x = go (ltb (x .number) 128) (eqb (x .number) 255)
-  where
-    go : (a b : Bool) → 3 + length (cond a (x .number / 64 ∷ x .number % 64 ∷ []) (cond b (eight-bytes (x .set)) (x .number ∷ []))) ≡ cond a 5 (cond b 11 4)
-    go true b = refl
-    go false true = refl
-    go false false = refl
+unfolding symbol-size
+size-is x = field-length (x .number) (symbol-of x) ∙ ap field-size (tag-same (x .number) (x .set))
 
-operator-judged : (at c : ℕ) (b : Bool) → 128 ≤ c → ltb c 134 ≡ b → operator-of at (c ∷ []) ≡ cond b (got (numbered c 0)) (refused 3 at)
-unfolding operator-of
-operator-judged at c true l f = operator-back at c l (let z = ltb-true c 134 f in omega arith)
-operator-judged at c false l f = outside (ltb-false c 134 f)
-  where
-    outside : 134 ≤ c → operator-of at (c ∷ []) ≡ refused 3 at
-    outside z = rw (le-leb 128 c l, lt-leb c 133 (omega arith))
+-- an operator's field, by its number
+operator-judged : (at c m : ℕ) → 134 ≤ c → ¬ (c ≡ 255) → symbol-in at (symbol-tag (numbered c m)) (symbol-body (numbered c m)) ≡ refused 3 at
+unfolding symbol-in
+operator-judged at c m l n = rw (closure-above c m l n) (operator-refused at c l)
+
+through-field : (at m : ℕ) → symbol-in at (symbol-tag (numbered 255 m)) (symbol-body (numbered 255 m)) ≡ got (numbered 255 m)
+unfolding symbol-numbered
+through-field at m = through-reads at m
 
 symbol-judged : (at : ℕ) (x : Numbered) → Normal x → symbol-in at (symbol-tag x) (symbol-body x) ≡ cond (symbol? (x .number)) (got x) (refused 3 at)
-unfolding symbol-in symbol?
-symbol-judged at x h = go (ltb (x .number) 128) (eqb (x .number) 255) refl refl
+symbol-judged at x h = go (decLe 134 c) (ℕ-discrete c 255)
   where
-    plain : eqb (x .number) 255 ≡ false → got (numbered (x .number) 0) ≡ got x
-    plain e = ap (λ (m : ℕ). got (numbered (x .number) m)) (sym (h e))
+    c : ℕ
+    c = x .number
 
-    go : (a b : Bool) → ltb (x .number) 128 ≡ a → eqb (x .number) 255 ≡ b → symbol-in at (cond a 0x43 (cond b 0x45 0x44))
-        (cond a (x .number / 64 ∷ x .number % 64 ∷ []) (cond b (eight-bytes (x .set)) (x .number ∷ []))) ≡ cond (ltb (x .number) 134 || b) (got x) (refused 3 at)
-    go true b p e =
-        let z = ltb-true (x .number) 128 p in
-        rw (lt-ltb (x .number) 134 (omega arith)) (step-back at (x .number) z ∙ plain (ne-eqb (x .number) 255 (omega arith)))
-    go false true p e =
-        let z = eqb-true (x .number) 255 e in
-        rw (le-ltb (x .number) 134 (omega arith)) (ap (λ (m : ℕ). got (numbered 255 m)) (eight-back (x .set)) ∙ ap (λ (c : ℕ). got (numbered c (x .set))) (sym z))
-    go false false p e =
-        operator-judged at (x .number) (ltb (x .number) 134) (ltb-false (x .number) 128 p) refl
-        ∙ ap (λ (a : Result Numbered). cond (ltb (x .number) 134) a (refused 3 at)) (plain e)
-        ∙ ap (λ (b : Bool). cond b (got x) (refused 3 at)) (or-false (ltb (x .number) 134))
+    go : Dec (134 ≤ c) → Dec (c ≡ 255) → symbol-in at (symbol-tag x) (symbol-body x) ≡ cond (symbol? c) (got x) (refused 3 at)
+    go (no l) d = rw (known-below c (omega arith)) (symbol-reads at x (inl (omega arith, h (ne-eqb c 255 (omega arith)))))
+    go (yes l) (yes e) = rw (known-through c e) (through-judged at (x .set) e)
+    go (yes l) (no n) = rw (unknown c l n) (operator-judged at c (x .set) l n)
+
+    through-judged : (at m : ℕ) → c ≡ 255 → symbol-in at (symbol-tag (numbered c m)) (symbol-body (numbered c m)) ≡ got (numbered c m)
+    through-judged at m e = subst (λ (k : ℕ). symbol-in at (symbol-tag (numbered k m)) (symbol-body (numbered k m)) ≡ got (numbered k m)) (sym e) (through-field at m)
 
 -- ---- a file, from a place on
 module _ (s : List ℕ) (A : Result (List Flat)) where

@@ -1,24 +1,21 @@
 -- The judgement of members without their bytes: the place after them, or the refusal. What the code computes before it writes;
 -- proofs/Verdict.antt has that it is the reader's judgement of the file.
 -- Assumes nothing.
-use mathlib.Core.Bool.{Bool, cond, _&&_, _||_}
+use mathlib.Core.Bool.{cond, _&&_}
 use mathlib.Core.List.{List, [], _∷_}
 use Prim.Native.Nat.{ℕ, _+_}
-use lib.Dec.{leb, ltb, eqb}
+use lib.Dec.{leb}
 use lib.ListN.{length}
 use Rattle.theory.specs.PathExpr.{before?}
 use Rattle.symbols.specs.declared.Stack.{Stack}
 use Rattle.fields.specs.Table.{field-size}
 use Rattle.theory.specs.Result.{Result, got, refused, onward}
 use Rattle.fields.specs.Contract.{refusal-said}
-use Rattle.symbols.specs.Symbols.{arity, push}
+use Rattle.symbols.specs.Symbols.{symbol?, arity, push}
 use Rattle.narrowed_question.specs.Form.{Flat, order-codes, numbers}
 use Rattle.narrowed_writer.specs.declared.Place.{Place}
 use Rattle.encode.specs.Size.{symbol-size}
 use Rattle.narrowed_writer.specs.declared.Place.the-variants as place
-
-unfoldable pub symbol? : ℕ → Bool
-symbol? c = ltb c 134 || eqb c 255
 
 -- a symbol of that number at a place: refusals 3 and 6
 unfoldable pub offered : Stack → ℕ → ℕ → Result Stack

@@ -9,7 +9,7 @@ ghost use lib.ListN.{length, take, drop};
 ghost use Rattle.symbols.specs.Contract.{push-said};
 ghost use Rattle.narrowed_question.specs.ArrayMembers.{given};
 ghost use Rattle.narrowed_writer.specs.Outcome.{Writes};
-ghost use Rattle.narrowed_writer.specs.Verdict.{symbol?, offered, path-verdict, member-verdict, verdict, place-said};
+ghost use Rattle.narrowed_writer.specs.Verdict.{offered, path-verdict, member-verdict, verdict, place-said};
 
 // The place after what was judged, or why it is refused.
 pub enum Place {
@@ -17,28 +17,15 @@ pub enum Place {
     Refused(Refusal),
 }
 
-// Numbers below this one are steps and operators.
-const KNOWN: u8 = symbols::CLOSURE + 1;
-
 // The most symbols of a member.
 const MOST: u8 = fields::MEMBER_SYMBOLS as u8;
-
-// Whether it is a symbol's number.
-fn known(number: u8) -> bool
-    ensures { λ r. ⌜ r ≡ symbol? number ⌝ }
-{
-    if number < KNOWN {
-        return true;
-    }
-    number == symbols::THROUGH
-}
 
 // Judges a symbol, by its number, at a place: refusals 3 and 6.
 fn offer(q: Stack, at: usize, number: u8) -> Pushed
     requires { ⌜ (0 < q .left) × ((q .depth < 255) × (at < 1000000)) ⌝ }
     ensures { λ r. ⌜ push-said r ≡ offered q at number ⌝ }
 {
-    if known(number) {
+    if symbols::is_symbol(number) {
         return symbols::push_symbol(
             q,
             at,

@@ -8,19 +8,19 @@ use mathlib.Core.List.{List, [], _∷_}
 use lib.ListN.{length, getD}
 use lib.Dec.{leb, ltb, eqb}
 use native.Mathlib.Omega.{arith}
-use borrow.Author.Tests.{eqb-true, eqb-false, ltb-true, leb-true, lt-ltb}
-use Rattle.theory.specs.Result.{got}
+use borrow.Author.Tests.{eqb-true, eqb-false, ltb-true, leb-true, lt-ltb, le-leb, lt-leb}
+use Rattle.theory.specs.Result.{got, refused}
 use Rattle.fields.specs.Reading.{eight, fitting}
 use Rattle.theory.specs.PathExpr.{forward, reverse, any, through, union, conjunction, branch-right, branch-left, Symbol, s-step, s-join, s-op, s-closure}
-use Rattle.symbols.specs.Symbols.{Numbered, numbered, symbol-of, symbol-numbered, operator-numbered, number-symbol, direction-numbered, step-of, operator-of, symbol-in, symbol-length, due-symbols}
+use Rattle.symbols.specs.Symbols.{Numbered, numbered, symbol-of, symbol-numbered, operator-numbered, number-symbol, direction-numbered, symbol-given, step-of, operator-of, symbol-in, symbol-length, due-symbols}
 use Rattle.fields.proofs.Bools.{cond-then, not-got, and-left, and-right}
-use Rattle.fields.specs.Writing.{Bytes, field-bytes}
+use Rattle.fields.specs.Writing.{Bytes, eight-bytes, field-bytes}
 use Rattle.symbols.specs.Writing.{direction-number, tag-of, body-of, symbol-tag, symbol-body, symbol-bytes}
 use Rattle.symbols.specs.Symbols.{Fine}
 use Rattle.fields.specs.declared.File.the-variants as file
 use Rattle.symbols.specs.declared.Stack.{Stack}
-use Rattle.fields.specs.Table.{among, rows, tag-length}
-use Rattle.symbols.proofs.Numbers.{Held, number-of, symbol-comes, operator-number}
+use Rattle.fields.specs.Table.{among, rows, tag-length, field-size}
+use Rattle.symbols.proofs.Numbers.{Held, number-of, symbol-comes, operator-number, given-symbol}
 use Rattle.fields.proofs.Bytes.{listed, eight-of, eight-set, eight-back}
 
 -- ---- a symbol that was read: its field's bytes, and its ranges
@@ -109,12 +109,17 @@ symbol-short x = go (symbol-of x)
     go (s-op o) = omega arith
     go s-closure = omega arith
 
+-- whatever the set is
+pub through-reads : (at m : ℕ) → symbol-in at 0x45 (eight-bytes m) ≡ got (numbered 255 m)
+unfolding symbol-in
+through-reads at m = ap (λ (n : ℕ). got (numbered 255 n)) (eight-back m)
+
 body-reads : (at : ℕ) (s : Symbol) → Held s → symbol-in at (tag-of s) (body-of (number-symbol s .number) s) ≡ got (number-symbol s)
 unfolding symbol-in step-of operator-of
 body-reads at (s-step forward l) h = rw (lt-ltb l 64 h)
 body-reads at (s-step reverse l) h = rw (lt-ltb l 64 h)
 body-reads at (s-join any) h = refl
-body-reads at (s-join (through m)) h = ap (λ (n : ℕ). got (numbered 255 n)) (eight-back m)
+body-reads at (s-join (through m)) h = through-reads at m
 body-reads at (s-op union) h = refl
 body-reads at (s-op conjunction) h = refl
 body-reads at (s-op branch-right) h = refl
@@ -125,3 +130,33 @@ pub symbol-reads : (at : ℕ) (x : Numbered) → Fine x → symbol-in at (symbol
 symbol-reads at x f =
     let c = symbol-comes x f in
     ap (λ (y : Numbered). symbol-in at (symbol-tag x) (body-of (y .number) (symbol-of x))) (sym (c .1)) ∙ body-reads at (symbol-of x) (c .0) ∙ ap got (c .1)
+
+-- ---- the bytes of a symbol of two arrays
+pub given-bytes : (c m : ℕ) {s : Symbol} → symbol-numbered c m ≡ s → symbol-bytes (symbol-given c m) ≡ field-bytes (tag-of s) (body-of c s)
+given-bytes c m e = ap (λ (s : Symbol). field-bytes (tag-of s) (body-of c s)) (given-symbol c m ∙ e)
+
+-- its field is as long as the tag says
+pub field-length : (c : ℕ) (s : Symbol) → length (field-bytes (tag-of s) (body-of c s)) ≡ field-size (tag-of s)
+unfolding field-size tag-length rows
+field-length c (s-step d l) = refl
+field-length c (s-join any) = refl
+field-length c (s-join (through m)) = refl
+field-length c (s-op o) = refl
+field-length c s-closure = refl
+
+-- the set does not matter to the tag
+pub tag-same : (c m : ℕ) → tag-of (symbol-numbered c m) ≡ tag-of (symbol-numbered c 0)
+unfolding symbol-numbered
+tag-same c m = go (ltb c 64) (ltb c 128) (eqb c 255)
+  where
+    go : (a b e : Bool) → tag-of (cond a (s-step forward c) (cond b (s-step reverse (c - 64)) (cond e (s-join (through m)) (operator-numbered (c - 128)))))
+        ≡ tag-of (cond a (s-step forward c) (cond b (s-step reverse (c - 64)) (cond e (s-join (through 0)) (operator-numbered (c - 128)))))
+    go true b e = refl
+    go false true e = refl
+    go false false true = refl
+    go false false false = refl
+
+-- ---- a number that is no symbol's is refused where its field is read
+pub operator-refused : (at c : ℕ) → 134 ≤ c → operator-of at (c ∷ []) ≡ refused 3 at
+unfolding operator-of
+operator-refused at c l = rw (le-leb 128 c (omega arith), lt-leb c 133 (omega arith))

@@ -3,6 +3,7 @@
 use Prim.Native.Nat.{ℕ, suc, zero, _+_, _-_, _<_, _≤_}
 use mathlib.Core.Path.{_≡_, refl, sym, ap, ap₂, _∙_, subst}
 use mathlib.Core.Logic.{inl, inr}
+use mathlib.Core.Bool.{true, false}
 use mathlib.Core.List.{List, [], _∷_, _++_, map}
 use lib.Dec.{T, ltb→lt}
 use lib.ListN.{length, length-append, length-map}
@@ -17,7 +18,7 @@ use Rattle.theory.proofs.Tests.{tests}
 use Rattle.symbols.specs.declared.Symbol as declared·Symbol
 use Rattle.symbols.specs.declared.Symbol.the-variants as symbol
 use Rattle.symbols.specs.Contract.{direction-said, symbol-said, LinkFits}
-use Rattle.symbols.specs.Symbols.{Numbered, numbered, symbol-of, operands, order-code, arity, operator-numbered, symbol-numbered, Fine, number-symbol, symbols-given}
+use Rattle.symbols.specs.Symbols.{Numbered, numbered, symbol-of, operands, order-code, arity, operator-numbered, symbol-numbered, symbol?, Fine, number-symbol, symbol-given, symbols-given}
 
 -- a file can hold the symbol
 abbrev pub Held : Symbol → Type 0
@@ -144,6 +145,34 @@ pub code-number : (c : ℕ) → c < 134 → code (symbol-numbered c 0) ≡ c
 code-number c h =
     let k = symbol-comes (numbered c 0) (inl (h, refl)) in
     sym (number-of (symbol-numbered c 0) (k .0) .same-code) ∙ ap (λ (x : Numbered). order-code (x .number)) (k .1) ∙ plain-code c (omega arith)
+
+-- ---- which numbers are a symbol's: those below 134, and 255
+pub known-below : (c : ℕ) → c < 134 → symbol? c ≡ true
+unfolding symbol?
+known-below c h = eq-eqb (number-symbol (symbol-numbered c 0) .number) c (ap (λ (x : Numbered). x .number) (plain-comes c h .1))
+
+pub known-through : (c : ℕ) → c ≡ 255 → symbol? c ≡ true
+unfolding symbol? symbol-numbered
+known-through c e = rw e refl
+
+pub closure-above : (c m : ℕ) → 134 ≤ c → ¬ (c ≡ 255) → symbol-numbered c m ≡ s-closure
+closure-above c m l n = operator-number c m (omega arith) n ∙ last-operator (c - 128) (from-133 (omega arith))
+
+pub unknown : (c : ℕ) → 134 ≤ c → ¬ (c ≡ 255) → symbol? c ≡ false
+unfolding symbol?
+unknown c l n = rw (closure-above c 0 l n) (ne-eqb 133 c (omega arith))
+
+-- ---- a symbol of two arrays, in which only a join through a set has one
+without-set : (c m : ℕ) → ¬ (c ≡ 255) → symbol-numbered c 0 ≡ symbol-numbered c m
+unfolding symbol-numbered
+without-set c m n = rw (ne-eqb c 255 n)
+
+pub given-symbol : (c m : ℕ) → symbol-of (symbol-given c m) ≡ symbol-numbered c m
+given-symbol c m = go (ℕ-discrete c 255)
+  where
+    go : Dec (c ≡ 255) → symbol-of (symbol-given c m) ≡ symbol-numbered c m
+    go (yes e) = rw (eq-eqb c 255 e) refl
+    go (no n) = rw (ne-eqb c 255 n) (without-set c m n)
 
 -- ---- what is known of a step's link
 pub step-below : (c m : ℕ) (d : Direction) (l : ℕ) → symbol-numbered c m ≡ s-step d l → l < 64

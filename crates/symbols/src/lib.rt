@@ -9,6 +9,7 @@ ghost use lib.ListN.{length};
 ghost use Rattle.fields.specs.Table.{tag-length};
 ghost use Rattle.symbols.specs.Symbols.{symbol-length, step-of, operator-of, symbol-in, push, arity, due-symbols, symbol-numbered, number-symbol, order-code, symbol?, numbered, direction-numbered};
 ghost use Rattle.theory.specs.PathExpr.{s-join, step-code, op-code};
+ghost use Rattle.symbols.specs.Writing.{direction-number};
 ghost use Rattle.symbols.specs.Contract.{direction-said, via-said, operator-said, symbol-said, LinkFits, read-said, push-said};
 
 // Forward and reverse.
@@ -158,7 +159,17 @@ pub enum Read {
     Is(Numbered),
 }
 
-// The direction in a step's field: 0 forward, any other number reverse.
+// A direction as a step's field has it.
+pub fn direction_number(direction: Direction) -> u8
+    ensures { λ r. ⌜ r ≡ direction-number (direction-said direction) ⌝ }
+{
+    match direction {
+        Direction::Forward => 0,
+        Direction::Reverse => 1,
+    }
+}
+
+// And back: 0 forward, any other number reverse.
 fn direction_in(b: u8) -> Direction
     ensures { λ r. ⌜ direction-said r ≡ direction-numbered b ⌝ }
 {

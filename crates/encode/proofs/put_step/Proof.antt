@@ -10,6 +10,9 @@ put-head-requires : tie.Need-put-head-requires
 unfolding field-size tag-length rows
 put-head-requires c κs = search needs
 
+direction-number-requires : tie.Need-direction-number-requires
+direction-number-requires c κs = search needs
+
 put-byte-requires : tie.Need-put-byte-requires
 unfolding field-size tag-length rows
 put-byte-requires c κs = search needs
@@ -25,10 +28,11 @@ returns : tie.Need-returns
 returns c =
     let c2 = c .before .before in
     let c6 = c2 .before .before .before .before in
-    let c10 = c6 .before .before .before .before in
-    wrote-more (wrote-more (c10 .put-head .ensures) (c6 .put-byte .ensures)) (c2 .put-byte2 .ensures)
+    let c11 = c6 .before .before .before .before .before in
+    let d = c6 .before .direction-number .ensures in
+    rw (← d) (wrote-more (wrote-more (c11 .put-head .ensures) (c6 .put-byte .ensures)) (c2 .put-byte2 .ensures))
 
 pub put-step-spec : {M : Type 1} → statement M
 put-step-spec =
     tie.close
-    (tie.spec put-head-requires put-byte-requires put-byte-requires-2 same-length returns)
+    (tie.spec put-head-requires direction-number-requires put-byte-requires put-byte-requires-2 same-length returns)

@@ -1,51 +1,81 @@
--- `encode::put_symbol` meets its contract: a number below 128 is a step (direction number / 64, link modulo 64), 255 a join through a set, any other an operator.
+-- `encode::put_symbol` meets its contract: the symbol tells which field it has; an operator has its number in it.
 -- Assumes nothing.
-use Rattle.encode.proofs.Parts.{step-bytes, through-bytes, operator-bytes, step-room, through-room, operator-room}
+use Rattle.encode.proofs.Parts.{symbol-room}
+use Rattle.symbols.proofs.Bytes.{given-bytes}
+use Rattle.symbols.proofs.Numbers.{decoded}
 use borrow.Author.Needs.{needs}
 use Rattle.encode.proofs.put_symbol.Statement.{statement}
 use Rattle.encode.proofs.put_symbol.Tie as tie
 
-step-link-requires : tie.Need-step-link-requires
-step-link-requires c κs = search needs
+decode-requires : tie.Need-decode-requires
+decode-requires c κs = search needs
+
+enum-known-direction : tie.Need-enum-known-direction
+enum-known-direction c = search needs
 
 put-step-requires : tie.Need-put-step-requires
-put-step-requires c κs = step-room _ (c .before .before .before .before .args .set) _ (c .before .before .if1 .taken) (c .before .before .before .before .pre)
+put-step-requires c κs = symbol-room _ _ _ _ (decoded (c .before .before .before .before .decode .ensures) (c .before .before .direction .given .1)) (c .before .before .before .before .before .before .pre)
+
+enum-known-via : tie.Need-enum-known-via
+enum-known-via c = search needs
+
+put-join-requires : tie.Need-put-join-requires
+put-join-requires c κs = symbol-room _ _ _ _ (decoded (c .before .before .before .before .decode .ensures) (c .before .before .via .given .1)) (c .before .before .before .before .before .before .pre)
+
+enum-told : tie.Need-enum-told
+enum-told c = search needs
+
+put-operator-requires : tie.Need-put-operator-requires
+put-operator-requires c κs = symbol-room _ _ _ _ (decoded (c .before .before .before .decode .ensures) (c .before .enum-told .given .1)) (c .before .before .before .before .before .pre)
+
+enum-told-2 : tie.Need-enum-told-2
+enum-told-2 c = search needs
+
+put-operator-requires-2 : tie.Need-put-operator-requires-2
+put-operator-requires-2 c κs = symbol-room _ _ _ _ (decoded (c .before .before .before .decode .ensures) (c .before .enum-told2 .given .1)) (c .before .before .before .before .before .pre)
 
 same-length : tie.Need-same-length
 same-length c = search needs
 
 returns : tie.Need-returns
-returns c = rw (step-bytes _ _ (c .before .before .before .before .before .if1 .taken) (c .before .before .before .step-link .ensures .0)) (c .before .before .put-step .ensures)
-
-put-through-requires : tie.Need-put-through-requires
-put-through-requires c κs = through-room _ (c .before .before .before .before .args .set) _ (c .before .before .if1 .left) (c .before .if2 .taken) (c .before .before .before .before .pre)
+returns c = rw (given-bytes _ _ (decoded (c .before .before .before .before .before .before .before .decode .ensures) (c .before .before .before .before .before .direction .given .1))) (c .before .before .put-step .ensures)
 
 same-length-2 : tie.Need-same-length-2
 same-length-2 c = search needs
 
 returns-2 : tie.Need-returns-2
-returns-2 c = rw (through-bytes _ _ (c .before .before .before .before .before .if1 .left) (c .before .before .before .before .if2 .taken)) (c .before .before .put-through .ensures)
-
-put-operator-requires : tie.Need-put-operator-requires
-put-operator-requires c κs = operator-room _ (c .before .before .before .before .args .set) _ (c .before .before .if1 .left) (c .before .if2 .left) (c .before .before .before .before .pre)
+returns-2 c = rw (given-bytes _ _ (decoded (c .before .before .before .before .before .before .before .decode .ensures) (c .before .before .before .before .before .via .given .1))) (c .before .before .put-join .ensures)
 
 same-length-3 : tie.Need-same-length-3
 same-length-3 c = search needs
 
 returns-3 : tie.Need-returns-3
-returns-3 c = rw (operator-bytes _ _ (c .before .before .before .before .before .if1 .left) (c .before .before .before .before .if2 .left)) (c .before .before .put-operator .ensures)
+returns-3 c = rw (given-bytes _ _ (decoded (c .before .before .before .before .before .before .decode .ensures) (c .before .before .before .before .enum-told .given .1))) (c .before .before .put-operator .ensures)
+
+same-length-4 : tie.Need-same-length-4
+same-length-4 c = search needs
+
+returns-4 : tie.Need-returns-4
+returns-4 c = rw (given-bytes _ _ (decoded (c .before .before .before .before .before .before .decode .ensures) (c .before .before .before .before .enum-told2 .given .1))) (c .before .before .put-operator2 .ensures)
 
 pub put-symbol-spec : {M : Type 1} → statement M
 put-symbol-spec =
     tie.close
     (tie.spec
-    step-link-requires
+    decode-requires
+    enum-known-direction
     put-step-requires
+    enum-known-via
+    put-join-requires
+    enum-told
+    put-operator-requires
+    enum-told-2
+    put-operator-requires-2
     same-length
     returns
-    put-through-requires
     same-length-2
     returns-2
-    put-operator-requires
     same-length-3
-    returns-3)
+    returns-3
+    same-length-4
+    returns-4)

@@ -6,8 +6,8 @@ use borrow.Author.Needs.{needs}
 use Rattle.narrowed_writer.proofs.offer.Statement.{statement}
 use Rattle.narrowed_writer.proofs.offer.Tie as tie
 
-known-requires : tie.Need-known-requires
-known-requires c κs = search needs
+is-symbol-requires : tie.Need-is-symbol-requires
+is-symbol-requires c κs = search needs
 
 symbol-size-requires : tie.Need-symbol-size-requires
 symbol-size-requires c κs = search needs
@@ -27,17 +27,17 @@ returns c =
     let c2 = c .before .before in
     let c3 = c2 .before in
     let c4 = c3 .before in
-    simp (c3 .if1 .taken, ← c4 .known .ensures, ← c .before .operands .ensures, ← c2 .symbol-size .ensures .0) (c .push-symbol .ensures)
+    simp (c3 .if1 .taken, ← c4 .is-symbol .ensures, ← c .before .operands .ensures, ← c2 .symbol-size .ensures .0) (c .push-symbol .ensures)
 
 returns-2 : tie.Need-returns-2
 unfolding offered
-returns-2 c = simp (c .if1 .left, ← c .before .known .ensures)
+returns-2 c = simp (c .if1 .left, ← c .before .is-symbol .ensures)
 
 pub offer-spec : {M : Type 1} → statement M
 offer-spec =
     tie.close
     (tie.spec
-    known-requires
+    is-symbol-requires
     symbol-size-requires
     add-push-symbol
     operands-requires

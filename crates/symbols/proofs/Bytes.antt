@@ -6,12 +6,12 @@ use mathlib.Core.Logic.{inl, inr}
 use mathlib.Core.Bool.{Bool, true, false, cond, _&&_}
 use mathlib.Core.List.{List, [], _∷_}
 use lib.ListN.{length, getD}
-use lib.Dec.{leb, ltb, eqb}
+use lib.Dec.{leb, ltb, eqb, ltb→lt, lt→ltb}
 use native.Mathlib.Omega.{arith}
 use borrow.Author.Tests.{eqb-true, eqb-false, ltb-true, leb-true, lt-ltb, le-leb, lt-leb}
 use Rattle.theory.specs.Result.{got, refused}
 use Rattle.fields.specs.Reading.{eight, fitting}
-use Rattle.theory.specs.PathExpr.{forward, reverse, any, through, union, conjunction, branch-right, branch-left, Symbol, s-step, s-join, s-op, s-closure}
+use Rattle.theory.specs.PathExpr.{forward, reverse, named, any, through, union, conjunction, branch-right, branch-left, Symbol, s-step, s-join, s-op, s-closure}
 use Rattle.symbols.specs.Symbols.{Numbered, numbered, symbol-of, symbol-numbered, operator-numbered, number-symbol, direction-numbered, symbol-given, step-of, operator-of, symbol-in, symbol-length, due-symbols}
 use Rattle.fields.proofs.Bools.{cond-then, not-got, and-left, and-right}
 use Rattle.fields.specs.Writing.{Bytes, eight-bytes, field-bytes}
@@ -42,12 +42,13 @@ step-split at b x l e =
     let d = getD b 0 0 in
     let k = getD b 1 0 in
     let a = cond-then (ltb d 2 && ltb k 64) (not-got 3 at x) e in
-    let s = s-step (direction-numbered d) k in
+    let s = s-step (direction-numbered d) (named k) in
     let z : number-symbol s ≡ x = cc (a .1) in
     let hd = ltb-true d 2 (and-left _ (ltb k 64) (a .0)) in
     let hk = ltb-true k 64 (and-right (ltb d 2) _ (a .0)) in
-    let y = numbered-bytes s hk ∙ ap (λ (n : ℕ). field-bytes 0x43 (n ∷ k ∷ [])) (direction-back d hd) in
-    subst (λ (u : Numbered). Split 0x43 b u) z (ap (field-bytes 0x43) (listed 2 b l) ∙ sym y, number-of s hk .fine)
+    let held = lt→ltb k 64 hk in
+    let y = numbered-bytes s held ∙ ap (λ (n : ℕ). field-bytes 0x43 (n ∷ k ∷ [])) (direction-back d hd) in
+    subst (λ (u : Numbered). Split 0x43 b u) z (ap (field-bytes 0x43) (listed 2 b l) ∙ sym y, number-of s held .fine)
 
 -- an operator has its number as body
 operator-field : (c k : ℕ) → field-bytes (tag-of (operator-numbered k)) (body-of c (operator-numbered k)) ≡ field-bytes 0x44 (c ∷ [])
@@ -116,8 +117,8 @@ through-reads at m = ap (λ (n : ℕ). got (numbered 255 n)) (eight-back m)
 
 body-reads : (at : ℕ) (s : Symbol) → Held s → symbol-in at (tag-of s) (body-of (number-symbol s .number) s) ≡ got (number-symbol s)
 unfolding symbol-in step-of operator-of
-body-reads at (s-step forward l) h = rw (lt-ltb l 64 h)
-body-reads at (s-step reverse l) h = rw (lt-ltb l 64 h)
+body-reads at (s-step forward (named l)) h = rw (lt-ltb l 64 (ltb→lt l 64 h))
+body-reads at (s-step reverse (named l)) h = rw (lt-ltb l 64 (ltb→lt l 64 h))
 body-reads at (s-join any) h = refl
 body-reads at (s-join (through m)) h = through-reads at m
 body-reads at (s-op union) h = refl
@@ -149,8 +150,8 @@ pub tag-same : (c m : ℕ) → tag-of (symbol-numbered c m) ≡ tag-of (symbol-n
 unfolding symbol-numbered
 tag-same c m = go (ltb c 64) (ltb c 128) (eqb c 255)
   where
-    go : (a b e : Bool) → tag-of (cond a (s-step forward c) (cond b (s-step reverse (c - 64)) (cond e (s-join (through m)) (operator-numbered (c - 128)))))
-        ≡ tag-of (cond a (s-step forward c) (cond b (s-step reverse (c - 64)) (cond e (s-join (through 0)) (operator-numbered (c - 128)))))
+    go : (a b e : Bool) → tag-of (cond a (s-step forward (named c)) (cond b (s-step reverse (named (c - 64))) (cond e (s-join (through m)) (operator-numbered (c - 128)))))
+        ≡ tag-of (cond a (s-step forward (named c)) (cond b (s-step reverse (named (c - 64))) (cond e (s-join (through 0)) (operator-numbered (c - 128)))))
     go true b e = refl
     go false true e = refl
     go false false true = refl

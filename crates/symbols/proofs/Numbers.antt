@@ -5,13 +5,13 @@ use mathlib.Core.Path.{_≡_, refl, sym, ap, ap₂, _∙_, subst}
 use mathlib.Core.Logic.{inl, inr}
 use mathlib.Core.Bool.{true, false}
 use mathlib.Core.List.{List, [], _∷_, _++_, map}
-use lib.Dec.{T, ltb→lt}
+use lib.Dec.{T, ltb→lt, lt→ltb}
 use lib.ListN.{length, length-append, length-map}
 use native.Mathlib.Decide.{decLe, ℕ-discrete}
 use native.Mathlib.Omega.{arith}
 use borrow.Author.Tests.{lt-ltb, le-ltb, eq-eqb, ne-eqb}
 use Rattle.theory.specs.KindSet.{is-set}
-use Rattle.theory.specs.PathExpr.{Direction, forward, reverse, any, through, union, conjunction, branch-right, branch-left, PathExpr, step, join, op, closure}
+use Rattle.theory.specs.PathExpr.{Direction, forward, reverse, Label, named, below?, any, through, union, conjunction, branch-right, branch-left, PathExpr, step, join, op, closure}
 use Rattle.theory.specs.PathExpr.{Symbol, s-step, s-join, s-op, s-closure, postfix, size, code, codes, links?}
 use Rattle.theory.specs.Narrowing.{via-fits, sets-fit}
 use Rattle.theory.proofs.Tests.{tests}
@@ -22,7 +22,7 @@ use Rattle.symbols.specs.Symbols.{Numbered, numbered, symbol-of, operand
 
 -- a file can hold the symbol
 abbrev pub Held : Symbol → Type 0
-Held (s-step d l) = l < 64
+Held (s-step d l) = T (below? l 64)
 Held (s-join v) = via-fits v
 Held (s-op o) = Unit {0}
 Held s-closure = Unit {0}
@@ -40,12 +40,14 @@ plain-code c h = rw (ne-eqb c 255 (omega arith))
 
 pub number-of : (s : Symbol) → Held s → Number s
 unfolding order-code arity symbol-numbered
-number-of (s-step forward l) h =
-    let e : symbol-numbered l 0 ≡ s-step forward l = rw (lt-ltb l 64 h) in
+number-of (s-step forward (named l)) t =
+    let h = ltb→lt l 64 t in
+    let e : symbol-numbered l 0 ≡ s-step forward (named l) = rw (lt-ltb l 64 h) in
     record { fine = inl (omega arith, refl); same-code = plain-code l (omega arith); takes = ap operands e; back = e }
-number-of (s-step reverse l) h =
+number-of (s-step reverse (named l)) t =
+    let h = ltb→lt l 64 t in
     let i : 64 + l - 64 ≡ l = omega arith in
-    let e : symbol-numbered (64 + l) 0 ≡ s-step reverse l = rw (le-ltb (64 + l) 64 (omega arith), lt-ltb (64 + l) 128 (omega arith), i) in
+    let e : symbol-numbered (64 + l) 0 ≡ s-step reverse (named l) = rw (le-ltb (64 + l) 64 (omega arith), lt-ltb (64 + l) 128 (omega arith), i) in
     record { fine = inl (omega arith, refl); same-code = plain-code (64 + l) (omega arith); takes = ap operands e; back = e }
 number-of (s-join any) h = record { fine = inl (omega arith, refl); same-code = refl; takes = refl; back = refl }
 number-of (s-join (through m)) h = record { fine = inr (refl, h); same-code = refl; takes = refl; back = refl }
@@ -74,8 +76,8 @@ unfolding symbol-numbered
 plain-comes c h = go (decLe 64 c) (decLe 128 c)
   where
     go : Dec (64 ≤ c) → Dec (128 ≤ c) → Comes (numbered c 0)
-    go (no a) b = rw (lt-ltb c 64 (omega arith)) (omega arith, refl)
-    go (yes a) (no b) = let e : 64 + (c - 64) ≡ c = omega arith in rw (le-ltb c 64 a, lt-ltb c 128 (omega arith)) (omega arith, ap (λ (k : ℕ). numbered k 0) e)
+    go (no a) b = rw (lt-ltb c 64 (omega arith)) (lt→ltb c 64 (omega arith), refl)
+    go (yes a) (no b) = let e : 64 + (c - 64) ≡ c = omega arith in rw (le-ltb c 64 a, lt-ltb c 128 (omega arith)) (lt→ltb (c - 64) 64 (omega arith), ap (λ (k : ℕ). numbered k 0) e)
     go (yes a) (yes b) = let e : 128 + (c - 128) ≡ c = omega arith in subst (λ (k : ℕ). Comes (numbered k 0)) e (operator-comes (c - 128) (omega arith))
 
 via-comes : (m : ℕ) → is-set m → Comes (numbered 255 m)
@@ -91,11 +93,11 @@ symbol-comes x (inr (n, h)) =
     subst Comes e (via-comes (x .set) h)
 
 -- ---- the symbol of a number
-pub forward-number : (c m : ℕ) → c < 64 → symbol-numbered c m ≡ s-step forward c
+pub forward-number : (c m : ℕ) → c < 64 → symbol-numbered c m ≡ s-step forward (named c)
 unfolding symbol-numbered
 forward-number c m h = simp (lt-ltb c 64 h)
 
-pub reverse-number : (c m : ℕ) → 64 ≤ c → c < 128 → symbol-numbered c m ≡ s-step reverse (c - 64)
+pub reverse-number : (c m : ℕ) → 64 ≤ c → c < 128 → symbol-numbered c m ≡ s-step reverse (named (c - 64))
 unfolding symbol-numbered
 reverse-number c m l h = simp (le-ltb c 64 l, lt-ltb c 128 h)
 
@@ -175,29 +177,28 @@ given-symbol c m = go (ℕ-discrete c 255)
     go (no n) = rw (ne-eqb c 255 n) (without-set c m n)
 
 -- ---- what is known of a step's link
-pub step-below : (c m : ℕ) (d : Direction) (l : ℕ) → symbol-numbered c m ≡ s-step d l → l < 64
-unfolding symbol-numbered
+pub step-below : (c m : ℕ) (d : Direction) (l : Label) → symbol-numbered c m ≡ s-step d l → T (below? l 64)
 step-below c m d l e = go (decLe 64 c) (decLe 128 c) (ℕ-discrete c 255)
   where
-    link : Symbol → ℕ
-    link (s-step d l) = l
-    link (s-join v) = 0
-    link (s-op o) = 0
-    link s-closure = 0
+    Low : Symbol → Type 0
+    Low (s-step d l) = T (below? l 64)
+    Low (s-join v) = Unit {0}
+    Low (s-op o) = Unit {0}
+    Low s-closure = Unit {0}
 
-    operator-link : (k : ℕ) → link (operator-numbered k) ≡ 0
-    operator-link zero = refl
-    operator-link (suc zero) = refl
-    operator-link (suc (suc zero)) = refl
-    operator-link (suc (suc (suc zero))) = refl
-    operator-link (suc (suc (suc (suc zero)))) = refl
-    operator-link (suc (suc (suc (suc (suc k))))) = refl
+    operator-low : (k : ℕ) → Low (operator-numbered k)
+    operator-low zero = tt
+    operator-low (suc zero) = tt
+    operator-low (suc (suc zero)) = tt
+    operator-low (suc (suc (suc zero))) = tt
+    operator-low (suc (suc (suc (suc zero)))) = tt
+    operator-low (suc (suc (suc (suc (suc k))))) = tt
 
-    go : Dec (64 ≤ c) → Dec (128 ≤ c) → Dec (c ≡ 255) → l < 64
-    go (no a) b x = let z : c ≡ l = ap link (sym (forward-number c m (omega arith)) ∙ e) in omega arith
-    go (yes a) (no b) x = let z : c - 64 ≡ l = ap link (sym (reverse-number c m a (omega arith)) ∙ e) in omega arith
-    go (yes a) (yes b) (yes x) = let z : 0 ≡ l = ap link (sym (through-number c m b x) ∙ e) in omega arith
-    go (yes a) (yes b) (no x) = let z : 0 ≡ l = sym (operator-link (c - 128)) ∙ ap link (sym (operator-number c m b x) ∙ e) in omega arith
+    go : Dec (64 ≤ c) → Dec (128 ≤ c) → Dec (c ≡ 255) → T (below? l 64)
+    go (no a) b x = subst Low (sym (forward-number c m (omega arith)) ∙ e) (lt→ltb c 64 (omega arith))
+    go (yes a) (no b) x = subst Low (sym (reverse-number c m a (omega arith)) ∙ e) (lt→ltb (c - 64) 64 (omega arith))
+    go (yes a) (yes b) (yes x) = subst Low (sym (through-number c m b x) ∙ e) tt
+    go (yes a) (yes b) (no x) = subst Low (sym (operator-number c m b x) ∙ e) (operator-low (c - 128))
 
 -- ---- the symbols of a path
 abbrev pub AllHeld : List Symbol → Type 0
@@ -209,7 +210,7 @@ held-append [] ys f g = g
 held-append (x ∷ xs) ys f g = (f .0, held-append xs ys (f .1) g)
 
 pub held-postfix : (p : PathExpr) → T (links? 64 p) → sets-fit p → AllHeld (postfix p)
-held-postfix (step d l) t f = (ltb→lt l 64 t, tt)
+held-postfix (step d l) t f = (t, tt)
 held-postfix (join v p q) t f =
     held-append (postfix p) (postfix q ++ (s-join v ∷ [])) (held-postfix p (search tests) (f .1)) (held-append (postfix q) (s-join v ∷ []) (held-postfix q (search tests) (f .2)) (f .0, tt))
 held-postfix (op o p q) t f =
@@ -237,7 +238,7 @@ length-given numbers masks (suc n) k = ap suc (length-given numbers masks n (suc
 
 -- what is decoded has a number
 pub decoded-fits : (x : declared·Symbol.Symbol) (c m : ℕ) → symbol-said x ≡ symbol-numbered c m → LinkFits x
-decoded-fits (symbol.Step d l) c m e = step-below c m (direction-said d) (l .0) (sym e)
+decoded-fits (symbol.Step d l) c m e = ltb→lt (l .0) 64 (step-below c m (direction-said d) (named (l .0)) (sym e))
 decoded-fits (symbol.Join v) c m e = tt
 decoded-fits (symbol.Op o) c m e = tt
 decoded-fits symbol.Closure c m e = tt

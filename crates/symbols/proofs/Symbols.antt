@@ -8,7 +8,7 @@ use native.Mathlib.Omega.{arith}
 use lib.Dec.{ltb, leb, eqb}
 use lib.ListN.{getD}
 use borrow.Author.Tests.{ltb-true, leb-true, eqb-false}
-use Rattle.theory.specs.PathExpr.{Direction, forward, reverse, s-step}
+use Rattle.theory.specs.PathExpr.{Direction, forward, reverse, named, s-step}
 use Rattle.symbols.specs.declared.Stack.{Stack}
 use Rattle.theory.specs.Result.{got}
 use Rattle.fields.specs.Reading.{eight}
@@ -21,11 +21,11 @@ step-plain at b x e =
     let d = getD b 0 0 in
     let k = getD b 1 0 in
     let a = cond-then (ltb d 2 && ltb k 64) (not-got 3 at x) e in
-    let z : number-symbol (s-step (direction-numbered d) k) ≡ x = cc (a .1) in
+    let z : number-symbol (s-step (direction-numbered d) (named k)) ≡ x = cc (a .1) in
     let l = ltb-true k 64 (and-right (ltb d 2) _ (a .0)) in
     subst PlainSymbol z (plain (direction-numbered d) k l)
   where
-    plain : (d : Direction) (k : ℕ) → k < 64 → PlainSymbol (number-symbol (s-step d k))
+    plain : (d : Direction) (k : ℕ) → k < 64 → PlainSymbol (number-symbol (s-step d (named k)))
     plain forward k h = (omega arith, refl)
     plain reverse k h = (omega arith, refl)
 

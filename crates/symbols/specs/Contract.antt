@@ -1,7 +1,7 @@
 -- What the code's enums say, in the words of theory and in the numbers of SPECIFICATION.
 -- Assumes nothing.
 use Prim.Native.Nat.{_<_}
-use Rattle.theory.specs.PathExpr.{Direction, forward, reverse, Via, any, through, Op, union, conjunction, branch-right, branch-left, Symbol, s-step, s-join, s-op, s-closure}
+use Rattle.theory.specs.PathExpr.{Direction, forward, reverse, named, Via, any, through, Op, union, conjunction, branch-right, branch-left, Symbol, s-step, s-join, s-op, s-closure}
 use Rattle.theory.specs.Result.{Result, got}
 use Rattle.fields.specs.Contract.{refusal-said}
 use Rattle.symbols.specs.declared.Direction as declared·Direction
@@ -34,7 +34,7 @@ operator-said operator.BranchRight = branch-right
 operator-said operator.BranchLeft = branch-left
 
 abbrev pub symbol-said : declared·Symbol.Symbol → Symbol
-symbol-said (symbol.Step d l) = s-step (direction-said d) (l .0)
+symbol-said (symbol.Step d l) = s-step (direction-said d) (named (l .0))
 symbol-said (symbol.Join v) = s-join (via-said v)
 symbol-said (symbol.Op o) = s-op (operator-said o)
 symbol-said symbol.Closure = s-closure

@@ -8,7 +8,7 @@ use mathlib.Core.List.{List, [], _∷_}
 use Prim.Native.Nat.{ℕ, _+_, _-_, _<_, zero, suc}
 use lib.Dec.{leb, ltb, eqb}
 use lib.ListN.{getD}
-use Rattle.theory.specs.PathExpr.{Direction, forward, reverse, any, through, union, conjunction, branch-right, branch-left, Symbol, s-step, s-join, s-op, s-closure, code}
+use Rattle.theory.specs.PathExpr.{Direction, forward, reverse, Label, named, any, through, union, conjunction, branch-right, branch-left, Symbol, s-step, s-join, s-op, s-closure, code}
 use Rattle.theory.specs.KindSet.{is-set}
 use Rattle.fields.specs.declared.File.{File}
 use Rattle.fields.specs.declared.Due.{Due}
@@ -29,8 +29,8 @@ operator-numbered (suc (suc (suc (suc (suc n))))) = s-closure
 
 unfoldable pub symbol-numbered : ℕ → ℕ → Symbol
 symbol-numbered c m =
-    cond (ltb c 64) (s-step forward c)
-    (cond (ltb c 128) (s-step reverse (c - 64))
+    cond (ltb c 64) (s-step forward (named c))
+    (cond (ltb c 128) (s-step reverse (named (c - 64)))
     (cond (eqb c 255) (s-join (through m)) (operator-numbered (c - 128))))
 
 -- number and set
@@ -75,14 +75,17 @@ arity c = operands (symbol-numbered c 0)
 abbrev pub symbol-length : ℕ → ℕ
 symbol-length t = cond (eqb t 0x43) (tag-length 0x43) (cond (eqb t 0x44) (tag-length 0x44) (tag-length 0x45))
 
--- direction: 0 forward, 1 reverse
+-- direction: 0 forward, 1 reverse; link: its name
 abbrev pub direction-numbered : ℕ → Direction
 direction-numbered zero = forward
 direction-numbered (suc n) = reverse
 
+abbrev pub label-numbered : ℕ → Label
+label-numbered l = named l
+
 -- 43: direction and link; refusal 3
 unfoldable pub step-of : ℕ → List ℕ → Result Numbered
-step-of at b = cond (ltb (getD b 0 0) 2 && ltb (getD b 1 0) 64) (got (number-symbol (s-step (direction-numbered (getD b 0 0)) (getD b 1 0)))) (refused 3 at)
+step-of at b = cond (ltb (getD b 0 0) 2 && ltb (getD b 1 0) 64) (got (number-symbol (s-step (direction-numbered (getD b 0 0)) (label-numbered (getD b 1 0))))) (refused 3 at)
 
 -- 44: an operator; refusal 3
 unfoldable pub operator-of : ℕ → List ℕ → Result Numbered

@@ -8,7 +8,7 @@ ghost use Prim.Native.Nat.{_<_, _%_};
 ghost use lib.ListN.{length};
 ghost use Rattle.fields.specs.Table.{tag-length};
 ghost use Rattle.symbols.specs.Symbols.{symbol-length, step-of, operator-of, symbol-in, push, arity, due-symbols, symbol-numbered, number-symbol, order-code, symbol?, numbered, direction-numbered};
-ghost use Rattle.theory.specs.PathExpr.{s-join, step-code, op-code};
+ghost use Rattle.theory.specs.PathExpr.{named, s-join, step-code, op-code};
 ghost use Rattle.symbols.specs.Writing.{direction-number};
 ghost use Rattle.symbols.specs.Contract.{direction-said, via-said, operator-said, symbol-said, LinkFits, read-said, push-said};
 
@@ -92,7 +92,7 @@ pub fn decode(number: u8, set: u64) -> Symbol
 // The number of a step.
 fn step_number(direction: Direction, link: Link) -> u8
     requires { ⌜ link .0 < 64 ⌝ }
-    ensures { λ r. ⌜ r ≡ step-code (direction-said direction) (link .0) ⌝ }
+    ensures { λ r. ⌜ r ≡ step-code (direction-said direction) (named (link .0)) ⌝ }
 {
     match direction {
         Direction::Forward => link.0,

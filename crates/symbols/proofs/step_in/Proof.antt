@@ -3,7 +3,7 @@
 use mathlib.Core.Path.{_∙_, ap}
 use lib.ListN.{getD}
 use denote.Ref.{now}
-use Rattle.theory.specs.PathExpr.{s-step}
+use Rattle.theory.specs.PathExpr.{named, s-step}
 use Rattle.theory.specs.Result.{got}
 use Rattle.fields.specs.Table.{rows, tag-length}
 use Rattle.symbols.specs.Symbols.{step-of, number-symbol}
@@ -38,7 +38,7 @@ returns : tie.Need-returns
 unfolding step-of
 returns c =
     let c9 = c .before .before .before .before .before .before .before .before .before in
-    let e = ap (λ d. number-symbol (s-step d (getD (now (c9 .args .b)) 1 0))) (c .before .before .direction-in .ensures) in
+    let e = ap (λ d. number-symbol (s-step d (named (getD (now (c9 .args .b)) 1 0)))) (c .before .before .direction-in .ensures) in
     simp (lt-ltb _ _ (c .before .before .before .before .if2 .taken), lt-ltb _ _ (c .before .before .before .before .before .before .if1 .taken)) (ap got (c .encode .ensures ∙ e))
 
 returns-2 : tie.Need-returns-2

@@ -6,7 +6,7 @@ use Prim.Native.Nat.{ℕ}
 use lib.Dec.{T}
 use Rattle.theory.specs.KindSet.{singleton}
 use Rattle.theory.specs.TransitiveClosure.{TransitiveClosure, single, extend}
-use Rattle.theory.specs.PathExpr.{Direction, forward, reverse, Via, through, Op, union, conjunction, branch-right, branch-left, PathExpr, step, join, op, closure}
+use Rattle.theory.specs.PathExpr.{Direction, forward, reverse, Label, Via, through, Op, union, conjunction, branch-right, branch-left, PathExpr, step, join, op, closure}
 use Rattle.theory.specs.Register.{Register, kind, Holds}
 use Rattle.theory.specs.Sheet.{Sheet, sheet?, conforms?}
 use Rattle.theory.specs.Derivation.{along, back, joins, union-left, union-right, conjoins, branches-right, branches-left, Walk, first, then, Cyclic, kept, unrolled, Derives}
@@ -25,9 +25,9 @@ module _ (S : Sheet) (ok : T (sheet? S)) (r : Register) (conforms : T (conforms?
   abbrev Complete : PathExpr → Type 0
   Complete o = (s t : ℕ) → Holds r o s t → Found o s t
 
-  step-complete : (d : Direction) (l : ℕ) → Complete (step d l)
-  step-complete forward l s t h = (step forward l, along (conforming S r conforms h), h)
-  step-complete reverse l s t h = (step reverse l, back (conforming S r conforms h), h)
+  step-complete : (d : Direction) (l : Label) → Complete (step d l)
+  step-complete forward l s t h = (step forward l, along (h .0) (h .1) (conforming S r conforms (h .2)), h)
+  step-complete reverse l s t h = (step reverse l, back (h .0) (h .1) (conforming S r conforms (h .2)), h)
 
   join-complete : (v : Via) (o₁ o₂ : PathExpr) → Complete o₁ → Complete o₂ → Complete (join v o₁ o₂)
   join-complete v o₁ o₂ f g s t h =

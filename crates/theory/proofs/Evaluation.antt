@@ -7,7 +7,7 @@ use Prim.Native.Nat.{ℕ, _<_}
 use lib.Dec.{T, ltb, ltb→lt}
 use Rattle.theory.specs.Lists.{some?, range}
 use Rattle.theory.specs.TransitiveClosure.{TransitiveClosure, single, extend, Table, table, look}
-use Rattle.theory.specs.PathExpr.{Direction, forward, reverse, Via, any, through, Op, union, conjunction, branch-right, branch-left, PathExpr, step, join, op, closure}
+use Rattle.theory.specs.PathExpr.{Direction, forward, reverse, Label, Via, any, through, Op, union, conjunction, branch-right, branch-left, PathExpr, step, join, op, closure}
 use Rattle.theory.specs.Register.{edge, Register, records, well-formed?, passes, Holds}
 use Rattle.theory.specs.Merging.{Member}
 use Rattle.theory.specs.Demand3.{Answer}
@@ -15,7 +15,7 @@ use Rattle.theory.specs.Evaluation.{passes?, step?, join?, op?, evaluate
 use Rattle.theory.proofs.Tests.{tests, and-left, and-right, and-both, or-left, or-right, or-cases}
 use Rattle.theory.proofs.Lists.{some-in, in-some, every-in, range-in}
 use Rattle.theory.proofs.TransitiveClosure.{closure-map, look-make, look-true, closure-sound, closure-complete}
-use Rattle.theory.proofs.Sheet.{find-edge, found-edge}
+use Rattle.theory.proofs.Labels.{find-linked, found-linked}
 
 module _ (r : Register) (well-formed : T (well-formed? r)) where
   abbrev Bounds : ℕ → ℕ → Type 0
@@ -33,8 +33,8 @@ module _ (r : Register) (well-formed : T (well-formed? r)) where
 
   -- pairs are between records
   pub holds-bounds : (p : PathExpr) (s t : ℕ) → Holds r p s t → Bounds s t
-  holds-bounds (step forward l) s t h = link-bounds h
-  holds-bounds (step reverse l) s t h = let b = link-bounds h in (b .1, b .0)
+  holds-bounds (step forward l) s t h = link-bounds (h .2)
+  holds-bounds (step reverse l) s t h = let b = link-bounds (h .2) in (b .1, b .0)
   holds-bounds (join v p q) s t h = (holds-bounds p s (h .0) (h .1) .0, holds-bounds q (h .0) t (h .2) .1)
   holds-bounds (op union p q) s t (inl h) = holds-bounds p s t h
   holds-bounds (op union p q) s t (inr h) = holds-bounds q s t h
@@ -52,9 +52,9 @@ module _ (r : Register) (well-formed : T (well-formed? r)) where
   tabled f p to from s t =
       (λ l. to s t (look-true (records r) f s t l .2), λ h. let b = holds-bounds p s t h in look-make (records r) f (b .0) (b .1) (from s t h))
 
-  step-right : (d : Direction) (l : ℕ) → Right (step d l)
-  step-right forward l = tabled (step? r forward l) (step forward l) (λ s t x. find-edge (edge s l t) (r .links) x) (λ s t h. found-edge h)
-  step-right reverse l = tabled (step? r reverse l) (step reverse l) (λ s t x. find-edge (edge t l s) (r .links) x) (λ s t h. found-edge h)
+  step-right : (d : Direction) (l : Label) → Right (step d l)
+  step-right forward l = tabled (step? r forward l) (step forward l) (find-linked r l) (found-linked r l)
+  step-right reverse l = tabled (step? r reverse l) (step reverse l) (λ s t. find-linked r l t s) (λ s t. found-linked r l t s)
 
   passed : (v : Via) (z : ℕ) → T (passes? r v z) → passes r v z
   passed any z t = tt

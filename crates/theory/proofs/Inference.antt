@@ -5,7 +5,7 @@ use mathlib.Core.Logic.{_⊎_, inl, inr}
 use mathlib.Core.List.{List, [], _∷_, _++_, List·Memᴰ as In, List·Memᴰ·head as here, List·Memᴰ·append-cases as in-append, Memᴰ·append-left as in-left, Memᴰ·append-right as in-right}
 use Prim.Native.Nat.{ℕ, _≤_}
 use lib.Dec.{T, eqb→eq, eqb-refl, leb, leb→le}
-use Rattle.theory.specs.PathExpr.{Direction, forward, reverse, Via, Op, union, conjunction, branch-right, branch-left, PathExpr, step, join, op, closure, size, parts}
+use Rattle.theory.specs.PathExpr.{Direction, forward, reverse, Label, Via, Op, union, conjunction, branch-right, branch-left, PathExpr, step, join, op, closure, size, parts}
 use Rattle.theory.specs.Sheet.{Sheet, sheet?}
 use Rattle.theory.specs.Derivation.{Triples, Step, along, back, Join, joins, Operate, union-left, union-right, conjoins, branches-right, branches-left, Derives}
 use Rattle.theory.specs.Inference.{Triple, triple, stepped?, of-step, of-join, end-to-end?, joined, same-ends?, same-start?, conjoined, branched-right, branched-left, of-op, of-closure, triples}
@@ -15,26 +15,27 @@ use Rattle.theory.proofs.Lists.{every-in}
 use Rattle.theory.proofs.Rules.{Sub, join-map, op-map, closure-rule-map}
 use Rattle.theory.proofs.Triples.{Of, Same, same-trans, distinct-same, distinct-in, in-pairs, pairs-in, in-between, between-in}
 use Rattle.theory.proofs.Sheet.{permits-inside}
+use Rattle.theory.proofs.Labels.{find-linkable, found-linkable}
 use Rattle.theory.proofs.KindsOfSheet.{derives-inside}
 use Rattle.theory.proofs.Reach.{Inside}
 use Rattle.theory.proofs.ClosureRule.{in-closure, closure-in}
 
 -- ---- each rule over lists of triples
 module _ (S : Sheet) (ok : T (sheet? S)) where
-  stepped : (d : Direction) (l a b : ℕ) → T (stepped? S d l a b) → Step S d l a (step d l) b
-  stepped forward l a b t = along t
-  stepped reverse l a b t = back t
+  stepped : (d : Direction) (l : Label) (a b : ℕ) → T (stepped? S d l a b) → Step S d l a (step d l) b
+  stepped forward l a b t = let (m, f, p) = find-linkable S l a b t in along m f p
+  stepped reverse l a b t = let (m, f, p) = find-linkable S l b a t in back m f p
 
-  in-step : (d : Direction) (l : ℕ) {t : Triple} → In t (of-step S d l) → Step S d l (t .from) (t .path) (t .to)
+  in-step : (d : Direction) (l : Label) {t : Triple} → In t (of-step S d l) → Step S d l (t .from) (t .path) (t .to)
   in-step d l m =
       let r = in-between (S .kinds) (step d l) (stepped? S d l) m in
       subst (λ u. Step S d l (u .from) (u .path) (u .to)) (sym (r .3)) (stepped d l (r .0) (r .1) (r .2))
 
-  step-in : {d : Direction} {l a b : ℕ} {p : PathExpr} → Step S d l a p b → Of (of-step S d l) a p b
-  step-in (along {l = l} t) = let i = permits-inside S ok t in between-in (S .kinds) (step forward l) (stepped? S forward l) (i .0) (i .2) t
-  step-in (back {l = l} t) = let i = permits-inside S ok t in between-in (S .kinds) (step reverse l) (stepped? S reverse l) (i .2) (i .0) t
+  step-in : {d : Direction} {l : Label} {a b : ℕ} {p : PathExpr} → Step S d l a p b → Of (of-step S d l) a p b
+  step-in (along {a} {b} {l} m f t) = let i = permits-inside S ok t in between-in (S .kinds) (step forward l) (stepped? S forward l) (i .0) (i .2) (found-linkable S ok l a m b f t)
+  step-in (back {a} {b} {l} m f t) = let i = permits-inside S ok t in between-in (S .kinds) (step reverse l) (stepped? S reverse l) (i .2) (i .0) (found-linkable S ok l b m a f t)
 
-  step-list : (d : Direction) (l : ℕ) → Same (Of (of-step S d l)) (Step S d l)
+  step-list : (d : Direction) (l : Label) → Same (Of (of-step S d l)) (Step S d l)
   step-list d l a p b = (λ m. in-step d l m, λ r. step-in r)
 
 module _ (xs ys : List Triple) where
@@ -129,7 +130,7 @@ module _ (S : Sheet) (ok : T (sheet? S)) where
       leb→le (size (t .path)) 48
       (every-in (λ u. leb (size (u .path)) 48) h (distinct-in m))
 
-  pub step-exact : (d : Direction) (l : ℕ) → Exact (step d l)
+  pub step-exact : (d : Direction) (l : Label) → Exact (step d l)
   step-exact d l = same-trans (distinct-same (of-step S d l)) (step-list S ok d l)
 
   pub join-exact : (v : Via) (p q : PathExpr) → Exact p → Exact q → Exact (join v p q)

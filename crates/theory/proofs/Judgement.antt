@@ -2,20 +2,19 @@
 -- Assumes nothing.
 use mathlib.Core.Path.{_≡_, refl, sym, ap₂, _∙_, subst}
 use mathlib.Core.Logic.{_⊎_, inl, inr, _↔_}
-use mathlib.Core.Bool.{Bool, true, false, not, cond}
+use mathlib.Core.Bool.{Bool, true, false, cond}
 use mathlib.Core.List.{List, [], _∷_, List·Memᴰ as In, List·Memᴰ·head as here, List·Memᴰ·tail as there}
-use Prim.Native.Nat.{ℕ, _≤_, _<_}
+use Prim.Native.Nat.{ℕ}
 use native.Mathlib.Nat.{zero-add}
 use native.Mathlib.Omega.{arith}
-use lib.Dec.{T, ltb, ltb→lt, nltb→le}
+use lib.Dec.{T}
 use Rattle.theory.specs.Lists.{First, now, later}
-use Rattle.theory.specs.PathExpr.{Symbol, s-step, s-join, s-op, s-closure, PathExpr, postfix, parts}
+use Rattle.theory.specs.PathExpr.{below?, Symbol, s-step, s-join, s-op, s-closure, PathExpr, postfix, parts}
 use Rattle.theory.specs.Sheet.{Sheet, sheet?}
 use Rattle.theory.specs.Inference.{triples}
 use Rattle.theory.specs.Merging.{members}
 use Rattle.theory.specs.Narrowing.{Narrowing, link-fault, short?, part-fault, refuse, narrow, Unnamed, Named, TooLong, Faulty, Judged, unnamed, too-long, too-many, sound}
 use Rattle.theory.specs.Result.{got, refused}
-use Rattle.theory.proofs.Tests.{of-true}
 use Rattle.theory.proofs.FirstFailing.{first-map, first-holds, scan, Fault, fault?, no-fault, first-refused, none-refused}
 use Rattle.theory.proofs.Narrowing.{fault-short}
 use Rattle.theory.proofs.Refusals.{PartIs, fine, many, long, part-is}
@@ -93,24 +92,21 @@ module _ {S : Sheet} where
 -- ---- links
 module _ (E : ℕ) where
   unnamed-fault : (s : Symbol) → Unnamed E s → link-fault E s ≡ 11
-  unnamed-fault (s-step d l) h = go (ltb l E) refl
+  unnamed-fault (s-step d l) h = go (below? l E) h
     where
-      go : (b : Bool) → ltb l E ≡ b → _≡_ {A = ℕ} (cond b 0 11) 11
-      go true e = absurd (over (ltb→lt l E (of-true (ltb l E) e)))
-        where
-          over : l < E → ⊥
-          over k = omega arith
-      go false e = refl
+      go : (b : Bool) → ¬ T b → _≡_ {A = ℕ} (cond b 0 11) 11
+      go true n = absurd (n tt)
+      go false n = refl
   unnamed-fault (s-join v) h = absurd h
   unnamed-fault (s-op o) h = absurd h
   unnamed-fault s-closure h = absurd h
 
   fault-unnamed : (s : Symbol) → Fault (link-fault E) s → Unnamed E s
-  fault-unnamed (s-step d l) c = go (ltb l E) refl c
+  fault-unnamed (s-step d l) c = go (below? l E) c
     where
-      go : (b : Bool) → ltb l E ≡ b → ¬ (_≡_ {A = ℕ} (cond b 0 11) 0) → E ≤ l
-      go true e c = absurd (c refl)
-      go false e c = nltb→le l E (subst (λ b. T (not b)) (sym e) tt)
+      go : (b : Bool) → ¬ (_≡_ {A = ℕ} (cond b 0 11) 0) → ¬ T b
+      go true c t = c refl
+      go false c t = t
   fault-unnamed (s-join v) c = absurd (c refl)
   fault-unnamed (s-op o) c = absurd (c refl)
   fault-unnamed s-closure c = absurd (c refl)

@@ -3,7 +3,7 @@
 use mathlib.Core.List.{List}
 use Prim.Native.Nat.{ℕ, _<_}
 use lib.Dec.{T}
-use Rattle.theory.specs.PathExpr.{Direction, Via, Op, PathExpr, step, join, op, closure}
+use Rattle.theory.specs.PathExpr.{Direction, Label, Via, Op, PathExpr, step, join, op, closure}
 use Rattle.theory.specs.Sheet.{Sheet, sheet?}
 use Rattle.theory.specs.Derivation.{Triples, Step, along, back, Join, joins, Operate, union-left, union-right, conjoins, branches-right, branches-left, Walk, first, then, Derives}
 use Rattle.theory.proofs.Sheet.{permits-inside}
@@ -13,9 +13,9 @@ module _ (S : Sheet) (ok : T (sheet? S)) where
   abbrev Within : PathExpr → Triples
   Within o a p b = (a < S .kinds) × (b < S .kinds)
 
-  steps : (d : Direction) (l a : ℕ) (p : PathExpr) (b : ℕ) → Step S d l a p b → Within (step d l) a p b
-  steps d l a p b (along m) = let r = permits-inside S ok m in (r .0, r .2)
-  steps d l a p b (back m) = let r = permits-inside S ok m in (r .2, r .0)
+  steps : (d : Direction) (l : Label) (a : ℕ) (p : PathExpr) (b : ℕ) → Step S d l a p b → Within (step d l) a p b
+  steps d l a p b (along m f t) = let r = permits-inside S ok t in (r .0, r .2)
+  steps d l a p b (back m f t) = let r = permits-inside S ok t in (r .2, r .0)
 
   join-ends : (v : Via) (o₁ o₂ : PathExpr) (a : ℕ) (p : PathExpr) (b : ℕ) → Join (Within o₁) (Within o₂) a p b → Within (join v o₁ o₂) a p b
   join-ends v o₁ o₂ a p b (joins x y) = (x .0, y .1)

@@ -6,6 +6,7 @@ pub mod KindSet
 pub mod TransitiveClosure
 -- the rules, and the triples that are computed
 pub mod Sheet
+pub mod Labels
 pub mod Rules
 pub mod Triples
 pub mod Reach

@@ -6,10 +6,10 @@ use mathlib.Core.List.{List, [], _∷_, List·Memᴰ as In, List·Memᴰ·head a
 use Prim.Native.Nat.{ℕ, suc, _+_, _≤_, _<_}
 use native.Mathlib.Nat.{lt-of-lt-of-le}
 use native.Mathlib.Omega.{arith}
-use lib.Dec.{T, ltb, ltb→lt, lt→ltb, leb, leb→le}
+use lib.Dec.{T, leb, leb→le}
 use lib.ListN.{length}
 use Rattle.theory.specs.KindSet.{singleton, is-set}
-use Rattle.theory.specs.PathExpr.{codes, before?, Direction, Via, any, through, Op, PathExpr, step, join, op, closure, Symbol, s-step, postfix, parts, size, erase, plain?, links?}
+use Rattle.theory.specs.PathExpr.{codes, before?, Direction, Label, below?, Via, any, through, Op, PathExpr, step, join, op, closure, Symbol, s-step, postfix, parts, size, erase, plain?, links?}
 use Rattle.theory.specs.Sheet.{Sheet, sheet?}
 use Rattle.theory.specs.Derivation.{Triples, Step, along, back, Join, joins, Operate, union-left, union-right, conjoins, branches-right, branches-left, Walk, first, then, Derives}
 use Rattle.theory.specs.Inference.{Triple, triples}
@@ -22,6 +22,7 @@ use Rattle.theory.proofs.Rules.{Sub, induction}
 use Rattle.theory.proofs.Walks.{size-pos}
 use Rattle.theory.proofs.KindSet.{singleton-fits, union-fits}
 use Rattle.theory.proofs.Sheet.{kinds-fit, names-fit, permits-inside}
+use Rattle.theory.proofs.Labels.{below-mono}
 use Rattle.theory.proofs.Inference.{exact}
 use Rattle.theory.proofs.Merging.{insert-all, members-trace}
 use Rattle.theory.proofs.Order.{members-ascend, members-linked}
@@ -53,20 +54,17 @@ members-length (t ∷ ts) = omega (arith, insert-length (of-triple t) (members t
 
 -- ---- links
 links-mono : {m n : ℕ} → m ≤ n → (p : PathExpr) → T (links? m p) → T (links? n p)
-links-mono {m} {n} h (step d l) t = lt→ltb l n (lt-of-lt-of-le (ltb→lt l m t) h)
+links-mono h (step d l) t = below-mono h l t
 links-mono {m} {n} h (join v p q) t = search (tests, links-mono h p (search tests), links-mono h q (search tests))
 links-mono {m} {n} h (op o p q) t = search (tests, links-mono h p (search tests), links-mono h q (search tests))
 links-mono h (closure p) t = links-mono h p t
 
-link-ok : (E l : ℕ) → _≡_ {A = ℕ} (cond (ltb l E) 0 11) 0 → T (ltb l E)
-link-ok E l e = go (ltb l E) e
-  where
-    go : (b : Bool) → _≡_ {A = ℕ} (cond b 0 11) 0 → T b
-    go true f = tt
-    go false f = absurd (omega arith)
+link-ok : (b : Bool) → _≡_ {A = ℕ} (cond b 0 11) 0 → T b
+link-ok true e = tt
+link-ok false e = absurd (omega arith)
 
 links-of : (E : ℕ) (p : PathExpr) → ((s : Symbol) → In s (postfix p) → link-fault E s ≡ 0) → T (links? E p)
-links-of E (step d l) h = link-ok E l (h (s-step d l) (here refl))
+links-of E (step d l) h = link-ok (below? l E) (h (s-step d l) (here refl))
 links-of E (join v p q) h =
     and-both (links? E p) (links? E q) (links-of E p (λ s i. h s (in-left _ i))) (links-of E q (λ s i. h s (in-right (postfix p) (in-left _ i))))
 links-of E (op o p q) h =
@@ -87,9 +85,9 @@ module _ (S : Sheet) (ok : T (sheet? S)) where
   abbrev Kept : PathExpr → Triples
   Kept o a p b = T (links? 64 o) → sets-fit o → Ranged a p b
 
-  steps : (d : Direction) (l a : ℕ) (p : PathExpr) (b : ℕ) → Step S d l a p b → Kept (step d l) a p b
-  steps d l a p b (along m) t f = let i = permits-inside S ok m in record { links = t; sets = tt; from = i .0; to = i .2 }
-  steps d l a p b (back m) t f = let i = permits-inside S ok m in record { links = t; sets = tt; from = i .2; to = i .0 }
+  steps : (d : Direction) (l : Label) (a : ℕ) (p : PathExpr) (b : ℕ) → Step S d l a p b → Kept (step d l) a p b
+  steps d l a p b (along n g m) t f = let i = permits-inside S ok m in record { links = t; sets = tt; from = i .0; to = i .2 }
+  steps d l a p b (back n g m) t f = let i = permits-inside S ok m in record { links = t; sets = tt; from = i .2; to = i .0 }
 
   joined-range : {a b c : ℕ} {p q : PathExpr} → Ranged a p b → Ranged b q c → Ranged a (join (through (singleton b)) p q) c
   joined-range {b = b} {p = p} {q = q} x y = record {

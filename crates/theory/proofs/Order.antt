@@ -9,7 +9,7 @@ use native.Mathlib.Nat.{eq-or-lt-of-le}
 use native.Mathlib.Omega.{arith}
 use native.Mathlib.Decide.{decLe}
 use lib.Dec.{T, T-not, not-T, eqb, eqb→eq, ltb, ltb→lt, lt→ltb}
-use Rattle.theory.specs.PathExpr.{codes, before?, Direction, forward, reverse, any, Op, union, conjunction, branch-right, branch-left, PathExpr, step, join, op, closure, Symbol}
+use Rattle.theory.specs.PathExpr.{codes, before?, Direction, forward, reverse, Label, named, below?, any, Op, union, conjunction, branch-right, branch-left, PathExpr, step, join, op, closure, Symbol}
 use Rattle.theory.specs.PathExpr.{s-join, s-op, s-closure, postfix, op-code, step-code, code, erase, links?, same?, path-discrete}
 use Rattle.theory.specs.Inference.{Triple}
 use Rattle.theory.specs.Merging.{Member, of-triple, same-shape?, merge, merged, insert, members, Ascending}
@@ -55,7 +55,7 @@ operate (suc (suc (suc (suc zero)))) st = binary (op branch-left) st
 operate (suc (suc (suc (suc (suc n))))) st = unary closure st
 
 abbrev act : ℕ → List PathExpr → List PathExpr
-act c st = cond (ltb c 64) (step forward c ∷ st) (cond (ltb c 128) (step reverse (c - 64) ∷ st) (operate (c - 128) st))
+act c st = cond (ltb c 64) (step forward (named c) ∷ st) (cond (ltb c 128) (step reverse (named (c - 64)) ∷ st) (operate (c - 128) st))
 
 abbrev decode : List ℕ → List PathExpr → List PathExpr
 decode [] st = st
@@ -65,12 +65,13 @@ pub to-false : (b : Bool) → T (not b) → b ≡ false
 to-false true t = absurd t
 to-false false t = refl
 
-act-step : (d : Direction) (l : ℕ) → l < 64 → (st : List PathExpr) → act (step-code d l) st ≡ step d l ∷ st
-act-step forward l h st = ap (λ b. cond b (step forward l ∷ st) (cond (ltb l 128) (step reverse (l - 64) ∷ st) (operate (l - 128) st))) (to-true (ltb l 64) (lt→ltb l 64 h))
-act-step reverse l h st =
-    ap (λ b. cond b (step forward c ∷ st) (cond (ltb c 128) (step reverse (c - 64) ∷ st) (operate (c - 128) st))) low
-    ∙ ap (λ b. cond b (step reverse (c - 64) ∷ st) (operate (c - 128) st)) (to-true (ltb c 128) (lt→ltb c 128 (omega arith)))
-    ∙ ap {B = List PathExpr} (λ x. step reverse x ∷ st) back
+act-step : (d : Direction) (l : Label) → T (below? l 64) → (st : List PathExpr) → act (step-code d l) st ≡ step d l ∷ st
+act-step forward (named l) t st =
+    ap (λ b. cond b (step forward (named l) ∷ st) (cond (ltb l 128) (step reverse (named (l - 64)) ∷ st) (operate (l - 128) st))) (to-true (ltb l 64) t)
+act-step reverse (named l) t st =
+    ap (λ b. cond b (step forward (named c) ∷ st) (cond (ltb c 128) (step reverse (named (c - 64)) ∷ st) (operate (c - 128) st))) low
+    ∙ ap (λ b. cond b (step reverse (named (c - 64)) ∷ st) (operate (c - 128) st)) (to-true (ltb c 128) (lt→ltb c 128 (omega (arith, ltb→lt l 64 t))))
+    ∙ ap {B = List PathExpr} (λ x. step reverse (named x) ∷ st) back
   where
     c : ℕ
     c = 64 + l
@@ -91,7 +92,7 @@ act-op branch-right p q st = refl
 act-op branch-left p q st = refl
 
 decode-codes : (p : PathExpr) → T (links? 64 p) → (cs : List ℕ) (st : List PathExpr) → decode (codes p ++ cs) st ≡ decode cs (erase p ∷ st)
-decode-codes (step d l) h cs st = ap (λ x. decode cs x) (act-step d l (ltb→lt l 64 h) st)
+decode-codes (step d l) h cs st = ap (λ x. decode cs x) (act-step d l h st)
 decode-codes (join v p q) h cs st =
     ap (λ x. decode (x ++ cs) st) (binary-codes p q (s-join v))
     ∙ ap (λ x. decode x st) (append-assoc (codes p) (codes q ++ (128 ∷ [])) cs ∙ ap (λ x. codes p ++ x) (append-assoc (codes q) (128 ∷ []) cs))

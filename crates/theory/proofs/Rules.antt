@@ -2,7 +2,7 @@
 -- Assumes nothing.
 use mathlib.Core.List.{List}
 use Prim.Native.Nat.{ℕ}
-use Rattle.theory.specs.PathExpr.{Direction, Via, Op, PathExpr, step, join, op, closure}
+use Rattle.theory.specs.PathExpr.{Direction, Label, Via, Op, PathExpr, step, join, op, closure}
 use Rattle.theory.specs.Sheet.{Sheet}
 use Rattle.theory.specs.Derivation.{Triples, Step, Join, joins, Operate, union-left, union-right, conjoins, branches-right, branches-left, Walk, first, then, Cyclic, Closure, kept}
 use Rattle.theory.specs.Derivation.{unrolled, Derives}
@@ -33,7 +33,7 @@ closure-rule-map f g (unrolled w un) = unrolled (walk-map f w) (λ k i r. un k i
 
 -- ---- induction on derivations: C o is a set of triples for each question o, to which each rule leads from such sets
 pub record Closed (S : Sheet) (C : PathExpr → Triples) : Type 0 where
-  pub steps : (d : Direction) (l a : ℕ) (p : PathExpr) (b : ℕ) → Step S d l a p b → C (step d l) a p b
+  pub steps : (d : Direction) (l : Label) (a : ℕ) (p : PathExpr) (b : ℕ) → Step S d l a p b → C (step d l) a p b
   pub joins : (v : Via) (o₁ o₂ : PathExpr) (a : ℕ) (p : PathExpr) (b : ℕ) → Join (C o₁) (C o₂) a p b → C (join v o₁ o₂) a p b
   pub ops : (o : Op) (o₁ o₂ : PathExpr) (a : ℕ) (p : PathExpr) (b : ℕ) → Operate (C o₁) (C o₂) o a p b → C (op o o₁ o₂) a p b
   pub keeps : (o : PathExpr) (a : ℕ) (p : PathExpr) (b : ℕ) (ks : List ℕ) → Walk (C o) a p b ks → C (closure o) a (closure o) b

@@ -6,7 +6,7 @@ use Prim.Native.Nat.{ℕ, _≤_, _<_}
 use lib.Dec.{T, eqb→eq, eqb-refl, leb→le, ltb→lt}
 use Rattle.theory.specs.Lists.{some?, every?}
 use Rattle.theory.specs.KindSet.{width}
-use Rattle.theory.specs.Register.{Edge, edge, same-edge?, Register, kind, Linked}
+use Rattle.theory.specs.Register.{Edge, edge, same-edge?, Register, kind}
 use Rattle.theory.specs.Sheet.{Sheet, in-range?, sheet?, permits?, link-permitted?, conforms?}
 use Rattle.theory.proofs.Tests.{tests}
 use Rattle.theory.proofs.Lists.{some-in, in-some, every-in}
@@ -49,7 +49,7 @@ module _ (S : Sheet) (ok : T (sheet? S)) where
 
 -- ---- conforming
 module _ (S : Sheet) (r : Register) (conforms : T (conforms? S r)) where
-  pub conforming : {s l t : ℕ} → Linked r l s t → T (permits? S (kind r s) l (kind r t))
+  pub conforming : {s l t : ℕ} → In (edge s l t) (r .links) → T (permits? S (kind r s) l (kind r t))
   unfolding conforms?
   conforming m =
       let links : T (every? (link-permitted? S r) (r .links)) = search tests in

@@ -6,7 +6,7 @@ use mathlib.Core.List.{List}
 use Prim.Native.Nat.{ℕ}
 use lib.Dec.{T}
 use Rattle.theory.specs.TransitiveClosure.{single, extend}
-use Rattle.theory.specs.PathExpr.{Direction, Via, any, through, Op, union, conjunction, branch-right, branch-left, PathExpr, step, join, op, closure, erase, plain?}
+use Rattle.theory.specs.PathExpr.{Direction, Label, Via, any, through, Op, union, conjunction, branch-right, branch-left, PathExpr, step, join, op, closure, erase, plain?}
 use Rattle.theory.specs.Register.{Register, Holds}
 use Rattle.theory.specs.Sheet.{Sheet}
 use Rattle.theory.specs.Derivation.{Triples, Step, along, back, Join, joins, Operate, union-left, union-right, conjoins, branches-right, branches-left, Walk, first, then, Derives}
@@ -38,9 +38,9 @@ module _ (r : Register) where
   abbrev Sound : PathExpr → Triples
   Sound o a p b = T (plain? o) → (s t : ℕ) → Holds r (erase p) s t → Holds r o s t
 
-  steps : {S : Sheet} (d : Direction) (l a : ℕ) (p : PathExpr) (b : ℕ) → Step S d l a p b → Sound (step d l) a p b
-  steps d l a p b (along m) e s t h = h
-  steps d l a p b (back m) e s t h = h
+  steps : {S : Sheet} (d : Direction) (l : Label) (a : ℕ) (p : PathExpr) (b : ℕ) → Step S d l a p b → Sound (step d l) a p b
+  steps d l a p b (along m f x) e s t h = h
+  steps d l a p b (back m f x) e s t h = h
 
   join-sound : (v : Via) (o₁ o₂ : PathExpr) (a : ℕ) (p : PathExpr) (b : ℕ) → Join (Sound o₁) (Sound o₂) a p b → Sound (join v o₁ o₂) a p b
   join-sound any o₁ o₂ a p b (joins x y) e s t h =

@@ -9,7 +9,7 @@ use lib.Pow.{pow-pos}
 use lib.Dec.{T}
 use Rattle.theory.specs.Lists.{filter}
 use Rattle.theory.specs.KindSet.{singleton}
-use Rattle.theory.specs.PathExpr.{Direction, Via, any, through, Op, union, conjunction, branch-right, branch-left, PathExpr, step, join, op, closure, plain?, links?}
+use Rattle.theory.specs.PathExpr.{Direction, Label, Via, any, through, Op, union, conjunction, branch-right, branch-left, PathExpr, step, join, op, closure, plain?, links?}
 use Rattle.theory.specs.Sheet.{Sheet}
 use Rattle.theory.specs.Inference.{Triple, stepped?, between, of-step, pairs, end-to-end?, joined, of-join, same-ends?, same-start?, conjoined, branched-right, branched-left, of-op}
 use Rattle.theory.specs.Inference.{reach, meets-cyclic?, acyclic?, walks, of-closure, triples}
@@ -20,7 +20,7 @@ use Rattle.theory.proofs.Triples.{in-distinct, in-pairs, in-between}
 
 -- ---- what holds of the paths of all triples of a question: O of the question's parts, P of the paths
 pub record Paths (O P : PathExpr → Type 0) : Type 0 where
-  pub steps : (d : Direction) (l : ℕ) → O (step d l) → P (step d l)
+  pub steps : (d : Direction) (l : Label) → O (step d l) → P (step d l)
   pub joins : (k : ℕ) (p q : PathExpr) → P p → P q → P (join (through (singleton k)) p q)
   pub ops : (o : Op) (p q : PathExpr) → P p → P q → P (op o p q)
   pub closures : (p : PathExpr) → O (closure p) → P (closure p)

@@ -9,7 +9,7 @@ use lib.Dec.{T, ltb, lt→ltb}
 use lib.ListN.{length}
 use Rattle.theory.specs.Lists.{every?, guard, concat-map, range}
 use Rattle.theory.specs.KindSet.{has, singleton}
-use Rattle.theory.specs.PathExpr.{Direction, Via, any, through, Op, PathExpr, step, join, op, closure, plain?}
+use Rattle.theory.specs.PathExpr.{Direction, Label, follows?, Via, any, through, Op, PathExpr, step, join, op, closure, plain?}
 use Rattle.theory.specs.Register.{Edge, edge, Register, kind, well-formed?, Linked, Holds}
 use Rattle.theory.specs.Sheet.{Sheet, sheet?, permits?, kind-known?, link-permitted?, conforms?}
 use Rattle.theory.specs.Derivation.{along, back, joins, Operate, union-left, union-right, conjoins, branches-right, branches-left, Walk, first, then, Closure, kept, unrolled, Derives}
@@ -57,9 +57,9 @@ module _ (S : Sheet) (ok : T (sheet? S)) where
       (concat-map-in (edges-at S a) (range-in (S .link-names) l (i .1))
       (concat-map-in (λ b. guard (permits? S a l b) (edge a l b ∷ [])) (range-in (S .kinds) b (i .2)) (guard-in (permits? S a l b) t (here refl))))
 
-  universal-linked : {a l b : ℕ} → T (permits? S a l b) → Linked (universal S) l a b
+  universal-linked : {a b : ℕ} (l : Label) (m : ℕ) → T (follows? l m) → T (permits? S a m b) → Linked (universal S) l a b
   unfolding universal
-  universal-linked t = edges-in t
+  universal-linked l m f t = (m, f, edges-in t)
 
   universal-well-formed : T (well-formed? (universal S))
   unfolding universal well-formed?
@@ -101,9 +101,9 @@ module _ (S : Sheet) (ok : T (sheet? S)) where
   abbrev Own : PathExpr → Type 0
   Own o = (a : ℕ) (p : PathExpr) (b : ℕ) → Derives S o a p b → Holds U p a b
 
-  step-own : (d : Direction) (l : ℕ) → Own (step d l)
-  step-own d l a p b (along t) = universal-linked t
-  step-own d l a p b (back t) = universal-linked t
+  step-own : (d : Direction) (l : Label) → Own (step d l)
+  step-own d l a p b (along m f t) = universal-linked l m f t
+  step-own d l a p b (back m f t) = universal-linked l m f t
 
   join-own : (v : Via) (o₁ o₂ : PathExpr) → Own o₁ → Own o₂ → Own (join v o₁ o₂)
   join-own v o₁ o₂ f g a p b (joins {b = z} {p = p₁} {q = p₂} x y) = (z, f a p₁ z x, g z p₂ b y, at-kind z (derives-inside S ok o₁ a p₁ z x .1))

@@ -5,7 +5,7 @@ use mathlib.Core.List.{List, [], _∷_, List·Memᴰ as In}
 use Prim.Native.Nat.{ℕ}
 use lib.Dec.{T}
 use Rattle.theory.specs.KindSet.{singleton}
-use Rattle.theory.specs.PathExpr.{Direction, forward, reverse, through, Op, union, conjunction, branch-right, branch-left, PathExpr, step, join, op, closure}
+use Rattle.theory.specs.PathExpr.{Direction, forward, reverse, Label, follows?, through, Op, union, conjunction, branch-right, branch-left, PathExpr, step, join, op, closure}
 use Rattle.theory.specs.Sheet.{Sheet, permits?}
 
 -- a set of triples: from kind, path, to kind
@@ -13,9 +13,9 @@ abbrev pub Triples : Type 1
 Triples = ℕ → PathExpr → ℕ → Type 0
 
 -- "A forward step has each permitted triple of its link. Reverse swaps A and B."
-pub data Step (S : Sheet) : Direction → ℕ → ℕ → PathExpr → ℕ → Type 0 where
-  along : {a l b : ℕ} → T (permits? S a l b) → Step S forward l a (step forward l) b
-  back : {a l b : ℕ} → T (permits? S b l a) → Step S reverse l a (step reverse l) b
+pub data Step (S : Sheet) : Direction → Label → ℕ → PathExpr → ℕ → Type 0 where
+  along : {a b : ℕ} {l : Label} (m : ℕ) → T (follows? l m) → T (permits? S a m b) → Step S forward l a (step forward l) b
+  back : {a b : ℕ} {l : Label} (m : ℕ) → T (follows? l m) → T (permits? S b m a) → Step S reverse l a (step reverse l) b
 
 -- "(A, p, B) and (B, q, C) give (A, p joined through {B} to q, C)"
 pub data Join (P Q : Triples) : ℕ → PathExpr → ℕ → Type 0 where

@@ -4,17 +4,22 @@
 use mathlib.Core.Bool.{Bool, true, _&&_, _||_}
 use mathlib.Core.List.{List}
 use Prim.Native.Nat.{ℕ}
+use lib.Dec.{eqb}
 use Rattle.theory.specs.Lists.{some?, range}
 use Rattle.theory.specs.KindSet.{has}
 use Rattle.theory.specs.TransitiveClosure.{Table, table, look, closure?}
-use Rattle.theory.specs.PathExpr.{Direction, forward, reverse, Via, any, through, Op, union, conjunction, branch-right, branch-left, PathExpr, step, join, op, closure}
-use Rattle.theory.specs.Register.{edge, same-edge?, Register, records, kind}
+use Rattle.theory.specs.PathExpr.{Direction, forward, reverse, Label, follows?, Via, any, through, Op, union, conjunction, branch-right, branch-left, PathExpr, step, join, op, closure}
+use Rattle.theory.specs.Register.{Edge, Register, records, kind}
 use Rattle.theory.specs.Merging.{Member}
 
-abbrev pub linked? : Register → ℕ → ℕ → ℕ → Bool
-linked? r l s t = some? (same-edge? (edge s l t)) (r .links)
+-- e is a link from s to t that a step with label l follows
+abbrev pub follows-link? : Label → ℕ → ℕ → Edge → Bool
+follows-link? l s t e = eqb s (e .from) && follows? l (e .label) && eqb t (e .to)
 
-abbrev pub step? : Register → Direction → ℕ → ℕ → ℕ → Bool
+abbrev pub linked? : Register → Label → ℕ → ℕ → Bool
+linked? r l s t = some? (follows-link? l s t) (r .links)
+
+abbrev pub step? : Register → Direction → Label → ℕ → ℕ → Bool
 step? r forward l s t = linked? r l s t
 step? r reverse l s t = linked? r l t s
 

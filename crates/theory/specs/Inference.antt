@@ -8,7 +8,7 @@ use lib.Dec.{eqb}
 use Rattle.theory.specs.Lists.{guard, filter, some?, adjoin-all, concat-map, range}
 use Rattle.theory.specs.KindSet.{singleton}
 use Rattle.theory.specs.TransitiveClosure.{Table, look, closure?}
-use Rattle.theory.specs.PathExpr.{Direction, forward, reverse, through, Op, union, conjunction, branch-right, branch-left, PathExpr, step, join, op, closure, same?}
+use Rattle.theory.specs.PathExpr.{Direction, forward, reverse, Label, follows?, through, Op, union, conjunction, branch-right, branch-left, PathExpr, step, join, op, closure, same?}
 use Rattle.theory.specs.Sheet.{Sheet, permits?}
 
 pub record Triple : Type 0 where
@@ -26,16 +26,20 @@ triple? x y = eqb (x .from) (y .from) && eqb (x .to) (y .to) && same? (x .path) 
 abbrev pub distinct : List Triple → List Triple
 distinct ts = adjoin-all triple? [] ts
 
--- ---- a step: every two kinds that a link of this name may join
-abbrev pub stepped? : Sheet → Direction → ℕ → ℕ → ℕ → Bool
-stepped? S forward l a b = permits? S a l b
-stepped? S reverse l a b = permits? S b l a
+-- ---- a step: every two kinds that a link which it follows may join
+-- some name that the label follows is permitted from a to b
+abbrev pub linkable? : Sheet → Label → ℕ → ℕ → Bool
+linkable? S l a b = some? (λ m. follows? l m && permits? S a m b) (range (S .link-names))
+
+abbrev pub stepped? : Sheet → Direction → Label → ℕ → ℕ → Bool
+stepped? S forward l a b = linkable? S l a b
+stepped? S reverse l a b = linkable? S l b a
 
 -- the triples with path p from a to b, for each a and b below n that pass the test
 abbrev pub between : ℕ → PathExpr → (ℕ → ℕ → Bool) → List Triple
 between n p f = concat-map (λ a. concat-map (λ b. guard (f a b) (triple a p b ∷ [])) (range n)) (range n)
 
-abbrev pub of-step : Sheet → Direction → ℕ → List Triple
+abbrev pub of-step : Sheet → Direction → Label → List Triple
 of-step S d l = between (S .kinds) (step d l) (stepped? S d l)
 
 -- ---- two parts: what two triples give, where they fit

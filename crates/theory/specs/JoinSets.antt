@@ -5,7 +5,7 @@ use mathlib.Core.List.{List, map, zipWith}
 use Prim.Native.Nat.{ℕ, _<_}
 use lib.Dec.{T}
 use Rattle.theory.specs.KindSet.{set-union}
-use Rattle.theory.specs.PathExpr.{Direction, Via, any, through, Op, PathExpr, step, join, op, closure, Symbol, s-step, s-join, s-op, s-closure, postfix, plain?}
+use Rattle.theory.specs.PathExpr.{Direction, Label, Via, any, through, Op, PathExpr, step, join, op, closure, Symbol, s-step, s-join, s-op, s-closure, postfix, plain?}
 
 -- 0 for a symbol without a set
 abbrev pub set-of : Symbol → ℕ
@@ -29,7 +29,7 @@ pub data EvenVia : Via → Via → Type 0 where
 
 -- paths of one shape whose joins are even
 pub data Even : PathExpr → PathExpr → Type 0 where
-  steps : {d : Direction} {l : ℕ} → Even (step d l) (step d l)
+  steps : {d : Direction} {l : Label} → Even (step d l) (step d l)
   joins : {v w : Via} {p q p′ q′ : PathExpr} → EvenVia v w → Even p p′ → Even q q′ → Even (join v p q) (join w p′ q′)
   ops : {o : Op} {p q p′ q′ : PathExpr} → Even p p′ → Even q q′ → Even (op o p q) (op o p′ q′)
   closures : {p p′ : PathExpr} → Even p p′ → Even (closure p) (closure p′)

@@ -6,12 +6,12 @@ use mathlib.Core.Bool.{Bool, cond}
 use mathlib.Core.List.{List, List·Memᴰ as In, [], _∷_}
 use mathlib.Core.Option.{Option, none, some}
 use Prim.Native.Nat.{ℕ, zero, suc, _≤_, _<_}
-use lib.Dec.{T, leb, ltb}
+use lib.Dec.{T, leb}
 use lib.ListN.{length}
 use Rattle.theory.specs.Lists.{every?, First, NoRepeat}
 use Rattle.theory.specs.Result.{Result, got, refused}
 use Rattle.theory.specs.KindSet.{is-set}
-use Rattle.theory.specs.PathExpr.{Via, any, through, Symbol, s-step, s-join, s-op, s-closure, PathExpr, step, join, op, closure, postfix, parts, size, links?}
+use Rattle.theory.specs.PathExpr.{below?, Via, any, through, Symbol, s-step, s-join, s-op, s-closure, PathExpr, step, join, op, closure, postfix, parts, size, links?}
 use Rattle.theory.specs.Postfix.{path-of, ended}
 use Rattle.theory.specs.Sheet.{Sheet}
 use Rattle.theory.specs.Derivation.{Derives}
@@ -24,7 +24,7 @@ Narrowing = Result (List Member)
 
 -- ---- a symbol's refusal, or 0
 abbrev pub link-fault : ℕ → Symbol → ℕ
-link-fault E (s-step d l) = cond (ltb l E) 0 11
+link-fault E (s-step d l) = cond (below? l E) 0 11
 link-fault E (s-join v) = 0
 link-fault E (s-op o) = 0
 link-fault E s-closure = 0
@@ -68,7 +68,7 @@ narrow-symbols S ss = refuse (link-fault (S .link-names)) 0 ss (parted S ss)
 -- ---- 11, 12 and 13 in terms of the rules alone
 -- a step whose link the sheet does not name
 abbrev pub Unnamed : ℕ → Symbol → Type 0
-Unnamed E (s-step d l) = E ≤ l
+Unnamed E (s-step d l) = ¬ T (below? l E)
 Unnamed E (s-join v) = ⊥
 Unnamed E (s-op o) = ⊥
 Unnamed E s-closure = ⊥

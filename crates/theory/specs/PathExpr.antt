@@ -12,6 +12,19 @@ pub data Direction : Type 0 where
   forward reverse : Direction
   deriving Discrete as Direction-discrete
 
+-- what a step follows: the links of one name
+pub data Label : Type 0 where
+  named : ℕ → Label
+  deriving Discrete as Label-discrete
+
+-- whether a step with this label follows a link of name m
+abbrev pub follows? : Label → ℕ → Bool
+follows? (named l) m = eqb l m
+
+-- whether what it names is one of n names, 0 to n - 1
+abbrev pub below? : Label → ℕ → Bool
+below? (named l) n = ltb l n
+
 -- what a join passes through: any record (a plain join), or one whose kind is in a set (field 45)
 pub data Via : Type 0 where
   any : Via
@@ -25,21 +38,21 @@ pub data Op : Type 0 where
 
 -- a step along a link; the transitive closure is "chain" of SPECIFICATION
 pub data PathExpr : Type 0 where
-  step : Direction → ℕ → PathExpr
+  step : Direction → Label → PathExpr
   join : Via → PathExpr → PathExpr → PathExpr
   op : Op → PathExpr → PathExpr → PathExpr
   closure : PathExpr → PathExpr
   deriving Discrete as PathExpr-discrete
 
 abbrev pub path-discrete : Discrete PathExpr
-path-discrete = PathExpr-discrete Direction-discrete ℕ-discrete (Via-discrete ℕ-discrete) Op-discrete
+path-discrete = PathExpr-discrete Direction-discrete (Label-discrete ℕ-discrete) (Via-discrete ℕ-discrete) Op-discrete
 
 unfoldable pub same? : PathExpr → PathExpr → Bool
 same? p q = decided (path-discrete p q)
 
 -- ---- symbols in postfix order
 pub data Symbol : Type 0 where
-  s-step : Direction → ℕ → Symbol
+  s-step : Direction → Label → Symbol
   s-join : Via → Symbol
   s-op : Op → Symbol
   s-closure : Symbol
@@ -71,9 +84,9 @@ op-code conjunction = 130
 op-code branch-right = 131
 op-code branch-left = 132
 
-abbrev pub step-code : Direction → ℕ → ℕ
-step-code forward l = l
-step-code reverse l = 64 + l
+abbrev pub step-code : Direction → Label → ℕ
+step-code forward (named l) = l
+step-code reverse (named l) = 64 + l
 
 abbrev pub code : Symbol → ℕ
 code (s-step d l) = step-code d l
@@ -107,9 +120,9 @@ plain? (join (through m) p q) = false
 plain? (op o p q) = plain? p && plain? q
 plain? (closure p) = plain? p
 
--- each link is below n
+-- each step's label is below n
 abbrev pub links? : ℕ → PathExpr → Bool
-links? n (step d l) = ltb l n
+links? n (step d l) = below? l n
 links? n (join v p q) = links? n p && links? n q
 links? n (op o p q) = links? n p && links? n q
 links? n (closure p) = links? n p

@@ -10,7 +10,7 @@ use lib.ListN.{length, getD}
 use Rattle.theory.specs.Lists.{every?}
 use Rattle.theory.specs.KindSet.{has}
 use Rattle.theory.specs.TransitiveClosure.{TransitiveClosure}
-use Rattle.theory.specs.PathExpr.{forward, reverse, Via, any, through, union, conjunction, branch-right, branch-left, PathExpr, step, join, op, closure}
+use Rattle.theory.specs.PathExpr.{forward, reverse, Label, follows?, Via, any, through, union, conjunction, branch-right, branch-left, PathExpr, step, join, op, closure}
 
 -- a labelled edge: a link of a register (between records), or a permitted triple of a sheet (between kinds)
 pub record Edge : Type 0 where
@@ -39,9 +39,9 @@ kind r s = getD (r .kinds) s 0
 unfoldable pub well-formed? : Register → Bool
 well-formed? r = every? (λ e. ltb (e .from) (records r) && ltb (e .to) (records r)) (r .links)
 
--- a link of the register, under the name l, from s to t
-abbrev pub Linked : Register → ℕ → ℕ → ℕ → Type 0
-Linked r l s t = In (edge s l t) (r .links)
+-- a link of the register from s to t, of a name m that a step with label l follows
+abbrev pub Linked : Register → Label → ℕ → ℕ → Type 0
+Linked r l s t = (m : ℕ) × T (follows? l m) × In (edge s m t) (r .links)
 
 abbrev pub passes : Register → Via → ℕ → Type 0
 passes r any z = Unit {0}

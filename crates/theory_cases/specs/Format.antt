@@ -5,7 +5,7 @@ use mathlib.Core.List.{List, [], _∷_, map}
 use mathlib.Core.Option.{Option, none, some}
 use Prim.Native.Nat.{ℕ, _+_, _-_, _/_, _%_}
 use lib.Dec.{eqb, ltb}
-use Rattle.theory.specs.PathExpr.{forward, reverse, any, through, union, conjunction, branch-right, branch-left, PathExpr, Symbol, s-step, s-join, s-op, s-closure, postfix, code, codes}
+use Rattle.theory.specs.PathExpr.{forward, reverse, named, any, through, union, conjunction, branch-right, branch-left, PathExpr, Symbol, s-step, s-join, s-op, s-closure, postfix, code, codes}
 use Rattle.theory.specs.Postfix.{path-of}
 use Rattle.theory.specs.Simplification.{normal-form}
 use Rattle.theory.specs.Register.{Edge, edge, Register, records, well-formed?}
@@ -24,8 +24,8 @@ edge-of n = edge (n / 10000) (n / 100 % 100) (n % 100)
 -- a symbol's code; 1000 and a set for a join through it
 abbrev symbol-of : ℕ → Symbol
 symbol-of n =
-    cond (ltb n 64) (s-step forward n)
-    (cond (ltb n 128) (s-step reverse (n - 64))
+    cond (ltb n 64) (s-step forward (named n))
+    (cond (ltb n 128) (s-step reverse (named (n - 64)))
     (cond (eqb n 128) (s-join any)
     (cond (eqb n 129) (s-op union)
     (cond (eqb n 130) (s-op conjunction)

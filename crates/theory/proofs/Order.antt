@@ -9,8 +9,8 @@ use native.Mathlib.Nat.{eq-or-lt-of-le}
 use native.Mathlib.Omega.{arith}
 use native.Mathlib.Decide.{decLe}
 use lib.Dec.{T, T-not, not-T, eqb, eqb→eq, ltb, ltb→lt, lt→ltb}
-use Rattle.theory.specs.PathExpr.{codes, before?, Direction, forward, reverse, Label, named, below?, any, Op, union, conjunction, branch-right, branch-left, PathExpr, step, join, op, closure, Symbol}
-use Rattle.theory.specs.PathExpr.{s-join, s-op, s-closure, postfix, op-code, step-code, code, erase, links?, same?, path-discrete}
+use Rattle.theory.specs.PathExpr.{codes, before?, Direction, forward, reverse, Label, named, below?, any, Op, union, conjunction, branch-right, branch-left, PathExpr, step, join, op, closure}
+use Rattle.theory.specs.PathExpr.{Symbol, s-join, s-op, s-closure, postfix, op-code, step-code, code, erase, links?, same?, path-discrete}
 use Rattle.theory.specs.Inference.{Triple}
 use Rattle.theory.specs.Merging.{Member, of-triple, same-shape?, merge, merged, insert, members, Ascending}
 use Rattle.theory.proofs.Tests.{and-left, and-right, and-both, or-left, or-right, or-cases, to-true, to-decided, cond-case}

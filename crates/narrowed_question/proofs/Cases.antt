@@ -2,7 +2,7 @@
 -- Assumes nothing.
 use mathlib.Core.Path.{refl}
 use mathlib.Core.List.{List, [], _∷_}
-use Rattle.theory.specs.PathExpr.{forward, through, step, join}
+use Rattle.theory.specs.PathExpr.{forward, named, through, step, join}
 use Rattle.theory.specs.Merging.{Member, member}
 use Rattle.theory.specs.Result.{got, refused}
 use Rattle.fields.specs.Case.{Case, case, AllRead}
@@ -14,7 +14,7 @@ use Rattle.narrowed_question.specs.Writing.{encode}
 use Rattle.narrowed_question.specs.Members.{flat-of, narrowed-file}
 
 abbrev one : Member
-one = member 1 (join (through 2) (step forward 0) (step forward 3)) 8
+one = member 1 (join (through 2) (step forward (named 0)) (step forward (named 3))) 8
 
 abbrev pub cases : List (Case (List Flat))
 cases =

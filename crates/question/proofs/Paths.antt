@@ -6,11 +6,11 @@ use mathlib.Core.Logic.{inl}
 use mathlib.Core.Bool.{true, false≢true, _&&_}
 use mathlib.Core.List.{List, [], _∷_, _++_, map, append-assoc, append-nil}
 use mathlib.Core.Option.{some}
-use lib.Dec.{T, leb, lt→ltb}
+use lib.Dec.{T, leb}
 use lib.ListN.{length, getD, take, drop, length-map}
 use native.Mathlib.Omega.{arith}
 use borrow.Author.Tests.{eqb-true, leb-true}
-use Rattle.theory.specs.PathExpr.{any, through, PathExpr, step, join, op, closure, Symbol, s-step, s-join, s-op, s-closure, postfix, size, code, codes, plain?, links?}
+use Rattle.theory.specs.PathExpr.{below?, any, through, PathExpr, step, join, op, closure, Symbol, s-step, s-join, s-op, s-closure, postfix, size, code, codes, plain?, links?}
 use Rattle.theory.specs.Postfix.{single-path, path-of}
 use Rattle.theory.proofs.Tests.{and-both}
 use Rattle.theory.proofs.Postfix.{postfix-path-of}
@@ -100,7 +100,7 @@ module _ (s : List ℕ) where
 -- ---- its path
 -- a symbol that a question may have
 abbrev pub Asked : Symbol → Type 0
-Asked (s-step d l) = l < 64
+Asked (s-step d l) = T (below? l 64)
 Asked (s-join any) = Unit {0}
 Asked (s-join (through m)) = ⊥
 Asked (s-op o) = Unit {0}
@@ -115,7 +115,7 @@ split [] ys h = (tt, h)
 split (x ∷ xs) ys h = let (a, b) = split xs ys (h .1) in ((h .0, a), b)
 
 plain-path : (p : PathExpr) → AllAsked (postfix p) → T (plain? p) × T (links? 64 p)
-plain-path (step d l) h = (tt, lt→ltb l 64 (h .0))
+plain-path (step d l) h = (tt, h .0)
 plain-path (join any p q) h =
     let (a, b) = split (postfix p) (postfix q ++ (s-join any ∷ [])) h in
     let (c, d) = split (postfix q) (s-join any ∷ []) b in

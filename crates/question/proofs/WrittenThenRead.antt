@@ -11,7 +11,7 @@ use lib.Dec.{T, ltb→lt}
 use lib.ListN.{length, take, drop, length-map}
 use borrow.Author.Tests.{lt-ltb, le-ltb, eq-eqb, ne-eqb, le-leb}
 use Rattle.theory.specs.PathExpr.{forward, reverse, any, through, union, conjunction, branch-right, branch-left, PathExpr, step, join, op, closure}
-use Rattle.theory.specs.PathExpr.{Symbol, s-step, s-join, s-op, s-closure, postfix, code, codes, size, plain?, links?}
+use Rattle.theory.specs.PathExpr.{named, Symbol, s-step, s-join, s-op, s-closure, postfix, code, codes, size, plain?, links?}
 use Rattle.theory.specs.Postfix.{read as read-paths, path-of}
 use Rattle.theory.proofs.Tests.{and-left, and-right}
 use Rattle.theory.proofs.Postfix.{path-of-postfix, single}
@@ -40,7 +40,7 @@ asked-append [] ys g h = h
 asked-append (x ∷ xs) ys g h = (g .0, asked-append xs ys (g .1) h)
 
 asked-postfix : (p : PathExpr) → T (plain? p) → T (links? 64 p) → AllAsked (postfix p)
-asked-postfix (step d l) g h = (ltb→lt l 64 h, tt)
+asked-postfix (step d l) g h = (h, tt)
 asked-postfix (join any p q) g h =
     asked-append (postfix p) (postfix q ++ (s-join any ∷ [])) (asked-postfix p (and-left (plain? p) (plain? q) g) (and-left (links? 64 p) (links? 64 q) h))
     (asked-append (postfix q) (s-join any ∷ []) (asked-postfix q (and-right (plain? p) (plain? q) g) (and-right (links? 64 p) (links? 64 q) h)) (tt, tt))
@@ -51,8 +51,8 @@ asked-postfix (op o p q) g h =
 asked-postfix (closure p) g h = asked-append (postfix p) (s-closure ∷ []) (asked-postfix p g h) (tt, tt)
 
 asked-number : (s : Symbol) → Asked s → (number-symbol s ≡ numbered (code s) 0) × (code s < 134)
-asked-number (s-step forward l) h = (refl, omega arith)
-asked-number (s-step reverse l) h = (refl, omega arith)
+asked-number (s-step forward (named l)) h = (refl, omega (arith, ltb→lt l 64 h))
+asked-number (s-step reverse (named l)) h = (refl, omega (arith, ltb→lt l 64 h))
 asked-number (s-join any) h = (refl, omega arith)
 asked-number (s-join (through m)) h = absurd h
 asked-number (s-op union) h = (refl, omega arith)

@@ -4,13 +4,13 @@ use Prim.Native.Nat.{ℕ, suc, zero, _+_, _-_, _<_, _≤_}
 use mathlib.Core.Path.{_≡_, refl, sym, ap, ap₂, _∙_, subst}
 use mathlib.Core.Logic.{inl, inr}
 use mathlib.Core.List.{List, [], _∷_, _++_, map}
-use lib.Dec.{T, ltb→lt}
+use lib.Dec.{T, ltb→lt, lt→ltb}
 use lib.ListN.{length, length-append, length-map}
 use native.Mathlib.Decide.{decLe}
 use native.Mathlib.Omega.{arith}
 use borrow.Author.Tests.{lt-ltb, le-ltb, eq-eqb, ne-eqb}
 use Rattle.theory.specs.KindSet.{is-set}
-use Rattle.theory.specs.PathExpr.{forward, reverse, any, through, union, conjunction, branch-right, branch-left, PathExpr, step, join, op, closure}
+use Rattle.theory.specs.PathExpr.{forward, reverse, named, below?, any, through, union, conjunction, branch-right, branch-left, PathExpr, step, join, op, closure}
 use Rattle.theory.specs.PathExpr.{Symbol, s-step, s-join, s-op, s-closure, postfix, size, code, codes, links?}
 use Rattle.theory.specs.Narrowing.{via-fits, sets-fit}
 use Rattle.theory.proofs.Tests.{tests}
@@ -18,7 +18,7 @@ use Rattle.symbols.specs.Symbols.{Numbered, numbered, order-code, arity,
 
 -- a file can hold the symbol
 abbrev pub Held : Symbol → Type 0
-Held (s-step d l) = l < 64
+Held (s-step d l) = T (below? l 64)
 Held (s-join v) = via-fits v
 Held (s-op o) = Unit {0}
 Held s-closure = Unit {0}
@@ -46,10 +46,12 @@ step-number c h = (inl (omega arith, refl), rw (ne-eqb c 255 (omega arith)), rw 
 
 pub number-of : (s : Symbol) → Held s → Number s
 unfolding order-code arity symbol-numbered
-number-of (s-step forward l) h =
+number-of (s-step forward (named l)) t =
+    let h = ltb→lt l 64 t in
     let r = step-number l (omega arith) in
     record { fine = r .0; same-code = r .1; takes = r .2; back = rw (lt-ltb l 64 h) }
-number-of (s-step reverse l) h =
+number-of (s-step reverse (named l)) t =
+    let h = ltb→lt l 64 t in
     let r = step-number (64 + l) (omega arith) in
     let e : 64 + l - 64 ≡ l = omega arith in
     record { fine = r .0; same-code = r .1; takes = r .2; back = rw (le-ltb (64 + l) 64 (omega arith), lt-ltb (64 + l) 128 (omega arith), e) }
@@ -80,8 +82,8 @@ unfolding symbol-numbered
 plain-comes c h = go (decLe 64 c) (decLe 128 c)
   where
     go : Dec (64 ≤ c) → Dec (128 ≤ c) → Comes (numbered c 0)
-    go (no a) b = rw (lt-ltb c 64 (omega arith)) (omega arith, refl)
-    go (yes a) (no b) = let e : 64 + (c - 64) ≡ c = omega arith in rw (le-ltb c 64 a, lt-ltb c 128 (omega arith)) (omega arith, ap (λ (k : ℕ). numbered k 0) e)
+    go (no a) b = rw (lt-ltb c 64 (omega arith)) (lt→ltb c 64 (omega arith), refl)
+    go (yes a) (no b) = let e : 64 + (c - 64) ≡ c = omega arith in rw (le-ltb c 64 a, lt-ltb c 128 (omega arith)) (lt→ltb (c - 64) 64 (omega arith), ap (λ (k : ℕ). numbered k 0) e)
     go (yes a) (yes b) = let e : 128 + (c - 128) ≡ c = omega arith in subst (λ (k : ℕ). Comes (numbered k 0)) e (operator-comes (c - 128) (omega arith))
 
 via-comes : (m : ℕ) → is-set m → Comes (numbered 255 m)
@@ -97,11 +99,11 @@ symbol-comes x (inr (n, h)) =
     subst Comes e (via-comes (x .set) h)
 
 -- ---- the symbol of a number
-pub forward-number : (c m : ℕ) → c < 64 → symbol-numbered c m ≡ s-step forward c
+pub forward-number : (c m : ℕ) → c < 64 → symbol-numbered c m ≡ s-step forward (named c)
 unfolding symbol-numbered
 forward-number c m h = simp (lt-ltb c 64 h)
 
-pub reverse-number : (c m : ℕ) → 64 ≤ c → c < 128 → symbol-numbered c m ≡ s-step reverse (c - 64)
+pub reverse-number : (c m : ℕ) → 64 ≤ c → c < 128 → symbol-numbered c m ≡ s-step reverse (named (c - 64))
 unfolding symbol-numbered
 reverse-number c m l h = simp (le-ltb c 64 l, lt-ltb c 128 h)
 
@@ -151,7 +153,7 @@ held-append [] ys f g = g
 held-append (x ∷ xs) ys f g = (f .0, held-append xs ys (f .1) g)
 
 pub held-postfix : (p : PathExpr) → T (links? 64 p) → sets-fit p → AllHeld (postfix p)
-held-postfix (step d l) t f = (ltb→lt l 64 t, tt)
+held-postfix (step d l) t f = (t, tt)
 held-postfix (join v p q) t f =
     held-append (postfix p) (postfix q ++ (s-join v ∷ [])) (held-postfix p (search tests) (f .1)) (held-append (postfix q) (s-join v ∷ []) (held-postfix q (search tests) (f .2)) (f .0, tt))
 held-postfix (op o p q) t f =

@@ -8,7 +8,7 @@ use mathlib.Core.List.{List, [], _∷_}
 use Prim.Native.Nat.{ℕ, _+_, _-_, _*_, _<_, zero, suc}
 use lib.Dec.{leb, ltb, eqb}
 use lib.ListN.{getD}
-use Rattle.theory.specs.PathExpr.{forward, reverse, any, through, union, conjunction, branch-right, branch-left, Symbol, s-step, s-join, s-op, s-closure, code}
+use Rattle.theory.specs.PathExpr.{forward, reverse, named, any, through, union, conjunction, branch-right, branch-left, Symbol, s-step, s-join, s-op, s-closure, code}
 use Rattle.theory.specs.KindSet.{is-set}
 use Rattle.fields.specs.declared.File.{File}
 use Rattle.fields.specs.declared.Due.{Due}
@@ -28,8 +28,8 @@ operator-numbered (suc (suc (suc (suc (suc n))))) = s-closure
 
 unfoldable pub symbol-numbered : ℕ → ℕ → Symbol
 symbol-numbered c m =
-    cond (ltb c 64) (s-step forward c)
-    (cond (ltb c 128) (s-step reverse (c - 64))
+    cond (ltb c 64) (s-step forward (named c))
+    (cond (ltb c 128) (s-step reverse (named (c - 64)))
     (cond (eqb c 255) (s-join (through m)) (operator-numbered (c - 128))))
 
 -- the code by which members are compared: "45 is a join and has code 128"

@@ -6,12 +6,12 @@ use Prim.Native.Nat.{ℕ, zero, suc}
 use lib.Dec.{ltb}
 use lib.ListN.{length, getD}
 use Rattle.theory.specs.Lists.{adjoin-all}
-use Rattle.theory.specs.PathExpr.{forward, step}
+use Rattle.theory.specs.PathExpr.{forward, named, step}
 use Rattle.theory.specs.Inference.{Triple, triple, triple?, of-join}
 
 -- what a list has past its end
 abbrev pub no-triple : Triple
-no-triple = triple 0 (step forward 0) 0
+no-triple = triple 0 (step forward (named 0)) 0
 
 -- the i-th is joined with each of fs, and what is new is put at the end
 abbrev pub grown : List Triple → List Triple → ℕ → List Triple

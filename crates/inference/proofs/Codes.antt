@@ -7,10 +7,11 @@ use Prim.Native.Nat.{ℕ, _<_, _≤_}
 use native.Mathlib.Nat.{eq-or-lt-of-le}
 use native.Mathlib.Omega.{arith}
 use borrow.Author.Tests.{lt-ltb, le-ltb, ne-eqb}
-use Rattle.theory.specs.PathExpr.{Direction, any, PathExpr, step, join, op, closure, Symbol, s-step}
+use Rattle.theory.specs.PathExpr.{Direction, Label, any, PathExpr, step, join, op, closure, Symbol, s-step}
 use Rattle.theory.specs.Postfix.{Stack, two-operands, push}
 use Rattle.theory.specs.Sheet.{Sheet}
 use Rattle.theory.specs.Inference.{Triple, distinct, of-closure, triples}
+use Rattle.theory.proofs.Sheet.{kinds-fit}
 use Rattle.theory.proofs.Ends.{triples-inside}
 use Rattle.symbols.specs.Symbols.{symbol-numbered, arity}
 use Rattle.symbols.proofs.Numbers.{join-number}
@@ -89,9 +90,9 @@ binary c l m =
     (eq-or-lt-of-le l)
 
 module _ {t : List ℕ} {K : ℕ} {S : Sheet} (h : Sheeted t K S) where
-  pub step-triples : (c : ℕ) (d : Direction) (l : ℕ) → c < 128 → symbol-numbered c 0 ≡ s-step d l → distinct (of-marks t K c) ≡ triples S (step d l)
+  pub step-triples : (c : ℕ) (d : Direction) (l : Label) → c < 128 → symbol-numbered c 0 ≡ s-step d l → distinct (of-marks t K c) ≡ triples S (step d l)
   step-triples c d l m e = ap distinct (ap (λ (n : ℕ). of-marks t n c) (sym (h .kinds)) ∙ marks-step (h .tabled) c d l m e)
 
   -- 64 kinds stand for those of the sheet
   pub closure-triples : (p : PathExpr) → distinct (of-closure 64 p (triples S p)) ≡ triples S (closure p)
-  closure-triples p = ap distinct (sym (closure-wider (S .kinds) 64 (triples S p) (triples-inside S p) (h .tabled .kinds) p))
+  closure-triples p = ap distinct (sym (closure-wider (S .kinds) 64 (triples S p) (triples-inside S p) (kinds-fit S (h .tabled .valid)) p))

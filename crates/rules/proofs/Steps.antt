@@ -12,7 +12,7 @@ use lib.ListN.{length, getD, set, length-set}
 use lib.Seq.{getD-set-same, getD-set-other}
 use borrow.Author.Tests.{lt-ltb, le-ltb}
 use Rattle.bits.specs.Bit.{bitOf, withBit}
-use Rattle.theory.specs.PathExpr.{s-step, size}
+use Rattle.theory.specs.PathExpr.{named, s-step, size}
 use Rattle.theory.specs.Inference.{Triple, distinct}
 use Rattle.theory.specs.Narrowing.{short?}
 use Rattle.theory.proofs.Tests.{to-true}
@@ -35,7 +35,7 @@ use Rattle.rules.proofs.Grows.{rule-added}
 use Rattle.rules.proofs.Edges.{row-word, edges-are}
 use Rattle.rules.proofs.RuleOutcome.{ruled-many, ruled-made}
 
-pub code-step : (c : ℕ) → c < 128 → symbol-numbered c 0 ≡ s-step (direction-of c) (link-of c)
+pub code-step : (c : ℕ) → c < 128 → symbol-numbered c 0 ≡ s-step (direction-of c) (named (link-of c))
 unfolding symbol-numbered
 code-step c h = ⊎-elim (λ l. rw (le-ltb c 64 l, lt-ltb c 128 h)) (λ l. rw (lt-ltb c 64 l)) (le-or-lt 64 c)
 

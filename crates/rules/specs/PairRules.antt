@@ -6,7 +6,7 @@ use mathlib.Core.Bool.{Bool, true, cond}
 use mathlib.Core.List.{List, []}
 use Prim.Native.Nat.{ℕ, _+_, _<_, _≤_}
 use lib.Dec.{eqb, leb}
-use Rattle.theory.specs.PathExpr.{forward, step, Symbol, s-step, s-join, s-op, s-closure}
+use Rattle.theory.specs.PathExpr.{forward, named, step, Symbol, s-step, s-join, s-op, s-closure}
 use Rattle.theory.specs.Inference.{Triple, triple, end-to-end?, same-ends?, same-start?, joined, conjoined, branched-right, branched-left, of-join, of-op}
 use Rattle.symbols.specs.Symbols.{symbol-numbered}
 use Rattle.triples.specs.declared.Node.{Node}
@@ -37,7 +37,7 @@ giving made x y = cond (eqb made 130) (conjoined x y) (cond (eqb made 131) (bran
 
 -- a node's two ends, as a triple
 abbrev pub ends-of : Node → Triple
-ends-of n = triple (n .from .0) (step forward 0) (n .to .0)
+ends-of n = triple (n .from .0) (step forward (named 0)) (n .to .0)
 
 -- the node of a pair of nodes x and y, which stand at i and j
 abbrev pub pair-node : ℕ → ℕ → ℕ → Node → Node → Node

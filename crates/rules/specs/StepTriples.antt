@@ -5,12 +5,12 @@ use mathlib.Core.Path.{_≡_}
 use mathlib.Core.Bool.{Bool, cond}
 use mathlib.Core.List.{List}
 use Prim.Native.Nat.{ℕ, _-_, _<_, _≤_}
-use lib.Dec.{ltb}
+use lib.Dec.{T, ltb}
 use lib.ListN.{length}
 use Rattle.bits.specs.Bit.{bitOf}
-use Rattle.theory.specs.PathExpr.{Direction, forward, reverse, PathExpr, step}
+use Rattle.theory.specs.PathExpr.{Direction, forward, reverse, named, PathExpr, step}
 use Rattle.theory.specs.Inference.{Triple, between}
-use Rattle.theory.specs.Sheet.{Sheet, permits?}
+use Rattle.theory.specs.Sheet.{Sheet, sheet?, permits?}
 use Rattle.sheet.specs.Table.{tabled?}
 use Rattle.rows.specs.Row.{row-bit}
 use Rattle.rules.specs.Requirements.{Room}
@@ -23,7 +23,7 @@ abbrev pub link-of : ℕ → ℕ
 link-of c = cond (ltb c 64) c (c - 64)
 
 abbrev pub step-of : ℕ → PathExpr
-step-of c = step (direction-of c) (link-of c)
+step-of c = step (direction-of c) (named (link-of c))
 
 -- the table has the bit of a step from kind a to kind b
 unfoldable pub marked? : List ℕ → ℕ → ℕ → ℕ → Bool
@@ -36,7 +36,7 @@ of-marks t K c = between K (step-of c) (marked? t c)
 -- the table is the sheet's
 pub record Tabled (t : List ℕ) (S : Sheet) : Type 0 where
   pub bits : (a l b : ℕ) → a < 64 → tabled? t a l b ≡ permits? S a l b
-  pub kinds : S .kinds ≤ 64
+  pub valid : T (sheet? S)
 
 -- v has the bits of a step from kind a to the kinds below K
 pub record StepRow (t : List ℕ) (c a K v : ℕ) : Type 0 where

@@ -5,8 +5,8 @@ use mathlib.Core.Logic.{⊎-elim}
 use mathlib.Core.List.{List}
 use Prim.Native.Nat.{ℕ, zero, suc, _+_, _-_, _<_}
 use native.Mathlib.Omega.{arith}
-use Rattle.theory.specs.PathExpr.{Direction, forward, reverse, Op, union, conjunction, branch-right, branch-left, PathExpr, step, join, op, closure, Symbol, s-step, s-join, s-op, s-closure}
-use Rattle.theory.specs.PathExpr.{step-code, op-code, code}
+use Rattle.theory.specs.PathExpr.{Direction, forward, reverse, Label, named, Op, union, conjunction, branch-right, branch-left, PathExpr, step, join, op, closure}
+use Rattle.theory.specs.PathExpr.{Symbol, s-step, s-join, s-op, s-closure, step-code, op-code, code}
 use Rattle.theory.specs.Inference.{Triple}
 use Rattle.symbols.specs.Symbols.{symbol-numbered}
 use Rattle.symbols.proofs.Numbers.{forward-number, reverse-number}
@@ -15,8 +15,8 @@ use Rattle.triples.specs.declared.Node.{Node}
 use Rattle.triples.specs.Paths.{built}
 
 -- ---- what the tests of a code say
-pub step-numbered : (c : ℕ) → c < 128 → (d : Direction) × (l : ℕ) × (symbol-numbered c 0 ≡ s-step d l)
-step-numbered c h = ⊎-elim (λ l. (reverse, c - 64, reverse-number c 0 l h)) (λ l. (forward, c, forward-number c 0 l)) (le-or-lt 64 c)
+pub step-numbered : (c : ℕ) → c < 128 → (d : Direction) × (l : Label) × (symbol-numbered c 0 ≡ s-step d l)
+step-numbered c h = ⊎-elim (λ l. (reverse, named (c - 64), reverse-number c 0 l h)) (λ l. (forward, named c, forward-number c 0 l)) (le-or-lt 64 c)
 
 pub op-numbered : (c : ℕ) → 128 < c → c < 133 → (o : Op) × (symbol-numbered c 0 ≡ s-op o)
 unfolding symbol-numbered

@@ -14,7 +14,7 @@ use lib.Seq.{getD-take, getD-drop, length-take-le}
 use borrow.Author.Tests.{eq-eqb, ne-eqb}
 use Rattle.theory.specs.Lists.{decided}
 use Rattle.theory.specs.KindSet.{singleton, has}
-use Rattle.theory.specs.PathExpr.{forward, through, Op, PathExpr, step, join, op, closure, codes, path-discrete, same?}
+use Rattle.theory.specs.PathExpr.{forward, named, through, Op, PathExpr, step, join, op, closure, codes, path-discrete, same?}
 use Rattle.theory.specs.Postfix.{path-of}
 use Rattle.theory.specs.Inference.{Triple, triple?}
 use Rattle.theory.proofs.KindSet.{has-singleton, singleton-has}
@@ -85,7 +85,7 @@ module _ {qs ws : List ℕ} {used a b : ℕ} (ha : Has qs ws used a) (hb : Has q
     pub same-kept : {r : Bool} → x .made ≡ 133 → Decides (take (x .right) (drop (x .left) qs) ≡ take (y .right) (drop (y .left) qs)) r → Same r
     unfolding original
     same-kept k d =
-        decides-as (λ e. kept-path ha x ex k ∙ ap (λ (l : List ℕ). closure (Option·getD (path-of (question-symbols l)) (step forward 0))) e ∙ sym (kept-path hb y ey (sym m ∙ k)))
+        decides-as (λ e. kept-path ha x ex k ∙ ap (λ (l : List ℕ). closure (Option·getD (path-of (question-symbols l)) (step forward (named 0)))) e ∙ sym (kept-path hb y ey (sym m ∙ k)))
         (λ e. sym (kept-copied ha x ex k .same-codes) ∙ ap codes (closure-inj (sym (kept-path ha x ex k) ∙ e ∙ kept-path hb y ey (sym m ∙ k))) ∙ kept-copied hb y ey (sym m ∙ k) .same-codes)
         d
 

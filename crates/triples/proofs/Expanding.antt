@@ -9,7 +9,7 @@ use native.Mathlib.Omega.{arith}
 use lib.Pow.{shl-exact}
 use lib.ListN.{length, take, drop, replicate, length-replicate}
 use Rattle.theory.specs.KindSet.{singleton}
-use Rattle.theory.specs.PathExpr.{through, Direction, PathExpr, step, codes, code, size, step-code, op-code}
+use Rattle.theory.specs.PathExpr.{through, Direction, Label, PathExpr, step, codes, code, size, step-code, op-code}
 use Rattle.symbols.proofs.Numbers.{code-number, length-codes}
 use Rattle.triples.specs.declared.Node.{Node}
 use Rattle.triples.specs.Table.{node-at}
@@ -35,7 +35,7 @@ written {qs} {ws} {i = i} h = length-codes (triple-of qs ws i .path) ∙ sized h
 module _ {qs ws : List ℕ} {used i at : ℕ} {xs ys : List ℕ} (h : Expandable qs ws used i at xs ys) (n : Node) (e : n ≡ node-at ws i) where
   -- ---- a step
   module _ (l : n .made < 128) where
-    leaf : (d : Direction) × (k : ℕ) × (triple-of qs ws i .path ≡ step d k) × (step-code d k ≡ n .made)
+    leaf : (d : Direction) × (k : Label) × (triple-of qs ws i .path ≡ step d k) × (step-code d k ≡ n .made)
     leaf =
         let s = step-numbered (n .made) l in
         (s .0, s .1, step-path (h .has) n e (s .0) (s .1) (s .2), ap code (sym (s .2)) ∙ code-number (n .made) (omega arith))

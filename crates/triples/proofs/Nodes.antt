@@ -5,7 +5,7 @@ use mathlib.Core.List.{List}
 use Prim.Native.Nat.{ℕ, _<_, _≤_}
 use native.Mathlib.Omega.{arith}
 use Rattle.theory.specs.KindSet.{singleton}
-use Rattle.theory.specs.PathExpr.{Direction, any, through, Op, step, join, op, closure, s-step, s-op}
+use Rattle.theory.specs.PathExpr.{Direction, Label, any, through, Op, step, join, op, closure, s-step, s-op}
 use Rattle.symbols.specs.Symbols.{symbol-numbered}
 use Rattle.symbols.proofs.Numbers.{join-number, code-number}
 use Rattle.triples.specs.declared.Node.{Node}
@@ -21,7 +21,7 @@ module _ {qs ws : List ℕ} {used i : ℕ} (h : Has qs ws used i) (n : Node) (e 
   pub known : n .made < 134
   known = rw e (good .known)
 
-  pub step-path : (d : Direction) (l : ℕ) → symbol-numbered (n .made) 0 ≡ s-step d l → triple-of qs ws i .path ≡ step d l
+  pub step-path : (d : Direction) (l : Label) → symbol-numbered (n .made) 0 ≡ s-step d l → triple-of qs ws i .path ≡ step d l
   step-path d l s = path-step qs ws i d l (rw e at s)
 
   pub kept-path : n .made ≡ 133 → triple-of qs ws i .path ≡ closure (original qs (n .left) (n .right))

@@ -9,7 +9,7 @@ use lib.Dec.{T, ltb, ltb→lt}
 use lib.ListN.{getD}
 use borrow.Author.Tests.{lt-ltb}
 use Rattle.theory.specs.KindSet.{singleton}
-use Rattle.theory.specs.PathExpr.{Direction, through, Via, Op, step, join, op, closure, Symbol, s-step, s-join, s-op, s-closure}
+use Rattle.theory.specs.PathExpr.{Direction, Label, through, Via, Op, step, join, op, closure, Symbol, s-step, s-join, s-op, s-closure}
 use Rattle.theory.specs.Inference.{Triple}
 use Rattle.symbols.specs.Symbols.{symbol-numbered}
 use Rattle.rows.specs.Kept.{Kept}
@@ -64,7 +64,7 @@ module _ (qs ws : List ℕ) (i : ℕ) where
     refl,
   )
 
-  pub path-step : (d : Direction) (l : ℕ) → symbol-numbered (node-at ws i .made) 0 ≡ s-step d l → triple-of qs ws i .path ≡ step d l
+  pub path-step : (d : Direction) (l : Label) → symbol-numbered (node-at ws i .made) 0 ≡ s-step d l → triple-of qs ws i .path ≡ step d l
   path-step d l s = let b = path-built in b .2 ∙ ap (built qs (node-at ws i) (b .0) (b .1)) s
 
   pub path-kept : symbol-numbered (node-at ws i .made) 0 ≡ s-closure → triple-of qs ws i .path ≡ closure (original qs (node-at ws i .left) (node-at ws i .right))

@@ -9,7 +9,7 @@ use Prim.Native.Nat.{ℕ, zero, suc, _+_, _<_, _≤_}
 use lib.Dec.{ltb}
 use lib.ListN.{length, take, drop, replicate}
 use Rattle.theory.specs.KindSet.{singleton}
-use Rattle.theory.specs.PathExpr.{forward, through, PathExpr, step, join, op, closure, Symbol, s-step, s-join, s-op, s-closure, codes, size}
+use Rattle.theory.specs.PathExpr.{forward, named, through, PathExpr, step, join, op, closure, Symbol, s-step, s-join, s-op, s-closure, codes, size}
 use Rattle.theory.specs.Postfix.{path-of}
 use Rattle.theory.specs.Inference.{Triple, triple}
 use Rattle.algorithms.specs.Growth.{no-triple}
@@ -22,7 +22,7 @@ use Rattle.triples.specs.Table.{node-at}
 -- ---- a node's triple
 -- the path of n symbols of the question from s on (a step where they make none)
 unfoldable pub original : List ℕ → ℕ → ℕ → PathExpr
-original qs s n = Option·getD (path-of (question-symbols (take n (drop s qs)))) (step forward 0)
+original qs s n = Option·getD (path-of (question-symbols (take n (drop s qs)))) (step forward (named 0))
 
 -- the path that node n makes of the triples of its operands, by its last symbol; a kept chain is that of an original part
 abbrev pub built : List ℕ → Node → Triple → Triple → Symbol → PathExpr

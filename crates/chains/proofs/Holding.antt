@@ -11,7 +11,7 @@ use lib.Dec.{ltb}
 use lib.ListN.{getD, set, length-set, replicate, getD-replicate}
 use lib.Seq.{getD-set-same, getD-set-other}
 use borrow.Author.Tests.{lt-ltb, le-ltb}
-use Rattle.theory.specs.PathExpr.{forward, reverse}
+use Rattle.theory.specs.PathExpr.{forward, reverse, named}
 use Rattle.theory.specs.TransitiveClosure.{look}
 use Rattle.theory.specs.Register.{Register}
 use Rattle.theory.specs.Evaluation.{step?, evaluate}
@@ -40,17 +40,17 @@ module _ {s : List ℕ} {n w : ℕ} (ground : Ground s n w) where
 
   -- ---- what is held
   -- the step of a number is loaded
-  stored-number : {xs ys : List ℕ} {b : ℕ} (c l : ℕ) (f : Bool) → Made b n w (step? (register-in s) (direction f) l) xs ys → f ≡ ltb c 64 → l ≡ c % 64 → c < 128
+  stored-number : {xs ys : List ℕ} {b : ℕ} (c l : ℕ) (f : Bool) → Made b n w (step? (register-in s) (direction f) (named l)) xs ys → f ≡ ltb c 64 → l ≡ c % 64 → c < 128
       → Stored ys b n w (look (evaluate (register-in s) (step-numbered c)))
   stored-number {xs} {ys} {b} c l f m e k h =
       ⊎-elim
       (λ (g : 64 ≤ c). let z : l ≡ c - 64 = omega arith in
-      rw (le-ltb c 64 g) (stored-step (register-in s) (limits ground .formed) n w (ground .count) (rows-hold ground) reverse (c - 64) (rw (e, le-ltb c 64 g, z) at m)))
+      rw (le-ltb c 64 g) (stored-step (register-in s) (limits ground .formed) n w (ground .count) (rows-hold ground) reverse (named (c - 64)) (rw (e, le-ltb c 64 g, z) at m)))
       (λ (g : c < 64). let z : l ≡ c = omega arith in
-      rw (lt-ltb c 64 g) (stored-step (register-in s) (limits ground .formed) n w (ground .count) (rows-hold ground) forward c (rw (e, lt-ltb c 64 g, z) at m)))
+      rw (lt-ltb c 64 g) (stored-step (register-in s) (limits ground .formed) n w (ground .count) (rows-hold ground) forward (named c) (rw (e, lt-ltb c 64 g, z) at m)))
       (le-or-lt 64 c)
 
-  pub held-more : {held xs ys : List ℕ} (k c : ℕ) {l : ℕ} {f : Bool} → Held (register-in s) n w held xs → Made ((24 + k) * (n * w)) n w (step? (register-in s) (direction f) l) xs ys
+  pub held-more : {held xs ys : List ℕ} (k c : ℕ) {l : ℕ} {f : Bool} → Held (register-in s) n w held xs → Made ((24 + k) * (n * w)) n w (step? (register-in s) (direction f) (named l)) xs ys
       → f ≡ ltb c 64 → l ≡ c % 64 → c < 128 → k < 4 → Held (register-in s) n w (set held k c) ys
   held-more {held} {xs} {ys} k c {l} {f} h m e d hc hk =
       record {

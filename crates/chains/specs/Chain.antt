@@ -7,7 +7,7 @@ use mathlib.Core.List.{List}
 use Prim.Native.Nat.{ℕ, zero, suc, _+_, _-_, _*_, _/_, _<_}
 use lib.Dec.{ltb}
 use lib.ListN.{length, getD}
-use Rattle.theory.specs.PathExpr.{forward, reverse, through, PathExpr, step, join}
+use Rattle.theory.specs.PathExpr.{forward, reverse, named, through, PathExpr, step, join}
 use Rattle.theory.specs.TransitiveClosure.{look}
 use Rattle.theory.specs.Register.{Register}
 use Rattle.theory.specs.Evaluation.{evaluate}
@@ -18,7 +18,7 @@ use Rattle.kind_rows.specs.Kinds.{in-set}
 
 -- the step of a number
 abbrev pub step-numbered : ℕ → PathExpr
-step-numbered c = cond (ltb c 64) (step forward c) (step reverse (c - 64))
+step-numbered c = cond (ltb c 64) (step forward (named c)) (step reverse (named (c - 64)))
 
 -- the 2 m + 1 symbols from the first on are a chain
 pub record Chained (numbers : List ℕ) (first m : ℕ) : Type 0 where

@@ -9,7 +9,7 @@ use native.Mathlib.Nat.{suc-mul}
 use native.Mathlib.Omega.{arith}
 use lib.ListN.{length}
 use Rattle.theory.specs.TransitiveClosure.{look, closure?}
-use Rattle.theory.specs.PathExpr.{Direction, PathExpr, step, join, op, closure, Symbol, s-step, s-join, s-op, s-closure}
+use Rattle.theory.specs.PathExpr.{Direction, Label, PathExpr, step, join, op, closure, Symbol, s-step, s-join, s-op, s-closure}
 use Rattle.theory.specs.Postfix.{Stack, push}
 use Rattle.theory.specs.Evaluation.{step?, evaluate}
 use Rattle.theory.proofs.Postfix.{none-some}
@@ -31,7 +31,7 @@ module _ {s : List ℕ} {n w : ℕ} (ground : Ground s n w) where
   fits-end : {xs : List ℕ} {b : ℕ} {x : Symbol} → Applicable (register-in s) xs n w b x → b ≤ length xs
   fits-end {xs} {b} f = omega (arith, f .room, stacked-length (register-in s) n w xs b (f .before) (f .stacked))
 
-  pub fits-step : {xs : List ℕ} {b : ℕ} {x : Symbol} (d : Direction) (l : ℕ) → x ≡ s-step d l → Applicable (register-in s) xs n w b x → b + n * w ≤ length xs
+  pub fits-step : {xs : List ℕ} {b : ℕ} {x : Symbol} (d : Direction) (l : Label) → x ≡ s-step d l → Applicable (register-in s) xs n w b x → b + n * w ≤ length xs
   fits-step {xs} {b} d l e f =
       let z : some (step d l ∷ f .before) ≡ some (f .after) = sym (ap (λ y. push y (f .before)) e) ∙ f .pushes in
       let k : step d l ∷ f .before ≡ f .after = cc in
@@ -88,7 +88,7 @@ module _ {s : List ℕ} {n w : ℕ} (ground : Ground s n w) where
     applied : (y : Symbol) (c : ℕ) → x ≡ y → Applied (register-in s) n w b y c xs ys → Applied (register-in s) n w b x c xs ys
     applied y c e a = subst (λ z. Applied (register-in s) n w b z c xs ys) (sym e) a
 
-    pub applied-step : (d : Direction) (l : ℕ) → x ≡ s-step d l → Made b n w (step? (register-in s) d l) xs ys → Applied (register-in s) n w b x (b + n * w) xs ys
+    pub applied-step : (d : Direction) (l : Label) → x ≡ s-step d l → Made b n w (step? (register-in s) d l) xs ys → Applied (register-in s) n w b x (b + n * w) xs ys
     applied-step d l e m = applied (s-step d l) (b + n * w) e (record { kept = kept-in (m .kept) (omega arith) (omega arith); next = next })
       where
         back : b + n * w - n * w ≡ b

@@ -9,10 +9,11 @@ use lib.ListN.{length}
 use lib.Dec.{T, eqb, ltb, ltb→lt}
 use borrow.Author.Tests.{eq-eqb, ne-eqb}
 use Rattle.theory.specs.Lists.{some?, every?}
-use Rattle.theory.specs.PathExpr.{Direction, forward, reverse}
+use Rattle.theory.specs.PathExpr.{Direction, forward, reverse, named}
 use Rattle.theory.specs.Register.{Edge, edge, same-edge?, Register, well-formed?}
 use Rattle.theory.specs.Evaluation.{step?}
 use Rattle.theory.proofs.Tests.{and-left, and-right}
+use Rattle.theory.proofs.Labels.{linked-same}
 use Rattle.fields.specs.declared.Link as declared·Link
 use Rattle.register.specs.declared.Links.{Links}
 use Rattle.register.specs.declared.NextLink.{NextLink}
@@ -69,9 +70,9 @@ module _ (from label to l : ℕ) where
   made-neither b n w xs d e = made-is (made-same b n w xs) (λ i j h k. sym (ap (λ (x : Bool). pair-at xs b w i j || x) (leads-no e d i j) ∙ or-false (pair-at xs b w i j)))
 
 -- ---- all links
-step-links : (r : Register) (d : Direction) (l i j : ℕ) → some? (λ e. leads? d l e i j) (r .links) ≡ step? r d l i j
-step-links r forward l i j = refl
-step-links r reverse l i j = refl
+step-links : (r : Register) (d : Direction) (l i j : ℕ) → some? (λ e. leads? d l e i j) (r .links) ≡ step? r d (named l) i j
+step-links r forward l i j = sym (linked-same r l i j)
+step-links r reverse l i j = sym (linked-same r l j i)
 
 abbrev inside? : ℕ → Edge → Bool
 inside? n e = ltb (e .from) n && ltb (e .to) n
@@ -82,7 +83,7 @@ pub record Passing (s : List ℕ) (b n w : ℕ) (d : Direction) (l : ℕ) (xs ys
   pub inside : T (every? (inside? n) (to-come s c))
   pub kept : Kept b (b + n * w) xs ys
   pub pair : (i j : ℕ) → i < n → j / 64 < w
-      → pair-at ys b w i j || some? (λ e. leads? d l e i j) (to-come s c) ≡ pair-at xs b w i j || step? (register-in s) d l i j
+      → pair-at ys b w i j || some? (λ e. leads? d l e i j) (to-come s c) ≡ pair-at xs b w i j || step? (register-in s) d (named l) i j
 
 pub passing-start : {s : List ℕ} {b n w : ℕ} {c : Links} (d : Direction) (l : ℕ) (xs : List ℕ) → Ground s n w → c ≡ cursor-at s (length (register-in s .links)) → Passing s b n w d l xs xs c
 unfolding well-formed?
@@ -96,7 +97,7 @@ passing-start {s} {b} {n} {w} {c} d l xs g a = record {
 module _
     {s : List ℕ} {b n w l : ℕ} {d : Direction} {xs ys : List ℕ} {c : Links} (p : Passing s b n w d l xs ys c)
     (r : NextLink) (e : r ≡ handed s (to-come s c)) where
-  pub passing-end : r ≡ next-link.Done → Made b n w (λ i j. pair-at xs b w i j || step? (register-in s) d l i j) xs ys
+  pub passing-end : r ≡ next-link.Done → Made b n w (λ i j. pair-at xs b w i j || step? (register-in s) d (named l) i j) xs ys
   passing-end q =
       let z = none-left s c (p .cursor) r e q in
       record {
@@ -130,5 +131,5 @@ module _
 
 -- the relation was cleared before
 pub step-made : {b n w : ℕ} {xs ys zs : List ℕ} (r : Register) (d : Direction) (l : ℕ) → Wrote b (n * w) (λ j. 0) xs ys
-    → Made b n w (λ i j. pair-at ys b w i j || step? r d l i j) ys zs → Made b n w (step? r d l) xs zs
-step-made r d l c m = let z = made-clear c in made-is (made-then z m) (λ i j h k. ap (λ (x : Bool). x || step? r d l i j) (z .pair i j h k))
+    → Made b n w (λ i j. pair-at ys b w i j || step? r d (named l) i j) ys zs → Made b n w (step? r d (named l)) xs zs
+step-made r d l c m = let z = made-clear c in made-is (made-then z m) (λ i j h k. ap (λ (x : Bool). x || step? r d (named l) i j) (z .pair i j h k))

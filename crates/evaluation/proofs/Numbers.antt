@@ -6,18 +6,18 @@ use Prim.Native.Nat.{ℕ, zero, suc, _-_, _%_, _≤_, _<_}
 use native.Mathlib.Omega.{arith}
 use lib.Dec.{ltb, eqb, leb}
 use borrow.Author.Tests.{leb-true, leb-false, eqb-true, eqb-false}
-use Rattle.theory.specs.PathExpr.{forward, reverse, through, Symbol, s-step, s-join, s-op, s-closure}
+use Rattle.theory.specs.PathExpr.{forward, reverse, named, through, Symbol, s-step, s-join, s-op, s-closure}
 use Rattle.symbols.specs.Symbols.{symbol-numbered, operator-numbered}
 use Rattle.symbols.proofs.Numbers.{forward-number, reverse-number, operator-number, through-number}
 use Rattle.evaluation.specs.Ground.{closes?}
 
 -- ---- steps, by their link
 module _ (c m : ℕ) {l : ℕ} (e : l ≡ c % 64) where
-  pub forward-link : c < 64 → symbol-numbered c m ≡ s-step forward l
-  forward-link h = let z : c ≡ l = omega arith in forward-number c m h ∙ ap (s-step forward) z
+  pub forward-link : c < 64 → symbol-numbered c m ≡ s-step forward (named l)
+  forward-link h = let z : c ≡ l = omega arith in forward-number c m h ∙ ap (λ (k : ℕ). s-step forward (named k)) z
 
-  pub reverse-link : 64 ≤ c → c < 128 → symbol-numbered c m ≡ s-step reverse l
-  reverse-link g h = let z : c - 64 ≡ l = omega arith in reverse-number c m g h ∙ ap (s-step reverse) z
+  pub reverse-link : 64 ≤ c → c < 128 → symbol-numbered c m ≡ s-step reverse (named l)
+  reverse-link g h = let z : c - 64 ≡ l = omega arith in reverse-number c m g h ∙ ap (λ (k : ℕ). s-step reverse (named k)) z
 
 -- ---- operators
 module _ (c m : ℕ) (l : 128 ≤ c) where
@@ -70,7 +70,7 @@ unfolding symbol-numbered
 set-ignored c m = by-test (eqb c 255) refl
   where
     by-test : (b : Bool) → eqb c 255 ≡ b
-        → cond (ltb c 64) (s-step forward c) (cond (ltb c 128) (s-step reverse (c - 64)) (cond (eqb c 255) (s-join (through (cond (eqb c 255) m 0))) (operator-numbered (c - 128))))
-        ≡ cond (ltb c 64) (s-step forward c) (cond (ltb c 128) (s-step reverse (c - 64)) (cond (eqb c 255) (s-join (through m)) (operator-numbered (c - 128))))
+        → cond (ltb c 64) (s-step forward (named c)) (cond (ltb c 128) (s-step reverse (named (c - 64))) (cond (eqb c 255) (s-join (through (cond (eqb c 255) m 0))) (operator-numbered (c - 128))))
+        ≡ cond (ltb c 64) (s-step forward (named c)) (cond (ltb c 128) (s-step reverse (named (c - 64))) (cond (eqb c 255) (s-join (through m)) (operator-numbered (c - 128))))
     by-test true q = rw q
     by-test false q = rw q

@@ -10,7 +10,7 @@ use native.Mathlib.Omega.{arith}
 use lib.Dec.{T}
 use lib.ListN.{length}
 use Rattle.theory.specs.TransitiveClosure.{table, look, closure?}
-use Rattle.theory.specs.PathExpr.{Direction, Via, Op, union, conjunction, branch-right, branch-left, PathExpr, step, join, op, closure}
+use Rattle.theory.specs.PathExpr.{Direction, Label, Via, Op, union, conjunction, branch-right, branch-left, PathExpr, step, join, op, closure}
 use Rattle.theory.specs.Postfix.{Stack}
 use Rattle.theory.specs.Register.{Register, records, well-formed?}
 use Rattle.theory.specs.Evaluation.{passes?, step?, join?, op?, evaluate}
@@ -41,7 +41,7 @@ module _ (r : Register) (formed : T (well-formed? r)) (n w : ℕ) (count : recor
       → Stored ys b n w (look (table (records r) f))
   tabled f e past = record { pair = λ s t hs ht. e s t hs ht ∙ sym (look-all (records r) f s t (omega arith) (λ l. past s t (omega arith))) }
 
-  pub stored-step : {xs ys : List ℕ} {b : ℕ} (d : Direction) (l : ℕ) → Made b n w (step? r d l) xs ys → Stored ys b n w (look (evaluate r (step d l)))
+  pub stored-step : {xs ys : List ℕ} {b : ℕ} (d : Direction) (l : Label) → Made b n w (step? r d l) xs ys → Stored ys b n w (look (evaluate r (step d l)))
   stored-step d l m = tabled (step? r d l) (m .pair) (λ s t h. step-past r formed d l s t (omega arith))
 
   pub stored-closure : {xs ys : List ℕ} {b : ℕ} (p : PathExpr) → Made b n w (look (closure? n (pair-at xs b w))) xs ys → Stored xs b n w (look (evaluate r p))

@@ -9,7 +9,7 @@ ghost use mathlib.Core.Option.{some};
 ghost use Prim.Native.Nat.{_+_, _*_, _<_, _≤_};
 ghost use lib.ListN.{length};
 ghost use Rattle.theory.specs.KindSet.{has};
-ghost use Rattle.theory.specs.PathExpr.{PathExpr, any, through, s-join};
+ghost use Rattle.theory.specs.PathExpr.{PathExpr, named, any, through, s-join};
 ghost use Rattle.theory.specs.Postfix.{path-of};
 ghost use Rattle.theory.specs.Register.{edge, kind, records};
 ghost use Rattle.theory.specs.Evaluation.{step?};
@@ -90,7 +90,8 @@ fn add_links(
     forward: bool,
 )
     requires { ⌜ (b + n * w ≤ length (now work)) × Ground (now register) n w ⌝ }
-    ensures { λ _. ⌜ Made b n w (λ i j. pair-at (now (work .entry)) b w i j || step? (register-in (now (register .entry))) (direction forward) (l .0) i j) (now (work .entry)) (now (work .exit)) ⌝ }
+    ensures { λ _. ⌜ Made b n w (λ i j. pair-at (now (work .entry)) b w i j || step? (register-in (now (register .entry))) (direction forward) (named (l .0)) i j)
+        (now (work .entry)) (now (work .exit)) ⌝ }
 {
     let mut c = register::links_of(register);
     loop {
@@ -109,7 +110,7 @@ fn add_links(
 // The relation at b becomes the pairs of a step.
 pub fn step(work: &mut [u64], b: usize, n: usize, w: usize, register: &[u8], l: Link, forward: bool)
     requires { ⌜ (b + n * w ≤ length (now work)) × Ground (now register) n w ⌝ }
-    ensures { λ _. ⌜ Made b n w (step? (register-in (now (register .entry))) (direction forward) (l .0)) (now (work .entry)) (now (work .exit)) ⌝ }
+    ensures { λ _. ⌜ Made b n w (step? (register-in (now (register .entry))) (direction forward) (named (l .0))) (now (work .entry)) (now (work .exit)) ⌝ }
 {
     rows::clear(work, b, n * w);
     add_links(work, b, n, w, register, l, forward);

@@ -9,7 +9,7 @@ use lib.Dec.{T, ltb→lt}
 use lib.ListN.{length, getD, set, take, length-set}
 use lib.Seq.{getD-set-same, getD-set-other}
 use borrow.Author.Tests.{lt-ltb, le-ltb, ne-eqb}
-use Rattle.theory.specs.PathExpr.{forward, reverse, Direction, any, through, Op, union, conjunction, branch-right, branch-left, PathExpr, step, join, op, closure}
+use Rattle.theory.specs.PathExpr.{forward, reverse, Direction, Label, named, below?, any, through, Op, union, conjunction, branch-right, branch-left, PathExpr, step, join, op, closure}
 use Rattle.theory.specs.PathExpr.{Symbol, s-join, s-op, s-closure, postfix, op-code, step-code, code, codes, plain?, links?}
 use Rattle.theory.specs.Simplification.{closed, tested, operated, normal-form}
 use Rattle.theory.proofs.Tests.{and-left, and-right}
@@ -38,7 +38,7 @@ closed-bare (join v p q) = refl
 closed-bare (op o p q) = refl
 closed-bare (closure p) = refl
 
-placed-step : (k : Context) (d : Direction) (l : ℕ) → placed k (step d l) ≡ step d l
+placed-step : (k : Context) (d : Direction) (l : Label) → placed k (step d l) ≡ step d l
 placed-step Elsewhere d l = refl
 placed-step Closure d l = refl
 placed-step Test d l = refl
@@ -177,7 +177,7 @@ module _ (k : Context) (whole : PathExpr) (rest : List Pend) (l c : ℕ) where
       }
 
 -- ---- by the symbol
-step-turn : (k : Context) (d : Direction) (l : ℕ) (rest : List Pend) → step-code d l < 128 → Turn k (step d l) rest (step-code d l) (step-code d l)
+step-turn : (k : Context) (d : Direction) (l : Label) (rest : List Pend) → step-code d l < 128 → Turn k (step d l) rest (step-code d l) (step-code d l)
 unfolding arity
 step-turn k d l rest h =
     let c = step-code d l in
@@ -220,9 +220,9 @@ closure-turn : (k : Context) (p : PathExpr) (rest : List Pend) → Askable p →
 unfolding arity first-context
 closure-turn k p rest g = one-operand k (closure p) rest 133 133 p g (codes-one p s-closure) (closure-becomes k (normal-form p)) refl
 
-small-code : (d : Direction) (l : ℕ) → l < 64 → step-code d l < 128
-small-code forward l h = omega arith
-small-code reverse l h = omega arith
+small-code : (d : Direction) (l : Label) → T (below? l 64) → step-code d l < 128
+small-code forward (named l) h = omega (arith, ltb→lt l 64 h)
+small-code reverse (named l) h = omega (arith, ltb→lt l 64 h)
 
 both-askable : (p q : PathExpr) → T (plain? p && plain? q) × T (links? 64 p && links? 64 q) → Askable p × Askable q
 both-askable p q (g, h) = ((and-left (plain? p) (plain? q) g, and-left (links? 64 p) (links? 64 q) h), (and-right (plain? p) (plain? q) g, and-right (links? 64 p) (links? 64 q) h))
@@ -232,7 +232,7 @@ same-code : {k : Context} {p : PathExpr} {rest : List Pend} {c : ℕ} → (c ≡
 same-code {k} {p} {rest} {c} h t = subst (λ (x : ℕ). Turn k p rest c x) (turned-other k h) t
 
 pub turn-of : (k : Context) (p : PathExpr) (rest : List Pend) → Askable p → Turn k p rest (last p) (turned k (last p))
-turn-of k (step d l) rest g = let m = small-code d l (ltb→lt l 64 (g .1)) in same-code (λ e. omega arith) (step-turn k d l rest m)
+turn-of k (step d l) rest g = let m = small-code d l (g .1) in same-code (λ e. omega arith) (step-turn k d l rest m)
 turn-of k (join any p q) rest g = let (x, y) = both-askable p q g in join-turn k p q rest x y
 turn-of k (join (through m) p q) rest g = absurd (g .0)
 turn-of k (op o p q) rest g =

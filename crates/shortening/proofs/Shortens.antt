@@ -3,13 +3,13 @@
 use mathlib.Core.Path.{_≡_, refl, sym, ap, _∙_, subst}
 use mathlib.Core.List.{List, [], _∷_, _++_, map}
 use mathlib.Core.Option.{some}
-use Prim.Native.Nat.{ℕ, _+_, _≤_, _<_}
+use Prim.Native.Nat.{ℕ, _+_, _≤_}
 use native.Mathlib.Omega.{arith}
 use lib.Dec.{T, ltb→lt}
 use lib.ListN.{length, length-append}
 use lib.Seq.{sets}
 use borrow.Author.Tests.{lt-ltb}
-use Rattle.theory.specs.PathExpr.{Direction, forward, reverse, Op, union, conjunction, branch-right, branch-left, PathExpr, step, join, op, closure}
+use Rattle.theory.specs.PathExpr.{Direction, forward, reverse, Label, named, below?, Op, union, conjunction, branch-right, branch-left, PathExpr, step, join, op, closure}
 use Rattle.theory.specs.PathExpr.{Symbol, s-join, s-op, s-closure, postfix, code, step-code, codes, size, plain?, links?}
 use Rattle.theory.specs.Postfix.{path-of}
 use Rattle.theory.specs.Simplification.{normal-form}
@@ -48,9 +48,9 @@ bytes-are : (ss : List Symbol) → length (symbols-bytes (numbered-codes (map co
 bytes-are [] = refl
 bytes-are (s ∷ ss) = omega (arith, length-append (symbol-bytes (numbered (code s) 0)) (symbols-bytes (numbered-codes (map code ss))), bytes-are ss)
 
-bytes-step : (d : Direction) (l : ℕ) → l < 64 → length (symbol-bytes (numbered (step-code d l) 0)) ≡ 5
-bytes-step forward l h = rw (lt-ltb l 128 (omega arith))
-bytes-step reverse l h = rw (lt-ltb (64 + l) 128 (omega arith))
+bytes-step : (d : Direction) (l : Label) → T (below? l 64) → length (symbol-bytes (numbered (step-code d l) 0)) ≡ 5
+bytes-step forward (named l) h = rw (lt-ltb l 128 (omega (arith, ltb→lt l 64 h)))
+bytes-step reverse (named l) h = rw (lt-ltb (64 + l) 128 (omega (arith, ltb→lt l 64 h)))
 
 bytes-op : (o : Op) → length (symbol-bytes (numbered (code (s-op o)) 0)) ≡ 4
 bytes-op union = refl
@@ -59,7 +59,7 @@ bytes-op branch-right = refl
 bytes-op branch-left = refl
 
 bytes-path : (p : PathExpr) → T (links? 64 p) → bytes (postfix p) ≡ weight 5 4 4 4 p
-bytes-path (step d l) h = omega (arith, bytes-step d l (ltb→lt l 64 h))
+bytes-path (step d l) h = omega (arith, bytes-step d l h)
 bytes-path (join v p q) h =
     omega (
       arith,

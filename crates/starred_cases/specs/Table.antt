@@ -4,7 +4,7 @@
 use mathlib.Core.List.{List, [], _∷_}
 use mathlib.Core.Option.{Option, none, some}
 use Prim.Native.Nat.{ℕ}
-use Rattle.theory.specs.PathExpr.{forward, reverse, any, through, conjunction, branch-right, PathExpr, step, join, op, closure, postfix}
+use Rattle.theory.specs.PathExpr.{forward, reverse, named, any, through, conjunction, branch-right, PathExpr, step, join, op, closure, postfix}
 use Rattle.theory.specs.Register.{edge}
 use Rattle.theory.specs.Sheet.{Sheet}
 use Rattle.theory.specs.Merging.{Member, member}
@@ -21,22 +21,22 @@ sheet = record {
 }
 
 abbrev carries : PathExpr
-carries = step forward 0
+carries = step forward (named 0)
 
 abbrev loads : PathExpr
-loads = step forward 1
+loads = step forward (named 1)
 
 abbrev replaces : PathExpr
-replaces = step forward 2
+replaces = step forward (named 2)
 
 abbrev sealed : PathExpr
-sealed = step forward 3
+sealed = step forward (named 3)
 
 abbrev sealed⁻ : PathExpr
-sealed⁻ = step reverse 3
+sealed⁻ = step reverse (named 3)
 
 abbrev under : PathExpr
-under = step forward 4
+under = step forward (named 4)
 
 -- ---- the cases
 pub record Case : Type 0 where

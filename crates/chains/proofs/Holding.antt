@@ -1,31 +1,27 @@
 -- Steps that are held, past the relations of a stack.
 -- Assumes nothing.
-use mathlib.Core.Path.{_≡_, refl, sym, ap, _∙_}
-use mathlib.Core.Bool.{Bool}
+use mathlib.Core.Path.{_≡_, refl, sym, ap, subst, _∙_}
 use mathlib.Core.List.{List}
 use mathlib.Core.Logic.{inl, inr, ⊎-elim}
-use Prim.Native.Nat.{ℕ, _+_, _-_, _*_, _%_, _≤_, _<_}
+use Prim.Native.Nat.{ℕ, _+_, _*_, _≤_, _<_}
 use native.Mathlib.Nat.{mul-le-mul-right}
 use native.Mathlib.Omega.{arith}
-use lib.Dec.{ltb}
 use lib.ListN.{getD, set, length-set, replicate, getD-replicate}
 use lib.Seq.{getD-set-same, getD-set-other}
-use borrow.Author.Tests.{lt-ltb, le-ltb}
-use Rattle.theory.specs.PathExpr.{forward, reverse, named}
-use Rattle.theory.specs.TransitiveClosure.{look}
+use Rattle.theory.specs.PathExpr.{Direction, Label, through, step, s-step, s-join}
+use Rattle.symbols.specs.Symbols.{symbol-numbered}
 use Rattle.theory.specs.Register.{Register}
-use Rattle.theory.specs.Evaluation.{step?, evaluate}
+use Rattle.theory.specs.Evaluation.{step?}
 use Rattle.register.specs.Form.{register-in}
 use Rattle.rows.specs.Kept.{Kept}
 use Rattle.rows.proofs.Words.{le-or-lt}
 use Rattle.rows.proofs.Rows.{eq-or-ne}
 use Rattle.relation.specs.Pairs.{Made}
 use Rattle.relation.proofs.Making.{row-le}
-use Rattle.evaluation.specs.Ground.{Ground, direction}
-use Rattle.evaluation.specs.Stack.{Stored}
+use Rattle.evaluation.specs.Ground.{Ground}
 use Rattle.evaluation.proofs.Grounds.{limits, rows-hold}
 use Rattle.evaluation.proofs.Relations.{stored-kept, stored-step}
-use Rattle.chains.specs.Chain.{step-numbered, Held, StillHeld}
+use Rattle.chains.specs.Chain.{IsStep, step-path, step-numbered, Held, StillHeld}
 
 -- the place of what is held lies past a stack, and before the end
 pub past : (k z : ℕ) → 24 * z ≤ (24 + k) * z
@@ -34,30 +30,29 @@ past k z = mul-le-mul-right z (let h : 24 ≤ 24 + k = omega arith in h)
 pub before-end : (k z : ℕ) → k < 4 → (24 + k) * z + z ≤ 28 * z
 before-end k z h = row-le z (let l : 24 + k < 28 = omega arith in l)
 
+-- a step's path, by its number
+pub step-is : (c : ℕ) (x : IsStep c) → step-numbered c ≡ step (x .0) (x .1)
+unfolding step-numbered
+step-is c x = ap step-path (x .2)
+
+-- 255, which stands where none is held, is no step's number
+pub no-step : (c : ℕ) → c ≡ 255 → ¬ IsStep c
+unfolding symbol-numbered
+no-step c e x = let y : s-join (through 0) ≡ s-step (x .0) (x .1) = subst (λ (k : ℕ). symbol-numbered k 0 ≡ s-step (x .0) (x .1)) e (x .2) in let z : _≡_ {A = ℕ} 0 1 = cc in omega arith
+
 module _ {s : List ℕ} {n w : ℕ} (ground : Ground s n w) where
   abbrev r : Register
   r = register-in s
 
   -- ---- what is held
-  -- the step of a number is loaded
-  stored-number : {xs ys : List ℕ} {b : ℕ} (c l : ℕ) (f : Bool) → Made b n w (step? (register-in s) (direction f) (named l)) xs ys → f ≡ ltb c 64 → l ≡ c % 64 → c < 128
-      → Stored ys b n w (look (evaluate (register-in s) (step-numbered c)))
-  stored-number {xs} {ys} {b} c l f m e k h =
-      ⊎-elim
-      (λ (g : 64 ≤ c). let z : l ≡ c - 64 = omega arith in
-      rw (le-ltb c 64 g) (stored-step (register-in s) (limits ground .formed) n w (ground .count) (rows-hold ground) reverse (named (c - 64)) (rw (e, le-ltb c 64 g, z) at m)))
-      (λ (g : c < 64). let z : l ≡ c = omega arith in
-      rw (lt-ltb c 64 g) (stored-step (register-in s) (limits ground .formed) n w (ground .count) (rows-hold ground) forward (named c) (rw (e, lt-ltb c 64 g, z) at m)))
-      (le-or-lt 64 c)
-
-  pub held-more : {held xs ys : List ℕ} (k c : ℕ) {l : ℕ} {f : Bool} → Held (register-in s) n w held xs → Made ((24 + k) * (n * w)) n w (step? (register-in s) (direction f) (named l)) xs ys
-      → f ≡ ltb c 64 → l ≡ c % 64 → c < 128 → k < 4 → Held (register-in s) n w (set held k c) ys
-  held-more {held} {xs} {ys} k c {l} {f} h m e d hc hk =
+  pub held-more : {held xs ys : List ℕ} (k c : ℕ) {d : Direction} {l : Label} → Held (register-in s) n w held xs → Made ((24 + k) * (n * w)) n w (step? (register-in s) d l) xs ys
+      → symbol-numbered c 0 ≡ s-step d l → k < 4 → Held (register-in s) n w (set held k c) ys
+  held-more {held} {xs} {ys} k c {d} {l} h m e hk =
       record {
         few = length-set held k c ∙ h .few;
         stored = λ i x hi q hx. ⊎-elim
             (λ (o : i ≡ k). let z : c ≡ x = sym (getD-set-same held k c 0 (omega (arith, h .few))) ∙ ap (λ (j : ℕ). getD (set held k c) j 0) (sym o) ∙ q in
-            rw (o, ← z) (stored-number c l f m e d hc))
+            rw (o, ← z, step-is c (d, l, e)) (stored-step (register-in s) (limits ground .formed) n w (ground .count) (rows-hold ground) d l m))
             (λ (o : i ≡ k → ⊥). stored-kept (h .stored i x hi (sym (getD-set-other held k i c 0 o) ∙ q) hx) (m .kept)
             (⊎-elim (λ (a : i ≤ k). inl (row-le (n * w) (let y : 24 + i < 24 + k = omega arith in y)))
             (λ (a : k < i). inr (row-le (n * w) (let y : 24 + k < 24 + i = omega arith in y))) (le-or-lt i k)))
@@ -70,11 +65,11 @@ module _ {s : List ℕ} {n w : ℕ} (ground : Ground s n w) where
 
   -- none is held
   pub held-none : (xs : List ℕ) → Held (register-in s) n w (replicate 4 255) xs
-  held-none xs = record { few = refl; stored = λ k c hk e hc. absurd (omega (arith, sym (getD-replicate 4 k 255 0 hk) ∙ e)) }
+  held-none xs = record { few = refl; stored = λ k c hk e hc. absurd (no-step c (sym (sym (getD-replicate 4 k 255 0 hk) ∙ e)) hc) }
 
 -- what is held stays so
 pub holds-same : (held : List ℕ) → StillHeld held held
 holds-same held = record { more = λ k h l. refl }
 
 pub holds-more : (held : List ℕ) (f c : ℕ) → getD held f 0 ≡ 255 → StillHeld held (set held f c)
-holds-more held f c e = record { more = λ k h l. getD-set-other held f k c 0 (λ q. absurd (omega (arith, ap (λ (j : ℕ). getD held j 0) q ∙ e))) }
+holds-more held f c e = record { more = λ k h l. getD-set-other held f k c 0 (λ q. absurd (no-step (getD held k 0) (ap (λ (j : ℕ). getD held j 0) q ∙ e) l)) }

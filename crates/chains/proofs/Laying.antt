@@ -31,15 +31,15 @@ use Rattle.evaluation.proofs.Grounds.{limits, rows-hold, narrow}
 use Rattle.evaluation.proofs.Tables.{evaluate-past}
 use Rattle.kind_rows.specs.Kinds.{KindRows}
 use Rattle.kind_rows.proofs.Tables.{set-has}
-use Rattle.chains.specs.Chain.{step-numbered, Chained, chain-path, Held, StillHeld, Leg, Joint, LinkLaid, Laid}
+use Rattle.chains.specs.Chain.{IsStep, step-numbered, Chained, chain-path, Held, StillHeld, Leg, Joint, LinkLaid, Laid}
 use Rattle.chains.specs.Route.{routed, Routed, Leads}
 use Rattle.chains.proofs.Holding.{before-end}
 use Rattle.chains.proofs.Symbols.{chain-reads}
 
 -- ---- link by link
 -- a step that is held stays so, and so does where it lies
-leg-kept : {lo hi : ℕ} {held held′ bases bases′ : List ℕ} (n w j c : ℕ) → Leg n w held bases j c → StillHeld held held′ → Kept lo hi bases bases′ → j < lo → c < 128 → Leg n w held′ bases′ j c
-leg-kept n w j c l h k o hc = (l .0, l .1, h .more (l .0) (l .1) (omega (arith, l .2)) ∙ l .2, k .below j o ∙ l .3)
+leg-kept : {lo hi : ℕ} {held held′ bases bases′ : List ℕ} (n w j c : ℕ) → Leg n w held bases j c → StillHeld held held′ → Kept lo hi bases bases′ → j < lo → IsStep c → Leg n w held′ bases′ j c
+leg-kept n w j c l h k o hc = (l .0, l .1, h .more (l .0) (l .1) (subst IsStep (sym (l .2)) hc) ∙ l .2, k .below j o ∙ l .3)
 
 -- the first step
 pub laid-none : (n w : ℕ) (kinds numbers sets : List ℕ) (first : ℕ) (held bases masks : List ℕ) → Leg n w held bases 0 (getD numbers first 0) → Laid n w kinds numbers sets first 0 held bases masks
@@ -76,7 +76,7 @@ module _ {s : List ℕ} {n w : ℕ} (ground : Ground s n w) {kinds numbers sets 
   abbrev r : Register
   r = register-in s
 
-  stored : (j k : ℕ) → k < 128 → Leg n w held bases j k → Stored xs (getD bases j 0) n w (look (evaluate r (step-numbered k)))
+  stored : (j k : ℕ) → IsStep k → Leg n w held bases j k → Stored xs (getD bases j 0) n w (look (evaluate r (step-numbered k)))
   stored j k h g = subst (λ (b : ℕ). Stored xs b n w (look (evaluate (register-in s) (step-numbered k)))) (sym (g .3)) (steps .stored (g .0) k (g .1) (g .2) h)
 
   -- what a join through a set brings is no pair past the records
@@ -116,7 +116,7 @@ module _ {s : List ℕ} {n w : ℕ} (ground : Ground s n w) {kinds numbers sets 
   }
     where
       Lies : ℕ → Type 0
-      Lies j = (k : ℕ) × (k < 128) × Leg n w held bases j k
+      Lies j = (k : ℕ) × IsStep k × Leg n w held bases j k
 
       at : (j : ℕ) → j ≤ m → Lies j
       at zero h = (getD numbers first 0, c .start, l .start)

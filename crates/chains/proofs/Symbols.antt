@@ -1,32 +1,35 @@
 -- A chain's symbols make its path.
 -- Assumes nothing.
-use mathlib.Core.Path.{_≡_, refl, ap, subst, _∙_}
+use mathlib.Core.Path.{_≡_, refl, sym, ap, subst, _∙_}
 use mathlib.Core.Bool.{cond}
 use mathlib.Core.List.{List, [], _∷_}
-use mathlib.Core.Logic.{⊎-elim}
 use mathlib.Core.Option.{some}
-use Prim.Native.Nat.{ℕ, zero, suc, _+_, _*_, _≤_, _<_}
+use Prim.Native.Nat.{ℕ, zero, suc, _+_, _*_}
 use native.Mathlib.Omega.{arith}
 use lib.Dec.{eqb}
 use lib.ListN.{getD}
 use borrow.Author.Count.{below-more}
-use borrow.Author.Tests.{lt-ltb, le-ltb}
-use Rattle.theory.specs.PathExpr.{through, PathExpr, join, Symbol}
+use borrow.Author.Tests.{ne-eqb}
+use native.Mathlib.Decide.{ℕ-discrete}
+use Rattle.theory.specs.PathExpr.{through, PathExpr, join, Symbol, s-step}
 use Rattle.theory.specs.Postfix.{Stack, push, go-on, read, single-path, path-of}
 use Rattle.symbols.specs.Symbols.{symbol-numbered}
-use Rattle.symbols.proofs.Numbers.{forward-number, reverse-number, through-number}
-use Rattle.rows.proofs.Words.{le-or-lt}
+use Rattle.symbols.proofs.Numbers.{through-number, given-symbol}
 use Rattle.evaluation.specs.Ground.{symbols-in}
-use Rattle.evaluation.proofs.Numbers.{set-ignored}
-use Rattle.chains.specs.Chain.{step-numbered, Chained, chain-path}
+use Rattle.chains.specs.Chain.{IsStep, step-numbered, Chained, chain-path}
+use Rattle.chains.proofs.Holding.{no-step, step-is}
+
+-- a step has no set
+step-symbol : (c m : ℕ) (x : IsStep c) → symbol-numbered c m ≡ s-step (x .0) (x .1)
+step-symbol c m x = go (ℕ-discrete c 255)
+  where
+    go : Dec (c ≡ 255) → symbol-numbered c m ≡ s-step (x .0) (x .1)
+    go (yes e) = absurd (no-step c e x)
+    go (no n) = sym (given-symbol c m) ∙ rw (ne-eqb c 255 n) (x .2)
 
 -- a step's number pushes its step
-push-step : (c m : ℕ) (st : Stack) → c < 128 → push (symbol-numbered c m) st ≡ some (step-numbered c ∷ st)
-push-step c m st h =
-    ⊎-elim
-    (λ (l : 64 ≤ c). ap (λ (x : Symbol). push x st) (reverse-number c m l h) ∙ rw (le-ltb c 64 l))
-    (λ (l : c < 64). ap (λ (x : Symbol). push x st) (forward-number c m l) ∙ rw (lt-ltb c 64 l))
-    (le-or-lt 64 c)
+push-step : (c m : ℕ) (st : Stack) → IsStep c → push (symbol-numbered c m) st ≡ some (step-numbered c ∷ st)
+push-step c m st x = ap (λ (y : Symbol). push y st) (step-symbol c m x) ∙ ap (λ (p : PathExpr). some (p ∷ st)) (sym (step-is c x))
 
 -- a join through a set takes two paths
 push-joint : (c m : ℕ) (p q : PathExpr) (st : Stack) → c ≡ 255 → push (symbol-numbered c m) (q ∷ p ∷ st) ≡ some (join (through m) p q ∷ st)
@@ -37,7 +40,7 @@ module _ (ns ms : List ℕ) where
   symbol-at i = symbol-numbered (getD ns i 0) (cond (eqb (getD ns i 0) 255) (getD ms i 0) 0)
 
   same-symbol : (i : ℕ) → symbol-at i ≡ symbol-numbered (getD ns i 0) (getD ms i 0)
-  same-symbol i = set-ignored (getD ns i 0) (getD ms i 0)
+  same-symbol i = given-symbol (getD ns i 0) (getD ms i 0)
 
   twice : ℕ → ℕ
   twice zero = zero
@@ -78,14 +81,14 @@ module _ (ns ms : List ℕ) where
       ∙ along first m 0 m (omega arith) c)
 
 -- ---- the loop that tells a chain
-pub chained-none : (ns : List ℕ) (first : ℕ) → getD ns first 0 < 128 → Chained ns first 0
+pub chained-none : (ns : List ℕ) (first : ℕ) → IsStep (getD ns first 0) → Chained ns first 0
 chained-none ns first h = record { start = h; link = λ j l. absurd (omega arith); joint = λ j l. absurd (omega arith) }
 
-pub chained-more : {ns : List ℕ} {first : ℕ} (j : ℕ) → Chained ns first j → getD ns (first + 2 * j + 1) 0 < 128 → getD ns (first + 2 * j + 2) 0 ≡ 255 → Chained ns first (j + 1)
+pub chained-more : {ns : List ℕ} {first : ℕ} (j : ℕ) → Chained ns first j → IsStep (getD ns (first + 2 * j + 1) 0) → getD ns (first + 2 * j + 2) 0 ≡ 255 → Chained ns first (j + 1)
 chained-more {ns} {first} j c a b =
     record {
       start = c .start;
-      link = below-more (λ i. getD ns (first + 2 * i + 1) 0 < 128) j (c .link) a;
+      link = below-more (λ i. IsStep (getD ns (first + 2 * i + 1) 0)) j (c .link) a;
       joint = below-more (λ i. getD ns (first + 2 * i + 2) 0 ≡ 255) j (c .joint) b;
     }
 

@@ -2,12 +2,11 @@
 -- no caller needs to read this.
 -- Assumes nothing.
 use mathlib.Core.Path.{_≡_}
-use mathlib.Core.Bool.{cond}
 use mathlib.Core.List.{List}
-use Prim.Native.Nat.{ℕ, zero, suc, _+_, _-_, _*_, _/_, _<_}
-use lib.Dec.{ltb}
+use Prim.Native.Nat.{ℕ, zero, suc, _+_, _*_, _/_, _<_}
 use lib.ListN.{length, getD}
-use Rattle.theory.specs.PathExpr.{forward, reverse, named, through, PathExpr, step, join}
+use Rattle.theory.specs.PathExpr.{Direction, forward, Label, named, through, PathExpr, step, join, Symbol, s-step, s-join, s-op, s-closure}
+use Rattle.symbols.specs.Symbols.{symbol-numbered}
 use Rattle.theory.specs.TransitiveClosure.{look}
 use Rattle.theory.specs.Register.{Register}
 use Rattle.theory.specs.Evaluation.{evaluate}
@@ -16,14 +15,24 @@ use Rattle.rows.specs.Row.{row-bit}
 use Rattle.evaluation.specs.Stack.{Stored}
 use Rattle.kind_rows.specs.Kinds.{in-set}
 
--- the step of a number
-abbrev pub step-numbered : ℕ → PathExpr
-step-numbered c = cond (ltb c 64) (step forward (named c)) (step reverse (named (c - 64)))
+-- the number is that of a step
+abbrev pub IsStep : ℕ → Type 0
+IsStep c = (d : Direction) × (l : Label) × (symbol-numbered c 0 ≡ s-step d l)
+
+-- the step of a symbol (any, where it is none), and of a number
+abbrev pub step-path : Symbol → PathExpr
+step-path (s-step d l) = step d l
+step-path (s-join v) = step forward (named 0)
+step-path (s-op o) = step forward (named 0)
+step-path s-closure = step forward (named 0)
+
+unfoldable pub step-numbered : ℕ → PathExpr
+step-numbered c = step-path (symbol-numbered c 0)
 
 -- the 2 m + 1 symbols from the first on are a chain
 pub record Chained (numbers : List ℕ) (first m : ℕ) : Type 0 where
-  pub start : getD numbers first 0 < 128
-  pub link : (j : ℕ) → j < m → getD numbers (first + 2 * j + 1) 0 < 128
+  pub start : IsStep (getD numbers first 0)
+  pub link : (j : ℕ) → j < m → IsStep (getD numbers (first + 2 * j + 1) 0)
   pub joint : (j : ℕ) → j < m → getD numbers (first + 2 * j + 2) 0 ≡ 255
 
 -- the path of a chain of m links
@@ -34,11 +43,11 @@ chain-path numbers sets first (suc m) = join (through (getD sets (first + 2 * m 
 -- the relations past those of a stack are the steps whose numbers are held beside them; 255 is none
 pub record Held (r : Register) (n w : ℕ) (held xs : List ℕ) : Type 0 where
   pub few : length held ≡ 4
-  pub stored : (k c : ℕ) → k < 4 → getD held k 0 ≡ c → c < 128 → Stored xs ((24 + k) * (n * w)) n w (look (evaluate r (step-numbered c)))
+  pub stored : (k c : ℕ) → k < 4 → getD held k 0 ≡ c → IsStep c → Stored xs ((24 + k) * (n * w)) n w (look (evaluate r (step-numbered c)))
 
 -- what is held stays so
 pub record StillHeld (held held′ : List ℕ) : Type 0 where
-  pub more : (k : ℕ) → k < 4 → getD held k 0 < 128 → getD held′ k 0 ≡ getD held k 0
+  pub more : (k : ℕ) → k < 4 → IsStep (getD held k 0) → getD held′ k 0 ≡ getD held k 0
 
 -- the j-th relation of a route is the step of number c, which is held
 abbrev pub Leg : ℕ → ℕ → List ℕ → List ℕ → ℕ → ℕ → Type 0

@@ -3,6 +3,7 @@
 // from set: a row goes through all links in a few words, and no relation is made on the way.
 use rows::BITS;
 use rows::WIDEST;
+use symbols::Symbol;
 ghost use mathlib.Core.Path.{_≡_};
 ghost use mathlib.Core.Bool.{true, false, _&&_, _||_};
 ghost use mathlib.Core.Option.{some};
@@ -16,7 +17,7 @@ ghost use Rattle.rows.specs.Row.{row-bit, Row};
 ghost use Rattle.relation.specs.Pairs.{pair-at, Made, CleanRow};
 ghost use Rattle.evaluation.specs.Ground.{Ground, symbols-in};
 ghost use Rattle.kind_rows.specs.Kinds.{KindRows, in-set, OfRecords};
-ghost use Rattle.chains.specs.Chain.{Chained, Held, StillHeld, LinkLaid, Laid};
+ghost use Rattle.chains.specs.Chain.{IsStep, Chained, Held, StillHeld, LinkLaid, Laid};
 ghost use Rattle.chains.specs.Route.{routed, Routed, Leads, between, Gained};
 
 // How many steps are held: as many relations as the work words have past those of a stack.
@@ -33,6 +34,18 @@ pub const STEPS: usize = fields::MEMBER_SYMBOLS / 2;
 
 pub const MASKS: usize = STEPS * WIDEST;
 
+// Whether the number is that of a step.
+fn is_step(number: u8) -> bool
+    ensures { λ r. ⌜ (r ≡ true → IsStep number) ⌝ }
+{
+    match symbols::decode(number, 0) {
+        Symbol::Step(_, _) => true,
+        Symbol::Join(_) => false,
+        Symbol::Op(_) => false,
+        Symbol::Closure => false,
+    }
+}
+
 // Whether the symbols of a member are a chain.
 fn chained(numbers: &[u8], first: usize, size: usize) -> bool
     requires { ⌜ (first + size ≤ length (now numbers)) × (size ≤ 48) ⌝ }
@@ -41,11 +54,11 @@ fn chained(numbers: &[u8], first: usize, size: usize) -> bool
     if size % 2 == 0 {
         return false;
     }
-    if symbols::STEPS <= numbers[first] {
+    if !is_step(numbers[first]) {
         return false;
     }
     for j in 0..size / 2 {
-        if symbols::STEPS <= numbers[first + 2 * j + 1] {
+        if !is_step(numbers[first + 2 * j + 1]) {
             return false;
         }
         if numbers[first + 2 * j + 2] != symbols::THROUGH {
@@ -70,7 +83,7 @@ fn place(held: &[u8], number: u8) -> usize
 
 // The place of a step among those held, loaded if it is not there yet; HELD where there is no room for it.
 fn hold(work: &mut [u64], register: &[u8], n: usize, w: usize, held: &mut [u8], number: u8) -> usize
-    requires { ⌜ Ground (now register) n w × (28 * (n * w) ≤ length (now work)) × Held (register-in (now register)) n w (now held) (now work) × (number < 128) ⌝ }
+    requires { ⌜ Ground (now register) n w × (28 * (n * w) ≤ length (now work)) × Held (register-in (now register)) n w (now held) (now work) × IsStep number ⌝ }
     ensures { λ k. ⌜ (k ≤ 4) × (k < 4 → getD (now (held .exit)) k 0 ≡ number) × Held (register-in (now (register .entry))) n w (now (held .exit)) (now (work .exit))
         × StillHeld (now (held .entry)) (now (held .exit)) × Kept (24 * (n * w)) (28 * (n * w)) (now (work .entry)) (now (work .exit)) ⌝ }
 {
@@ -82,18 +95,17 @@ fn hold(work: &mut [u64], register: &[u8], n: usize, w: usize, held: &mut [u8], 
     if free == HELD {
         return HELD;
     }
-    let b = (STACKED + free) * (n * w);
-    evaluation::step(
-        work,
-        b,
-        n,
-        w,
-        register,
-        symbols::step_link(number),
-        number < fields::LINKS,
-    );
-    held[free] = number;
-    free
+    match symbols::decode(number, 0) {
+        Symbol::Step(direction, link) => {
+            let b = (STACKED + free) * (n * w);
+            evaluation::step(work, b, n, w, register, direction, link);
+            held[free] = number;
+            free
+        }
+        Symbol::Join(_) => HELD,
+        Symbol::Op(_) => HELD,
+        Symbol::Closure => HELD,
+    }
 }
 
 // One link more: where its step lies, and the records of the set through which it is joined. False where there is no room to hold the step.
@@ -110,7 +122,7 @@ fn link(
     masks: &mut [u64],
     j: usize,
 ) -> bool
-    requires { ⌜ Ground (now register) n w × (28 * (n * w) ≤ length (now work)) × Held (register-in (now register)) n w (now held) (now work) × (number < 128)
+    requires { ⌜ Ground (now register) n w × (28 * (n * w) ≤ length (now work)) × Held (register-in (now register)) n w (now held) (now work) × IsStep number
         × KindRows (register-in (now register)) n w (now kinds) ⌝ }
     requires { ⌜ (j < 23) × (length (now bases) ≡ 24) × (length (now masks) ≡ 384) ⌝ }
     ensures { λ r. ⌜ Held (register-in (now (register .entry))) n w (now (held .exit)) (now (work .exit)) × StillHeld (now (held .entry)) (now (held .exit))

@@ -1,7 +1,6 @@
 -- One symbol: it finds its operands on the stack, and leaves the relation of its path.
 -- Assumes nothing.
-use mathlib.Core.Path.{_≡_, refl, sym, ap, subst, _∙_}
-use mathlib.Core.Bool.{Bool, true, false}
+use mathlib.Core.Path.{_≡_, sym, ap, subst, _∙_}
 use mathlib.Core.List.{List, [], _∷_}
 use mathlib.Core.Option.{some}
 use Prim.Native.Nat.{ℕ, _+_, _-_, _*_, _≤_}
@@ -13,15 +12,20 @@ use Rattle.theory.specs.PathExpr.{Direction, Label, PathExpr, step, join, op, c
 use Rattle.theory.specs.Postfix.{Stack, push}
 use Rattle.theory.specs.Evaluation.{step?, evaluate}
 use Rattle.theory.proofs.Postfix.{none-some}
-use Rattle.symbols.specs.Symbols.{symbol-numbered}
 use Rattle.register.specs.Form.{register-in}
 use Rattle.rows.proofs.Words.{kept-in}
 use Rattle.relation.specs.Pairs.{pair-at, Made, Clean}
-use Rattle.evaluation.specs.Ground.{Ground, closes?}
+use Rattle.evaluation.specs.Ground.{Ground}
 use Rattle.evaluation.specs.Stack.{Stored, Stacked, binary?, Applicable, Applied}
 use Rattle.evaluation.proofs.Grounds.{limits, rows-hold}
-use Rattle.evaluation.proofs.Numbers.{Binary, closure-number, binary-number}
 use Rattle.evaluation.proofs.Relations.{stored-clean, stored-step, stored-closure, stored-join, stored-op, stacked-length, stacked-kept}
+
+-- an operator of two operands
+abbrev pub Binary : Symbol → Type 0
+Binary (s-step d l) = ⊥
+Binary (s-join v) = Unit {0}
+Binary (s-op o) = Unit {0}
+Binary s-closure = ⊥
 
 module _ {s : List ℕ} {n w : ℕ} (ground : Ground s n w) where
   -- ---- its operands
@@ -60,8 +64,8 @@ module _ {s : List ℕ} {n w : ℕ} (ground : Ground s n w) where
     pub top : Clean xs (b - n * w) n w
     pub next : Clean xs (b - n * w - n * w) n w
 
-  pub fits-two : {xs : List ℕ} {b : ℕ} (x : Symbol) → Binary x → Applicable (register-in s) xs n w b x → Two xs b
-  fits-two {xs} {b} x k f = go x k (f .before) (f .stacked) (f .pushes)
+  pub fits-two : {xs : List ℕ} {b : ℕ} {x : Symbol} (y : Symbol) → Binary y → x ≡ y → Applicable (register-in s) xs n w b x → Two xs b
+  fits-two {xs} {b} {x} y k i f = go y k (f .before) (f .stacked) (sym (ap (λ z. push z (f .before)) i) ∙ f .pushes)
     where
       two : (p q : PathExpr) (st : Stack) → Stacked (register-in s) xs n w b (q ∷ p ∷ st) → Two xs b
       two p q st h = record { ends = fits-end f; below = h .0; under = h .2 .0; top = clean q (h .1); next = clean p (h .2 .1) }
@@ -75,13 +79,6 @@ module _ {s : List ℕ} {n w : ℕ} (ground : Ground s n w) where
       go (s-op o) k (q ∷ []) h e = none-some e
       go (s-op o) k (q ∷ p ∷ st) h e = two p q st h
       go s-closure k st h e = absurd k
-
-  pub fits-operator : {xs : List ℕ} {b : ℕ} (c m : ℕ) → 128 ≤ c → Applicable (register-in s) xs n w b (symbol-numbered c m) → n * w ≤ b
-  fits-operator {b = b} c m l f = go (closes? c) refl
-    where
-      go : (k : Bool) → closes? c ≡ k → n * w ≤ b
-      go true e = fits-one (closure-number c m l e) f .below
-      go false e = fits-two (symbol-numbered c m) (binary-number c m l e) f .below
 
   -- ---- what it leaves
   module _ {xs ys : List ℕ} (b : ℕ) (x : Symbol) where
@@ -117,7 +114,7 @@ module _ {s : List ℕ} {n w : ℕ} (ground : Ground s n w) where
               stacked-kept (register-in s) n w (b - n * w) st (m .kept) (omega arith) (h .2),
             )
 
-  pub applied-binary : {xs ys : List ℕ} (b : ℕ) (x : Symbol) → Binary x → n * w ≤ b → n * w ≤ b - n * w
+  applied-binary : {xs ys : List ℕ} (b : ℕ) (x : Symbol) → Binary x → n * w ≤ b → n * w ≤ b - n * w
       → Made (b - n * w - n * w) n w (binary? (register-in s) x (pair-at xs (b - n * w - n * w) w) (pair-at xs (b - n * w) w)) xs ys
       → Applied (register-in s) n w b x (b - n * w) xs ys
   applied-binary b (s-step d l) k l₁ l₂ m = absurd k
@@ -146,3 +143,8 @@ module _ {s : List ℕ} {n w : ℕ} (ground : Ground s n w) where
             stored-op (register-in s) (limits ground .formed) n w (ground .count) (rows-hold ground) p q (h .2 .1) (h .1) o m,
             stacked-kept (register-in s) n w (b - n * w - n * w) st (m .kept) (omega arith) (h .2 .2),
           )
+
+  pub applied-two : {xs ys : List ℕ} (b : ℕ) {x : Symbol} (y : Symbol) → Binary y → x ≡ y → n * w ≤ b → n * w ≤ b - n * w
+      → Made (b - n * w - n * w) n w (binary? (register-in s) y (pair-at xs (b - n * w - n * w) w) (pair-at xs (b - n * w) w)) xs ys
+      → Applied (register-in s) n w b x (b - n * w) xs ys
+  applied-two {xs} {ys} b y k e l₁ l₂ m = subst (λ (z : Symbol). Applied (register-in s) n w b z (b - n * w) xs ys) (sym e) (applied-binary b y k l₁ l₂ m)

@@ -9,13 +9,12 @@ use lib.ListN.{replicate, getD-replicate}
 use Rattle.bits.specs.Bit.{bitOf}
 use Rattle.bits.proofs.Bits.{bit-full}
 use Rattle.theory.specs.KindSet.{has}
-use Rattle.theory.specs.PathExpr.{Via, any, through, Op, Symbol, s-join, s-op}
+use Rattle.theory.specs.PathExpr.{Via, any, through, Op, s-join, s-op}
 use Rattle.theory.specs.Register.{kind}
 use Rattle.theory.specs.Evaluation.{passes?, join?, op?}
 use Rattle.rows.specs.Row.{row-bit, Row, mask-of}
 use Rattle.rows.proofs.Ranges.{some-same}
 use Rattle.rows.proofs.Masks.{mask-at}
-use Rattle.symbols.specs.Symbols.{symbol-numbered}
 use Rattle.register.specs.Form.{register-in}
 use Rattle.relation.specs.Pairs.{pair-at, Combined}
 use Rattle.relation.proofs.Making.{made-is}
@@ -50,12 +49,6 @@ module _ {s : List ℕ} {n w : ℕ} (ground : Ground s n w) {xs ys : List ℕ} (
       let wide = rows-hold ground in
       by-mask (through set) (row-bit ms 0) (λ z hz. k .bit z (omega arith) ∙ mask-at (λ t. has set (kind (register-in s) t)) n z hz) m
 
-  -- ---- by the operator's number
-  module _ (c m : ℕ) where
-    pub by-join : (v : Via) → symbol-numbered c m ≡ s-join v → Combined (binary? (register-in s) (s-join v)) p q n w xs ys → Combined (binary? (register-in s) (symbol-numbered c m)) p q n w xs ys
-    by-join v e k = subst (λ (x : Symbol). Combined (binary? (register-in s) x) p q n w xs ys) (sym e) k
-
-    pub by-op : (o : Op) → symbol-numbered c m ≡ s-op o → Combined (op? n o) p q n w xs ys → Combined (binary? (register-in s) (symbol-numbered c m)) p q n w xs ys
-    by-op o e k =
-        subst (λ (x : Symbol). Combined (binary? (register-in s) x) p q n w xs ys) (sym e)
-        (subst (λ (i : ℕ). Combined (op? i o) p q n w xs ys) (sym (ground .count)) k)
+  -- another operator, on the register's own number of records
+  pub by-op : (o : Op) → Combined (op? n o) p q n w xs ys → Combined (binary? (register-in s) (s-op o)) p q n w xs ys
+  by-op o k = subst (λ (i : ℕ). Combined (op? i o) p q n w xs ys) (sym (ground .count)) k

@@ -11,7 +11,6 @@ pub mod Links
 -- joins through records that pass
 pub mod Joins
 -- one symbol
-pub mod Numbers
 pub mod Applying
 -- all symbols
 pub mod SymbolLoop

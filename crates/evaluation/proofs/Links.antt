@@ -25,7 +25,7 @@ use Rattle.rows.specs.Kept.{Kept, Wrote}
 use Rattle.rows.proofs.Words.{kept-refl, kept-trans}
 use Rattle.relation.specs.Pairs.{pair-at, Made}
 use Rattle.relation.proofs.Making.{made-is, made-same, made-then, made-clear}
-use Rattle.evaluation.specs.Ground.{Ground, direction, leads?}
+use Rattle.evaluation.specs.Ground.{Ground, leads?}
 use Rattle.evaluation.proofs.Grounds.{limits}
 
 -- ---- one link
@@ -58,13 +58,13 @@ module _ (from label to l : ℕ) where
   leads-no n reverse i j = ap (λ (b : Bool). eqb j from && b && eqb i to) (ne-eqb l label (λ e. n (sym e))) ∙ none (eqb j from) (eqb i to)
 
   -- the link is taken in, or is not named l
-  pub made-forward : {b n w : ℕ} {xs ys : List ℕ} {f : Bool} → label ≡ l → f ≡ true → Made b n w (λ i j. pair-at xs b w i j || (eqb i from && eqb j to)) xs ys
-      → Made b n w (λ i j. pair-at xs b w i j || leads? (direction f) l (edge from label to) i j) xs ys
-  made-forward {b} {n} {w} {xs} e g m = rw g (made-is m (λ i j h k. ap (λ (x : Bool). pair-at xs b w i j || x) (leads-forward e i j)))
+  pub made-forward : {b n w : ℕ} {xs ys : List ℕ} → label ≡ l → Made b n w (λ i j. pair-at xs b w i j || (eqb i from && eqb j to)) xs ys
+      → Made b n w (λ i j. pair-at xs b w i j || leads? forward l (edge from label to) i j) xs ys
+  made-forward {b} {n} {w} {xs} e m = made-is m (λ i j h k. ap (λ (x : Bool). pair-at xs b w i j || x) (leads-forward e i j))
 
-  pub made-reverse : {b n w : ℕ} {xs ys : List ℕ} {f : Bool} → label ≡ l → f ≡ false → Made b n w (λ i j. pair-at xs b w i j || (eqb i to && eqb j from)) xs ys
-      → Made b n w (λ i j. pair-at xs b w i j || leads? (direction f) l (edge from label to) i j) xs ys
-  made-reverse {b} {n} {w} {xs} e g m = rw g (made-is m (λ i j h k. ap (λ (x : Bool). pair-at xs b w i j || x) (leads-reverse e i j)))
+  pub made-reverse : {b n w : ℕ} {xs ys : List ℕ} → label ≡ l → Made b n w (λ i j. pair-at xs b w i j || (eqb i to && eqb j from)) xs ys
+      → Made b n w (λ i j. pair-at xs b w i j || leads? reverse l (edge from label to) i j) xs ys
+  made-reverse {b} {n} {w} {xs} e m = made-is m (λ i j h k. ap (λ (x : Bool). pair-at xs b w i j || x) (leads-reverse e i j))
 
   pub made-neither : (b n w : ℕ) (xs : List ℕ) (d : Direction) → (label ≡ l → ⊥) → Made b n w (λ i j. pair-at xs b w i j || leads? d l (edge from label to) i j) xs xs
   made-neither b n w xs d e = made-is (made-same b n w xs) (λ i j h k. sym (ap (λ (x : Bool). pair-at xs b w i j || x) (leads-no e d i j) ∙ or-false (pair-at xs b w i j)))

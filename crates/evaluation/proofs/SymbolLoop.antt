@@ -18,7 +18,7 @@ use Rattle.rows.proofs.Words.{kept-refl, kept-trans, kept-in}
 use Rattle.evaluation.specs.Ground.{symbols-in}
 use Rattle.theory.specs.Register.{Register}
 use Rattle.evaluation.specs.Stack.{Stored, Stacked, Applicable, Applied, Evaluated}
-use Rattle.evaluation.proofs.Numbers.{set-ignored}
+use Rattle.symbols.proofs.Numbers.{given-symbol}
 use Rattle.evaluation.proofs.Relations.{stacked-length}
 
 -- ---- a symbol changes the length of the stack by one at most
@@ -53,7 +53,7 @@ symbols-next ns ms count first i h =
     let a : count - i ≡ suc (count - (i + 1)) = omega arith in
     let b : suc (first + i) ≡ first + (i + 1) = omega arith in
     ap (λ (k : ℕ). symbols-in ns ms k (first + i)) a
-    ∙ ap (λ (y : Symbol). y ∷ symbols-in ns ms (count - (i + 1)) (suc (first + i))) (set-ignored (getD ns (first + i) 0) (getD ms (first + i) 0))
+    ∙ ap (λ (y : Symbol). y ∷ symbols-in ns ms (count - (i + 1)) (suc (first + i))) (given-symbol (getD ns (first + i) 0) (getD ms (first + i) 0))
     ∙ ap (λ (k : ℕ). symbol-numbered (getD ns (first + i) 0) (getD ms (first + i) 0) ∷ symbols-in ns ms (count - (i + 1)) k) b
 
 -- ---- the loop

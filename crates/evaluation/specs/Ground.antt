@@ -1,11 +1,10 @@
 -- What an evaluation stands on: a register's file, and symbols that make a path.
 -- Assumes nothing.
 use mathlib.Core.Path.{_≡_}
-use mathlib.Core.Bool.{Bool, false, cond}
+use mathlib.Core.Bool.{Bool}
 use mathlib.Core.List.{List, map}
 use mathlib.Core.Option.{some}
 use Prim.Native.Nat.{ℕ}
-use lib.Dec.{eqb, leb}
 use Rattle.theory.specs.PathExpr.{Direction, forward, reverse, PathExpr, Symbol}
 use Rattle.theory.specs.Postfix.{path-of}
 use Rattle.theory.specs.Register.{Edge, edge, same-edge?, records}
@@ -20,18 +19,10 @@ pub record Ground (s : List ℕ) (n w : ℕ) : Type 0 where
   pub count : records (register-in s) ≡ n
   pub wide : row-words n ≡ w
 
--- the direction of a step
-abbrev pub direction : Bool → Direction
-direction b = cond b forward reverse
-
 -- the edge e is a link named l, and the step along it leads from s to t
 abbrev pub leads? : Direction → ℕ → Edge → ℕ → ℕ → Bool
 leads? forward l e s t = same-edge? (edge s l t) e
 leads? reverse l e s t = same-edge? (edge t l s) e
-
--- the number of a closure: 133, and what is no number of a symbol
-unfoldable pub closes? : ℕ → Bool
-closes? c = cond (eqb c 255) false (leb 133 c)
 
 -- the k symbols from the i-th on, of the numbers and sets in two arrays
 abbrev pub symbols-in : List ℕ → List ℕ → ℕ → ℕ → List Symbol

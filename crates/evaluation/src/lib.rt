@@ -3,8 +3,12 @@ use fields::Kind;
 use fields::Link;
 use register::Links;
 use register::NextLink;
+use symbols::Direction;
+use symbols::Operator;
+use symbols::Symbol;
+use symbols::Via;
 ghost use mathlib.Core.Path.{_≡_};
-ghost use mathlib.Core.Bool.{true, false, _||_};
+ghost use mathlib.Core.Bool.{_||_};
 ghost use mathlib.Core.Option.{some};
 ghost use Prim.Native.Nat.{_+_, _*_, _<_, _≤_};
 ghost use lib.ListN.{length};
@@ -12,13 +16,14 @@ ghost use Rattle.theory.specs.KindSet.{has};
 ghost use Rattle.theory.specs.PathExpr.{PathExpr, named, any, through, s-join};
 ghost use Rattle.theory.specs.Postfix.{path-of};
 ghost use Rattle.theory.specs.Register.{edge, kind, records};
-ghost use Rattle.theory.specs.Evaluation.{step?};
+ghost use Rattle.theory.specs.Evaluation.{step?, op?};
 ghost use Rattle.symbols.specs.Symbols.{symbol-numbered};
+ghost use Rattle.symbols.specs.Contract.{direction-said, via-said, operator-said};
 ghost use Rattle.register.specs.LinksAhead.{Accepted};
 ghost use Rattle.register.specs.Form.{register-in};
 ghost use Rattle.rows.specs.Row.{Row, mask-of, Word};
 ghost use Rattle.relation.specs.Pairs.{pair-at, Made, Combined, Clean};
-ghost use Rattle.evaluation.specs.Ground.{Ground, direction, leads?, closes?, symbols-in, MakePath};
+ghost use Rattle.evaluation.specs.Ground.{Ground, leads?, symbols-in, MakePath};
 ghost use Rattle.evaluation.specs.Stack.{binary?, Applicable, Applied, Evaluated};
 
 // A word with all bits.
@@ -64,18 +69,18 @@ fn add_link(
     from: usize,
     label: Link,
     to: usize,
+    direction: Direction,
     l: Link,
-    forward: bool,
 )
     requires { ⌜ (b + n * w ≤ length (now work)) × (n ≤ 64 * w) × (from < n) × (to < n) ⌝ }
-    ensures { λ _. ⌜ Made b n w (λ i j. pair-at (now (work .entry)) b w i j || leads? (direction forward) (l .0) (edge from (label .0) to) i j) (now (work .entry)) (now (work .exit)) ⌝ }
+    ensures { λ _. ⌜ Made b n w (λ i j. pair-at (now (work .entry)) b w i j || leads? (direction-said direction) (l .0) (edge from (label .0) to) i j) (now (work .entry)) (now (work .exit)) ⌝ }
 {
-    if label.0 == l.0 {
-        if forward {
-            relation::set_pair(work, b, n, w, from, to);
-            return;
-        }
-        relation::set_pair(work, b, n, w, to, from);
+    if label.0 != l.0 {
+        return;
+    }
+    match direction {
+        Direction::Forward => relation::set_pair(work, b, n, w, from, to),
+        Direction::Reverse => relation::set_pair(work, b, n, w, to, from),
     }
 }
 
@@ -86,11 +91,11 @@ fn add_links(
     n: usize,
     w: usize,
     register: &[u8],
+    direction: Direction,
     l: Link,
-    forward: bool,
 )
     requires { ⌜ (b + n * w ≤ length (now work)) × Ground (now register) n w ⌝ }
-    ensures { λ _. ⌜ Made b n w (λ i j. pair-at (now (work .entry)) b w i j || step? (register-in (now (register .entry))) (direction forward) (named (l .0)) i j)
+    ensures { λ _. ⌜ Made b n w (λ i j. pair-at (now (work .entry)) b w i j || step? (register-in (now (register .entry))) (direction-said direction) (named (l .0)) i j)
         (now (work .entry)) (now (work .exit)) ⌝ }
 {
     let mut c = register::links_of(register);
@@ -100,7 +105,7 @@ fn add_links(
                 return;
             }
             NextLink::Link(from, label, to, rest) => {
-                add_link(work, b, n, w, from, label, to, l, forward);
+                add_link(work, b, n, w, from, label, to, direction, l);
                 c = rest;
             }
         }
@@ -108,12 +113,20 @@ fn add_links(
 }
 
 // The relation at b becomes the pairs of a step.
-pub fn step(work: &mut [u64], b: usize, n: usize, w: usize, register: &[u8], l: Link, forward: bool)
+pub fn step(
+    work: &mut [u64],
+    b: usize,
+    n: usize,
+    w: usize,
+    register: &[u8],
+    direction: Direction,
+    l: Link,
+)
     requires { ⌜ (b + n * w ≤ length (now work)) × Ground (now register) n w ⌝ }
-    ensures { λ _. ⌜ Made b n w (step? (register-in (now (register .entry))) (direction forward) (named (l .0))) (now (work .entry)) (now (work .exit)) ⌝ }
+    ensures { λ _. ⌜ Made b n w (step? (register-in (now (register .entry))) (direction-said direction) (named (l .0))) (now (work .entry)) (now (work .exit)) ⌝ }
 {
     rows::clear(work, b, n * w);
-    add_links(work, b, n, w, register, l, forward);
+    add_links(work, b, n, w, register, direction, l);
 }
 
 // The relation at p becomes its plain join with the one at q, both as they were at entry. It needs no spare relation: no word outside
@@ -136,39 +149,28 @@ fn join_through(work: &mut [u64], p: usize, q: usize, n: usize, w: usize, regist
     relation::join(work, p, q, n, w, &mask);
 }
 
-// The relation at p becomes what an operator of two operands makes of it and the one at q.
-fn combine(
-    work: &mut [u64],
-    p: usize,
-    q: usize,
-    n: usize,
-    w: usize,
-    register: &[u8],
-    number: u8,
-    set: u64,
-)
-    requires { ⌜ (p + n * w ≤ q) × (q + n * w ≤ length (now work)) × Ground (now register) n w × Clean (now work) p n w × Clean (now work) q n w ⌝ }
-    requires { ⌜ (128 ≤ number) × (closes? number ≡ false) ⌝ }
-    ensures { λ _. ⌜ Combined (binary? (register-in (now (register .entry))) (symbol-numbered number set)) p q n w (now (work .entry)) (now (work .exit)) ⌝ }
+// The relation at p becomes its join with the one at q, by what the join passes through.
+fn join_via(work: &mut [u64], p: usize, q: usize, n: usize, w: usize, register: &[u8], via: Via)
+    requires { ⌜ (p + n * w ≤ q) × (q + n * w ≤ length (now work)) × Ground (now register) n w × Clean (now work) p n w ⌝ }
+    ensures { λ _. ⌜ Combined (binary? (register-in (now (register .entry))) (s-join (via-said via))) p q n w (now (work .entry)) (now (work .exit)) ⌝ }
 {
-    match number {
-        symbols::JOIN => join(work, p, q, n, w, register),
-        symbols::UNION => relation::union(work, p, q, n, w),
-        symbols::CONJUNCTION => relation::intersection(work, p, q, n, w),
-        symbols::BRANCH_RIGHT => relation::branch_right(work, p, q, n, w),
-        symbols::BRANCH_LEFT => relation::branch_left(work, p, q, n, w),
-        _ => join_through(work, p, q, n, w, register, set),
+    match via {
+        Via::Any => join(work, p, q, n, w, register),
+        Via::Through(set) => join_through(work, p, q, n, w, register, set),
     }
 }
 
-// Whether the symbol is a closure.
-fn closes(number: u8) -> bool
-    ensures { λ r. ⌜ r ≡ closes? number ⌝ }
+// The relation at p becomes what another operator of two operands makes of it and the one at q.
+fn operate(work: &mut [u64], p: usize, q: usize, n: usize, w: usize, o: Operator)
+    requires { ⌜ (p + n * w ≤ q) × (q + n * w ≤ length (now work)) × (w ≤ 16) × (n ≤ 64 * w) × Clean (now work) p n w × Clean (now work) q n w ⌝ }
+    ensures { λ _. ⌜ Combined (op? n (operator-said o)) p q n w (now (work .entry)) (now (work .exit)) ⌝ }
 {
-    if number == symbols::THROUGH {
-        return false;
+    match o {
+        Operator::Union => relation::union(work, p, q, n, w),
+        Operator::Conjunction => relation::intersection(work, p, q, n, w),
+        Operator::BranchRight => relation::branch_right(work, p, q, n, w),
+        Operator::BranchLeft => relation::branch_left(work, p, q, n, w),
     }
-    symbols::CLOSURE <= number
 }
 
 // Applies one symbol to the stack, which ends at word b; returns where it ends then.
@@ -185,21 +187,26 @@ fn apply(
     ensures { λ c. ⌜ Applied (register-in (now (register .entry))) n w b (symbol-numbered number set) c (now (work .entry)) (now (work .exit)) ⌝ }
 {
     let z = n * w;
-    if number < fields::LINKS {
-        step(work, b, n, w, register, symbols::step_link(number), true);
-        return b + z;
+    match symbols::decode(number, set) {
+        Symbol::Step(direction, link) => {
+            step(work, b, n, w, register, direction, link);
+            b + z
+        }
+        Symbol::Join(via) => {
+            let a = b - z;
+            join_via(work, a - z, a, n, w, register, via);
+            a
+        }
+        Symbol::Op(o) => {
+            let a = b - z;
+            operate(work, a - z, a, n, w, o);
+            a
+        }
+        Symbol::Closure => {
+            transitive_closure::closure(work, b - z, n, w);
+            b
+        }
     }
-    if number < symbols::STEPS {
-        step(work, b, n, w, register, symbols::step_link(number), false);
-        return b + z;
-    }
-    let a = b - z;
-    if closes(number) {
-        transitive_closure::closure(work, a, n, w);
-        return b;
-    }
-    combine(work, a - z, a, n, w, register, number, set);
-    a
 }
 
 // The relation at 0 becomes the pairs of the path that the `count` symbols from number `first` on make.

@@ -1,44 +1,87 @@
--- What becomes of a code and of its operands, case by case.
+-- What becomes of a question's symbols: the number of one, and that a turned step has its link.
 -- Assumes nothing.
-use mathlib.Core.Path.{_≡_, refl}
-use Prim.Native.Nat.{ℕ}
-use borrow.Author.Tests.{eq-eqb, ne-eqb}
+use mathlib.Core.Path.{_≡_, refl, sym}
+use Prim.Native.Nat.{ℕ, _≤_}
+use native.Mathlib.Omega.{arith}
+use lib.Dec.{ltb→lt}
+use Rattle.theory.specs.PathExpr.{Direction, Label, named, any, through, Symbol, s-step, s-join, s-op, s-closure, code}
+use Rattle.symbols.specs.declared.Symbol as declared·Symbol
+use Rattle.symbols.specs.declared.Symbol.the-variants as symbol
+use Rattle.symbols.specs.Contract.{direction-said, symbol-said, LinkFits}
+use Rattle.symbols.specs.Symbols.{symbol-numbered, number-symbol, operands}
+use Rattle.symbols.proofs.Numbers.{step-below}
 use Rattle.shortening.specs.declared.Context.{Context}
 use Rattle.shortening.specs.declared.Context.the-variants.{Elsewhere, Closure, Test}
-use Rattle.shortening.specs.Pass.{turned, closure-kept, kept, closure-context, first-context, second-context}
+use Rattle.shortening.specs.Pass.{turned, kept}
 
-pub turned-test : {k : Context} {c : ℕ} → k ≡ Test → c ≡ 128 → 131 ≡ turned k c
-turned-test e h = rw (e, eq-eqb _ _ h)
+-- only a join becomes another symbol
+abbrev pub Stays : Symbol → Type 0
+Stays (s-step d l) = Unit {0}
+Stays (s-join v) = ⊥
+Stays (s-op o) = Unit {0}
+Stays s-closure = Unit {0}
 
-pub turned-other : (k : Context) {c : ℕ} → (c ≡ 128 → ⊥) → c ≡ turned k c
-turned-other Elsewhere h = refl
-turned-other Closure h = refl
-turned-other Test h = rw (ne-eqb _ _ h)
+pub turned-same : (k : Context) (x : Symbol) → Stays x → x ≡ turned k x
+turned-same Elsewhere x h = refl
+turned-same Closure x h = refl
+turned-same Test (s-step d l) h = refl
+turned-same Test (s-join v) h = absurd h
+turned-same Test (s-op o) h = refl
+turned-same Test s-closure h = refl
 
-pub kept-closure : {k x : Context} {c : ℕ} → c ≡ 133 → k ≡ x → closure-kept x ≡ kept k c
-unfolding kept
-kept-closure h e = rw (e, eq-eqb _ _ h)
+-- a step was one before
+turned-step : (k : Context) (x : Symbol) (d : Direction) (l : Label) → turned k x ≡ s-step d l → x ≡ s-step d l
+turned-step Elsewhere x d l e = e
+turned-step Closure x d l e = e
+turned-step Test (s-step c m) d l e = e
+turned-step Test (s-join any) d l e = absurd (let z : _≡_ {A = ℕ} 0 1 = cc in omega arith)
+turned-step Test (s-join (through m)) d l e = e
+turned-step Test (s-op o) d l e = e
+turned-step Test s-closure d l e = e
 
-pub kept-other : (k : Context) {c : ℕ} → (c ≡ 133 → ⊥) → 1 ≡ kept k c
-unfolding kept
-kept-other k h = rw (ne-eqb _ _ h)
+-- so its link has a number
+pub turned-fits : (y : declared·Symbol.Symbol) (k : Context) (c : ℕ) → symbol-said y ≡ turned k (symbol-numbered c 0) → LinkFits y
+turned-fits (symbol.Step d l) k c e =
+    ltb→lt (l .0) 64 (step-below c 0 (direction-said d) (named (l .0)) (turned-step k (symbol-numbered c 0) (direction-said d) (named (l .0)) (sym e)))
+turned-fits (symbol.Join v) k c e = tt
+turned-fits (symbol.Op o) k c e = tt
+turned-fits symbol.Closure k c e = tt
 
-pub first-left : (k : Context) {c : ℕ} → c ≡ 132 → Test ≡ first-context k c
-unfolding first-context
-first-left k h = rw (eq-eqb _ _ h)
+-- a symbol without a set has its code as number
+abbrev pub NoSet : Symbol → Type 0
+NoSet (s-step d l) = Unit {0}
+NoSet (s-join any) = Unit {0}
+NoSet (s-join (through m)) = ⊥
+NoSet (s-op o) = Unit {0}
+NoSet s-closure = Unit {0}
 
-pub first-closure : {k x : Context} {c : ℕ} → (c ≡ 132 → ⊥) → c ≡ 133 → k ≡ x → closure-context x ≡ first-context k c
-unfolding first-context
-first-closure n h e = rw (e, ne-eqb _ _ n, eq-eqb _ _ h)
+pub plain-number : (x : Symbol) → NoSet x → number-symbol x .number ≡ code x
+plain-number (s-step d l) h = refl
+plain-number (s-join any) h = refl
+plain-number (s-join (through m)) h = absurd h
+plain-number (s-op o) h = refl
+plain-number s-closure h = refl
 
-pub first-other : (k : Context) {c : ℕ} → (c ≡ 132 → ⊥) → (c ≡ 133 → ⊥) → Elsewhere ≡ first-context k c
-unfolding first-context
-first-other k n m = rw (ne-eqb _ _ n, ne-eqb _ _ m)
+pub turned-plain : (k : Context) (x : Symbol) → NoSet x → NoSet (turned k x)
+turned-plain Elsewhere x h = h
+turned-plain Closure x h = h
+turned-plain Test (s-step d l) h = tt
+turned-plain Test (s-join any) h = tt
+turned-plain Test (s-join (through m)) h = h
+turned-plain Test (s-op o) h = tt
+turned-plain Test s-closure h = tt
 
-pub second-right : {c : ℕ} → c ≡ 131 → Test ≡ second-context c
-unfolding second-context
-second-right h = rw (eq-eqb _ _ h)
+-- how many codes are left, and how many paths it takes
+pub kept-few : (k : Context) (x : Symbol) → kept k x ≤ 1
+kept-few k (s-step d l) = omega arith
+kept-few k (s-join v) = omega arith
+kept-few k (s-op o) = omega arith
+kept-few Elsewhere s-closure = omega arith
+kept-few Closure s-closure = omega arith
+kept-few Test s-closure = omega arith
 
-pub second-other : {c : ℕ} → (c ≡ 131 → ⊥) → Elsewhere ≡ second-context c
-unfolding second-context
-second-other n = rw (ne-eqb _ _ n)
+pub operands-few : (x : Symbol) → operands x ≤ 2
+operands-few (s-step d l) = omega arith
+operands-few (s-join v) = omega arith
+operands-few (s-op o) = omega arith
+operands-few s-closure = omega arith

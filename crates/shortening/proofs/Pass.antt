@@ -1,22 +1,21 @@
 -- The loop over a question's codes from the last to the first: what holds at its head, and how it goes on.
 -- Assumes nothing.
 use mathlib.Core.Path.{_≡_, refl, sym, ap, ap₂, _∙_, subst}
-use mathlib.Core.Bool.{Bool, true, false, cond}
 use mathlib.Core.List.{List, [], _∷_, _++_, append-nil}
 use Prim.Native.Nat.{ℕ, zero, suc, _+_, _-_, _≤_, _<_}
 use native.Mathlib.Omega.{arith}
-use lib.Dec.{ltb, eqb}
 use lib.ListN.{length, getD, set, take, drop, replicate, length-set, length-append, length-replicate}
 use lib.Seq.{take-suc, drop-cons, drop-set-lt, getD-set-same, length-take-le}
-use Rattle.theory.specs.PathExpr.{PathExpr, codes}
+use Rattle.theory.specs.PathExpr.{PathExpr, Symbol, code, codes}
 use Rattle.theory.specs.Simplification.{normal-form}
 use Rattle.theory.proofs.Walks.{size-pos}
-use Rattle.symbols.specs.Symbols.{arity}
+use Rattle.symbols.specs.Symbols.{symbol-numbered, number-symbol, operands}
 use Rattle.symbols.proofs.Numbers.{length-codes}
 use Rattle.shortening.specs.declared.Context.{Context}
-use Rattle.shortening.specs.declared.Context.the-variants.{Elsewhere, Closure, Test}
-use Rattle.shortening.specs.Pass.{turned, closure-kept, kept, first-context, second-context, FirstCodes}
-use Rattle.shortening.proofs.Pending.{Pend, pend, before, after, last, Stacked, bottom, upon, pushed, turn-of}
+use Rattle.shortening.specs.declared.Context.the-variants.{Elsewhere}
+use Rattle.shortening.specs.Pass.{turned, kept, first-context, second-context, FirstCodes}
+use Rattle.shortening.proofs.Contexts.{plain-number, turned-plain, kept-few, operands-few}
+use Rattle.shortening.proofs.Pending.{Pend, pend, before, after, last, last-plain, last-back, Stacked, bottom, upon, pushed, turn-of}
 
 -- ---- i codes are left; the output begins at the start, the stack of contexts ends at the depth
 pub record Room (qs out : List ℕ) (contexts : List Context) (depth start i : ℕ) : Type 0 where
@@ -74,42 +73,21 @@ put out start c (suc zero) h l n =
     ∙ ap (λ (u : List ℕ). c ∷ u) (drop-set-lt start out m c (omega arith))
 put out start c (suc (suc n)) h l k = absurd (omega arith)
 
-kept-small : (k : Context) (c : ℕ) → kept k c ≤ 1
-unfolding kept
-kept-small k c = by-code (eqb c 133) k
-  where
-    by-code : (b : Bool) (k : Context) → cond b (closure-kept k) 1 ≤ 1
-    by-code true Elsewhere = omega arith
-    by-code true Closure = omega arith
-    by-code true Test = omega arith
-    by-code false k = omega arith
-
-pub kept-few : {n : ℕ} (k : Context) (c : ℕ) → n ≡ kept k c → n ≤ 1
-kept-few k c e = omega (arith, e, kept-small k c)
-
-pub arity-small : (c : ℕ) → arity c ≤ 2
-unfolding arity
-arity-small c = go (ltb c 128) (eqb c 133)
-  where
-    go : (a b : Bool) → cond a 0 (cond b 1 2) ≤ 2
-    go true b = omega arith
-    go false true = omega arith
-    go false false = omega arith
-
 module _ (qs : List ℕ) (p : PathExpr) (out : List ℕ) (contexts : List Context) (start i : ℕ) (more : 0 < i) where
-  -- what holds after a turn: of the path on top, above d others, in context k, with c for its last code
-  abbrev Next : ℕ → Context → ℕ → Type 0
-  Next d k c = Pass qs p (set out (start - 1) c) (pushed contexts d k c) (d + arity c) (start - kept k c) (i - 1)
+  -- what holds after a turn: of the path on top, above d others, in context k, with c for its last symbol
+  abbrev Next : ℕ → Context → Symbol → Type 0
+  Next d k c = Pass qs p (set out (start - 1) (number-symbol c .number)) (pushed contexts d k c) (d + operands c) (start - kept k c) (i - 1)
 
   abbrev Turned : ℕ → Type 0
-  Turned d = let k = getD contexts d Elsewhere in Next d k (turned k (getD qs (i - 1) 0))
+  Turned d = let k = getD contexts d Elsewhere in Next d k (turned k (symbol-numbered (getD qs (i - 1) 0) 0))
 
-  room-next : {d : ℕ} (k : Context) (c : ℕ) → Room qs out contexts (suc d) start i → Room qs (set out (start - 1) c) (pushed contexts d k c) (d + arity c) (start - kept k c) (i - 1)
+  room-next : {d : ℕ} (k : Context) (c : Symbol) → Room qs out contexts (suc d) start i
+      → Room qs (set out (start - 1) (number-symbol c .number)) (pushed contexts d k c) (d + operands c) (start - kept k c) (i - 1)
   room-next {d} k c r =
-      let n = kept-small k c in
-      let m = arity-small c in
+      let n = kept-few k c in
+      let m = operands-few c in
       record {
-        out-size = length-set out (start - 1) c ∙ r .out-size;
+        out-size = length-set out (start - 1) (number-symbol c .number) ∙ r .out-size;
         contexts-size = length-set (set contexts d (first-context k c)) (d + 1) (second-context c) ∙ length-set contexts d (first-context k c) ∙ r .contexts-size;
         within = omega (arith, r .within);
         room = omega (arith, r .room);
@@ -125,16 +103,22 @@ module _ (qs : List ℕ) (p : PathExpr) (out : List ℕ) (contexts : List Contex
       let j = i - 1 in
       let z : suc j ≡ i = omega arith in
       let t = turn-of k (x .path) rest (x .askable) in
-      let (u, v) = snoc-same (take j qs) (before (t .next)) (getD qs j 0) (last (x .path)) (sym (take-suc qs j 0 (omega (arith, r .within))) ∙ ap (λ (m : ℕ). take m qs) z ∙ l ∙ t .lefts) in
+      let (u, v) = snoc-same (take j qs) (before (t .next)) (getD qs j 0) (code (last (x .path))) (sym (take-suc qs j 0 (omega (arith, r .within))) ∙ ap (λ (m : ℕ). take m qs) z ∙ l ∙ t .lefts) in
       let c = turned k (last (x .path)) in
+      let n = plain-number c (turned-plain k (last (x .path)) (last-plain (x .path) (x .askable))) in
+      let same = ap (λ (m : ℕ). symbol-numbered m 0) v ∙ last-back (x .path) (x .askable) in
       let next : Next d k c = record {
         pending = t .next;
         left = u;
-        whole = ap (after (t .next)) (put out start c (kept k c) (omega (arith, r .room)) (omega (arith, r .start-in, r .out-size)) (kept-small k c)) ∙ sym (t .becomes (drop start out)) ∙ w;
+        whole =
+            ap (after (t .next)) (
+            put out start (number-symbol c .number) (kept k c) (omega (arith, r .room)) (omega (arith, r .start-in, r .out-size)) (kept-few k c)
+            ∙ ap (λ (m : ℕ). take (kept k c) (m ∷ []) ++ drop start out) n)
+            ∙ sym (t .becomes (drop start out)) ∙ w;
         stacked = t .stacks contexts d (omega (arith, r .contexts-size, r .deep)) s;
         fits = room-next k c r;
       } in
-      subst (λ (h : Context). Next d h (turned h (getD qs j 0))) (sym e) (subst (λ (h : ℕ). Next d k (turned k h)) (sym v) next)
+      subst (λ (h : Context). Next d h (turned h (symbol-numbered (getD qs j 0) 0))) (sym e) (subst (λ (h : Symbol). Next d k (turned k h)) (sym same) next)
 
   -- while codes are left there is an operand to come
   pub record Top (depth : ℕ) : Type 0 where

@@ -3,22 +3,28 @@
 -- Nothing that is handed on rests on this: specs/Call.antt has the result.
 -- Assumes nothing.
 use mathlib.Core.Path.{_≡_}
-use mathlib.Core.Bool.{cond}
 use mathlib.Core.List.{List}
 use Prim.Native.Nat.{ℕ, _≤_}
-use lib.Dec.{T, eqb}
+use lib.Dec.{T}
 use lib.ListN.{length, take, drop}
-use Rattle.theory.specs.PathExpr.{PathExpr, codes, plain?, links?}
+use Rattle.theory.specs.PathExpr.{any, through, Op, union, conjunction, branch-right, branch-left, PathExpr, Symbol, s-step, s-join, s-op, s-closure, codes, plain?, links?}
 use Rattle.shortening.specs.declared.Context.{Context}
 use Rattle.shortening.specs.declared.Context.the-variants.{Elsewhere, Closure, Test}
 use Rattle.shortening.specs.declared.Shortened.{Shortened}
 use Rattle.shortening.specs.Call.{shortened-codes}
 
--- the code that a symbol becomes: as a test a join is a branch right
-abbrev pub turned : Context → ℕ → ℕ
-turned Elsewhere c = c
-turned Closure c = c
-turned Test c = cond (eqb c 128) 131 c
+-- what a symbol becomes: as a test a join is a branch right
+abbrev pub tested-symbol : Symbol → Symbol
+tested-symbol (s-step d l) = s-step d l
+tested-symbol (s-join any) = s-op branch-right
+tested-symbol (s-join (through m)) = s-join (through m)
+tested-symbol (s-op o) = s-op o
+tested-symbol s-closure = s-closure
+
+abbrev pub turned : Context → Symbol → Symbol
+turned Elsewhere x = x
+turned Closure x = x
+turned Test x = tested-symbol x
 
 -- how many codes are left of a closure, which goes right under a closure and as a test; and of any symbol
 abbrev pub closure-kept : Context → ℕ
@@ -26,8 +32,11 @@ closure-kept Elsewhere = 1
 closure-kept Closure = 0
 closure-kept Test = 0
 
-unfoldable pub kept : Context → ℕ → ℕ
-kept k c = cond (eqb c 133) (closure-kept k) 1
+abbrev pub kept : Context → Symbol → ℕ
+kept k (s-step d l) = 1
+kept k (s-join v) = 1
+kept k (s-op o) = 1
+kept k s-closure = closure-kept k
 
 -- where a closure's operand stands: right under it, or, if the closure goes, where it stood itself
 abbrev pub closure-context : Context → Context
@@ -35,12 +44,31 @@ closure-context Elsewhere = Closure
 closure-context Closure = Closure
 closure-context Test = Test
 
--- where the first operand of any symbol stands, and the second
-unfoldable pub first-context : Context → ℕ → Context
-first-context k c = cond (eqb c 132) Test (cond (eqb c 133) (closure-context k) Elsewhere)
+-- where the operands of an operator stand: a branch has a test
+abbrev pub first-of : Op → Context
+first-of union = Elsewhere
+first-of conjunction = Elsewhere
+first-of branch-right = Elsewhere
+first-of branch-left = Test
 
-unfoldable pub second-context : ℕ → Context
-second-context c = cond (eqb c 131) Test Elsewhere
+abbrev pub second-of : Op → Context
+second-of union = Elsewhere
+second-of conjunction = Elsewhere
+second-of branch-right = Test
+second-of branch-left = Elsewhere
+
+-- where the first operand of any symbol stands, and the second
+abbrev pub first-context : Context → Symbol → Context
+first-context k (s-step d l) = Elsewhere
+first-context k (s-join v) = Elsewhere
+first-context k (s-op o) = first-of o
+first-context k s-closure = closure-context k
+
+abbrev pub second-context : Symbol → Context
+second-context (s-step d l) = Elsewhere
+second-context (s-join v) = Elsewhere
+second-context (s-op o) = second-of o
+second-context s-closure = Elsewhere
 
 -- the first codes are those of a question's path
 pub record FirstCodes (qs : List ℕ) (count : ℕ) (p : PathExpr) : Type 0 where

@@ -1,12 +1,17 @@
 // Questions shortened beforehand: the five simplifications, applied until none fits.
 use fields::Source;
 use fields::Written;
+use symbols::Operator;
+use symbols::Symbol;
+use symbols::Via;
 ghost use mathlib.Core.Path.{_≡_};
 ghost use lib.ListN.{take};
 ghost use Rattle.fields.specs.Call.{Gives};
 ghost use Rattle.fields.specs.Contract.{written-said};
 ghost use Rattle.shortening.specs.Call.{shortened-in, shorten-call};
-ghost use Rattle.shortening.specs.Pass.{turned, kept, first-context, second-context, OfQuestion, Leaves};
+ghost use Rattle.theory.specs.PathExpr.{s-join};
+ghost use Rattle.symbols.specs.Contract.{via-said, operator-said, symbol-said};
+ghost use Rattle.shortening.specs.Pass.{tested-symbol, turned, closure-kept, kept, closure-context, first-of, second-of, first-context, second-context, OfQuestion, Leaves};
 
 // Where an operand stands: right under a closure, as a branch's test, or elsewhere.
 pub enum Context {
@@ -15,29 +20,42 @@ pub enum Context {
     Test,
 }
 
-// As a test a join is a branch right.
-fn turn(context: Context, code: u8) -> u8
-    ensures { λ r. ⌜ r ≡ turned context code ⌝ }
+// As a test a plain join is a branch right.
+fn tested_join(via: Via) -> Symbol
+    ensures { λ r. ⌜ symbol-said r ≡ tested-symbol (s-join (via-said via)) ⌝ }
 {
-    match context {
-        Context::Elsewhere => code,
-        Context::Closure => code,
-        Context::Test => {
-            if code == symbols::JOIN {
-                return symbols::BRANCH_RIGHT;
-            }
-            code
-        }
+    match via {
+        Via::Any => Symbol::Op(Operator::BranchRight),
+        Via::Through(_) => Symbol::Join(via),
     }
 }
 
-// How many codes are left of one: a closure goes, right under a closure and as a test.
-fn keep(context: Context, code: u8) -> usize
-    ensures { λ r. ⌜ r ≡ kept context code ⌝ }
+fn tested(x: Symbol) -> Symbol
+    ensures { λ r. ⌜ symbol-said r ≡ tested-symbol (symbol-said x) ⌝ }
 {
-    if code != symbols::CLOSURE {
-        return 1;
+    match x {
+        Symbol::Step(_, _) => x,
+        Symbol::Join(via) => tested_join(via),
+        Symbol::Op(_) => x,
+        Symbol::Closure => x,
     }
+}
+
+// What a symbol becomes.
+fn turn(context: Context, x: Symbol) -> Symbol
+    ensures { λ r. ⌜ symbol-said r ≡ turned context (symbol-said x) ⌝ }
+{
+    match context {
+        Context::Elsewhere => x,
+        Context::Closure => x,
+        Context::Test => tested(x),
+    }
+}
+
+// How many codes are left of a closure, which goes right under a closure and as a test.
+fn keep_closure(context: Context) -> usize
+    ensures { λ r. ⌜ r ≡ closure-kept context ⌝ }
+{
     match context {
         Context::Elsewhere => 1,
         Context::Closure => 0,
@@ -45,16 +63,22 @@ fn keep(context: Context, code: u8) -> usize
     }
 }
 
-// Where the first operand stands; under a closure that goes, where the closure stood.
-fn first_context(context: Context, code: u8) -> Context
-    ensures { λ r. ⌜ r ≡ first-context context code ⌝ }
+// The same of any symbol.
+fn keep(context: Context, x: Symbol) -> usize
+    ensures { λ r. ⌜ r ≡ kept context (symbol-said x) ⌝ }
 {
-    if code == symbols::BRANCH_LEFT {
-        return Context::Test;
+    match x {
+        Symbol::Step(_, _) => 1,
+        Symbol::Join(_) => 1,
+        Symbol::Op(_) => 1,
+        Symbol::Closure => keep_closure(context),
     }
-    if code != symbols::CLOSURE {
-        return Context::Elsewhere;
-    }
+}
+
+// Where a closure's operand stands; under a closure that goes, where the closure stood.
+fn under_closure(context: Context) -> Context
+    ensures { λ r. ⌜ r ≡ closure-context context ⌝ }
+{
     match context {
         Context::Elsewhere => Context::Closure,
         Context::Closure => Context::Closure,
@@ -62,14 +86,52 @@ fn first_context(context: Context, code: u8) -> Context
     }
 }
 
-// Where the second operand stands.
-fn second_context(code: u8) -> Context
-    ensures { λ r. ⌜ r ≡ second-context code ⌝ }
+// Where an operator's first operand stands.
+fn first_of(o: Operator) -> Context
+    ensures { λ r. ⌜ r ≡ first-of (operator-said o) ⌝ }
 {
-    if code == symbols::BRANCH_RIGHT {
-        return Context::Test;
+    match o {
+        Operator::Union => Context::Elsewhere,
+        Operator::Conjunction => Context::Elsewhere,
+        Operator::BranchRight => Context::Elsewhere,
+        Operator::BranchLeft => Context::Test,
     }
-    Context::Elsewhere
+}
+
+// Where the first operand of any symbol stands.
+fn first_context(context: Context, x: Symbol) -> Context
+    ensures { λ r. ⌜ r ≡ first-context context (symbol-said x) ⌝ }
+{
+    match x {
+        Symbol::Step(_, _) => Context::Elsewhere,
+        Symbol::Join(_) => Context::Elsewhere,
+        Symbol::Op(o) => first_of(o),
+        Symbol::Closure => under_closure(context),
+    }
+}
+
+// Where an operator's second operand stands.
+fn second_of(o: Operator) -> Context
+    ensures { λ r. ⌜ r ≡ second-of (operator-said o) ⌝ }
+{
+    match o {
+        Operator::Union => Context::Elsewhere,
+        Operator::Conjunction => Context::Elsewhere,
+        Operator::BranchRight => Context::Test,
+        Operator::BranchLeft => Context::Elsewhere,
+    }
+}
+
+// Where the second operand of any symbol stands.
+fn second_context(x: Symbol) -> Context
+    ensures { λ r. ⌜ r ≡ second-context (symbol-said x) ⌝ }
+{
+    match x {
+        Symbol::Step(_, _) => Context::Elsewhere,
+        Symbol::Join(_) => Context::Elsewhere,
+        Symbol::Op(o) => second_of(o),
+        Symbol::Closure => Context::Elsewhere,
+    }
 }
 
 // Codes at the end of an array, from a start on.
@@ -95,12 +157,12 @@ fn shorten_codes(codes: &[u8], count: usize) -> Shortened
         i -= 1;
         depth -= 1;
         let context = contexts[depth];
-        let code = turn(context, codes[i]);
-        contexts[depth] = first_context(context, code);
-        contexts[depth + 1] = second_context(code);
-        depth += symbols::operands(code) as usize;
-        out[start - 1] = code;
-        start -= keep(context, code);
+        let x = turn(context, symbols::decode(codes[i], 0));
+        contexts[depth] = first_context(context, x);
+        contexts[depth + 1] = second_context(x);
+        depth += symbols::operands_of(x) as usize;
+        out[start - 1] = symbols::encode(x).number;
+        start -= keep(context, x);
     }
     Shortened { codes: out, start }
 }

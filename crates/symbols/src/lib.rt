@@ -7,7 +7,7 @@ ghost use mathlib.Core.Path.{_≡_};
 ghost use Prim.Native.Nat.{_<_, _%_};
 ghost use lib.ListN.{length};
 ghost use Rattle.fields.specs.Table.{tag-length};
-ghost use Rattle.symbols.specs.Symbols.{symbol-length, step-of, operator-of, symbol-in, push, arity, due-symbols, symbol-numbered, number-symbol, order-code, symbol?, numbered, direction-numbered};
+ghost use Rattle.symbols.specs.Symbols.{symbol-length, step-of, operator-of, symbol-in, push, operands, arity, due-symbols, symbol-numbered, number-symbol, order-code, symbol?, numbered, direction-numbered};
 ghost use Rattle.theory.specs.PathExpr.{named, s-join, step-code, op-code};
 ghost use Rattle.symbols.specs.Writing.{direction-number};
 ghost use Rattle.symbols.specs.Contract.{direction-said, via-said, operator-said, symbol-said, LinkFits, read-said, push-said};
@@ -228,15 +228,22 @@ pub fn step_link(number: u8) -> Link
 }
 
 // How many paths a symbol takes.
-pub fn operands(number: u8) -> u8
-    ensures { λ r. ⌜ r ≡ arity number ⌝ }
+pub fn operands_of(x: Symbol) -> u8
+    ensures { λ r. ⌜ r ≡ operands (symbol-said x) ⌝ }
 {
-    match decode(number, 0) {
+    match x {
         Symbol::Step(_, _) => 0,
         Symbol::Join(_) => 2,
         Symbol::Op(_) => 2,
         Symbol::Closure => 1,
     }
+}
+
+// The same by its number.
+pub fn operands(number: u8) -> u8
+    ensures { λ r. ⌜ r ≡ arity number ⌝ }
+{
+    operands_of(decode(number, 0))
 }
 
 // The code by which members are compared.

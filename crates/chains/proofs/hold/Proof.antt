@@ -1,0 +1,128 @@
+-- `chains::hold` meets its contract: a step that is loaded takes a free place, and the others lie apart from it.
+-- Assumes nothing.
+use Rattle.chains.proofs.Holding.{past, before-end, held-more, holds-same, holds-more}
+use Rattle.symbols.proofs.Numbers.{decoded}
+use Rattle.evaluation.proofs.Grounds.{small}
+use Rattle.rows.proofs.Words.{kept-refl, kept-in}
+use Prim.Native.Nat.{_*_, _<_}
+use lib.Seq.{getD-set-same}
+use native.Mathlib.Omega.{arith}
+use borrow.Author.Needs.{needs}
+use Rattle.chains.proofs.hold.Statement.{statement}
+use Rattle.chains.proofs.hold.Tie as tie
+
+place-requires : tie.Need-place-requires
+place-requires c κs = search needs
+
+same-length : tie.Need-same-length
+same-length c = search needs
+
+returns : tie.Need-returns
+returns c = search needs
+
+place-requires-2 : tie.Need-place-requires-2
+place-requires-2 c κs = search needs
+
+same-length-2 : tie.Need-same-length-2
+same-length-2 c = search needs
+
+returns-2 : tie.Need-returns-2
+returns-2 c = search needs
+
+decode-requires : tie.Need-decode-requires
+decode-requires c κs = search needs
+
+enum-known-direction : tie.Need-enum-known-direction
+enum-known-direction c = search needs
+
+add-b : tie.Need-add-b
+add-b c = search needs
+
+mul-b : tie.Need-mul-b
+mul-b c = search needs
+
+mul-b-2 : tie.Need-mul-b-2
+mul-b-2 c = let a = c .before .before .before .before .before .before .before .before .before .before .before .before .before .args in omega (arith, before-end (c .before .before .before .before .before .place2 .result) (a .n * a .w) (omega (arith, c .before .before .before .before .before .place2 .ensures .0, c .before .before .before .before .if2 .left)), small (c .before .before .before .before .before .before .before .before .before .before .before .before .before .pre .0))
+
+step-requires : tie.Need-step-requires
+step-requires c κs = let a = c .before .before .before .before .before .before .before .before .before .before .before .before .before .before .args in (omega (arith, before-end (c .before .before .before .before .before .before .place2 .result) (a .n * a .w) (omega (arith, c .before .before .before .before .before .before .place2 .ensures .0, c .before .before .before .before .before .if2 .left)), c .before .before .before .before .before .before .before .before .before .before .before .before .before .before .pre .1), c .before .before .before .before .before .before .before .before .before .before .before .before .before .before .pre .0)
+
+slice-write-held : tie.Need-slice-write-held
+slice-write-held c = search needs
+
+enum-told : tie.Need-enum-told
+enum-told c = search needs
+
+enum-told-2 : tie.Need-enum-told-2
+enum-told-2 c = search needs
+
+enum-told-3 : tie.Need-enum-told-3
+enum-told-3 c = search needs
+
+same-length-3 : tie.Need-same-length-3
+same-length-3 c = search needs
+
+same-length-4 : tie.Need-same-length-4
+same-length-4 c = search needs
+
+returns-3 : tie.Need-returns-3
+returns-3 c =
+    let a = c .before .before .before .before .before .before .before .before .before .before .before .before .before .before .before .before .before .args in
+    let p = c .before .before .before .before .before .before .before .before .before .before .before .before .before .before .before .before .before .pre in
+    let f = c .before .before .before .before .before .before .before .before .before .place2 .result in
+    let z = a .n * a .w in
+    let l : f < 4 = omega (arith, c .before .before .before .before .before .before .before .before .before .place2 .ensures .0, c .before .before .before .before .before .before .before .before .if2 .left) in (
+      c .before .before .before .before .before .before .before .before .before .place2 .ensures .0,
+      λ h. getD-set-same (a .held .now) f (a .number) 0 (omega (arith, p .2 .few)),
+      held-more (p .0) f (a .number) (p .2) (c .before .before .step .ensures) (decoded (c .before .before .before .before .before .before .before .decode .ensures) (c .before .before .before .before .before .direction .given .1)) l,
+      holds-more (a .held .now) f (a .number) (c .before .before .before .before .before .before .before .before .before .place2 .ensures .1 l),
+      kept-in (c .before .before .step .ensures .kept) (past f z) (before-end f z l),
+    )
+
+same-length-5 : tie.Need-same-length-5
+same-length-5 c = search needs
+
+returns-4 : tie.Need-returns-4
+returns-4 c = search needs
+
+same-length-6 : tie.Need-same-length-6
+same-length-6 c = search needs
+
+returns-5 : tie.Need-returns-5
+returns-5 c = search needs
+
+same-length-7 : tie.Need-same-length-7
+same-length-7 c = search needs
+
+returns-6 : tie.Need-returns-6
+returns-6 c = search needs
+
+pub hold-spec : {M : Type 1} → statement M
+hold-spec =
+    tie.close
+    (tie.spec
+    place-requires
+    same-length
+    returns
+    place-requires-2
+    same-length-2
+    returns-2
+    decode-requires
+    enum-known-direction
+    add-b
+    mul-b
+    mul-b-2
+    step-requires
+    slice-write-held
+    enum-told
+    enum-told-2
+    enum-told-3
+    same-length-3
+    same-length-4
+    returns-3
+    same-length-5
+    returns-4
+    same-length-6
+    returns-5
+    same-length-7
+    returns-6)

@@ -5,12 +5,11 @@ use mathlib.Core.List.{List, [], _∷_, _++_, map}
 use mathlib.Core.Option.{some}
 use Prim.Native.Nat.{ℕ, _+_, _≤_}
 use native.Mathlib.Omega.{arith}
-use lib.Dec.{T, ltb→lt}
+use lib.Dec.{T}
 use lib.ListN.{length, length-append}
 use lib.Seq.{sets}
-use borrow.Author.Tests.{lt-ltb}
-use Rattle.theory.specs.PathExpr.{Direction, forward, reverse, Label, named, below?, Op, union, conjunction, branch-right, branch-left, PathExpr, step, join, op, closure}
-use Rattle.theory.specs.PathExpr.{Symbol, s-join, s-op, s-closure, postfix, code, step-code, codes, size, plain?, links?}
+use Rattle.theory.specs.PathExpr.{Direction, Label, below?, Op, union, conjunction, branch-right, branch-left, PathExpr, step, join, op, closure}
+use Rattle.theory.specs.PathExpr.{Symbol, s-step, s-join, s-op, s-closure, postfix, code, step-code, codes, size, plain?, links?}
 use Rattle.theory.specs.Postfix.{path-of}
 use Rattle.theory.specs.Simplification.{normal-form}
 use Rattle.theory.proofs.Tests.{and-left, and-right}
@@ -20,12 +19,12 @@ use Rattle.theory.specs.Result.{Result, got, refused}
 use Rattle.fields.specs.Call.{accepts, Size, output}
 use Rattle.fields.specs.Call as fields·Call
 use Rattle.fields.specs.Reading.{read}
-use Rattle.fields.specs.Writing.{Bytes}
+use Rattle.fields.specs.Writing.{Bytes, field-bytes}
 use Rattle.fields.proofs.Calls.{not-accepted}
 use Rattle.fields.proofs.Filing.{Filed, filed, file-written, file-enough}
-use Rattle.symbols.specs.Symbols.{numbered}
-use Rattle.symbols.specs.Writing.{symbol-bytes, symbols-bytes}
-use Rattle.symbols.proofs.Numbers.{length-codes}
+use Rattle.symbols.specs.Symbols.{numbered, symbol-numbered}
+use Rattle.symbols.specs.Writing.{tag-of, body-of, symbol-bytes, symbols-bytes}
+use Rattle.symbols.proofs.Numbers.{number-of, length-codes}
 use Rattle.question.specs.Form.{question-form, question-symbols}
 use Rattle.question.specs.Writing.{numbered-codes, question-bytes}
 use Rattle.question.proofs.Paths.{Asks, accepted-question}
@@ -49,16 +48,17 @@ bytes-are [] = refl
 bytes-are (s ∷ ss) = omega (arith, length-append (symbol-bytes (numbered (code s) 0)) (symbols-bytes (numbered-codes (map code ss))), bytes-are ss)
 
 bytes-step : (d : Direction) (l : Label) → T (below? l 64) → length (symbol-bytes (numbered (step-code d l) 0)) ≡ 5
-bytes-step forward (named l) h = rw (lt-ltb l 128 (omega (arith, ltb→lt l 64 h)))
-bytes-step reverse (named l) h = rw (lt-ltb (64 + l) 128 (omega (arith, ltb→lt l 64 h)))
+bytes-step d l h = ap (λ (x : Symbol). length (field-bytes (tag-of x) (body-of (step-code d l) x))) (number-of (s-step d l) h .back)
 
 bytes-op : (o : Op) → length (symbol-bytes (numbered (code (s-op o)) 0)) ≡ 4
+unfolding symbol-numbered
 bytes-op union = refl
 bytes-op conjunction = refl
 bytes-op branch-right = refl
 bytes-op branch-left = refl
 
 bytes-path : (p : PathExpr) → T (links? 64 p) → bytes (postfix p) ≡ weight 5 4 4 4 p
+unfolding symbol-numbered
 bytes-path (step d l) h = omega (arith, bytes-step d l h)
 bytes-path (join v p q) h =
     omega (

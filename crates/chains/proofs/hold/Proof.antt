@@ -1,9 +1,9 @@
 -- `chains::hold` meets its contract: a step that is loaded takes a free place, and the others lie apart from it.
 -- Assumes nothing.
-use Rattle.chains.proofs.Holding.{past, before-end, held-more, holds-same, holds-more}
+use Rattle.chains.proofs.Holding.{past, before-end, held-more, holds-more}
 use Rattle.symbols.proofs.Numbers.{decoded}
 use Rattle.evaluation.proofs.Grounds.{small}
-use Rattle.rows.proofs.Words.{kept-refl, kept-in}
+use Rattle.rows.proofs.Words.{kept-in}
 use Prim.Native.Nat.{_*_, _<_}
 use lib.Seq.{getD-set-same}
 use native.Mathlib.Omega.{arith}

@@ -1,8 +1,16 @@
 -- `shortening::shorten_codes` meets its contract: `Pass` holds at the head of the loop, a turn keeps it (`pass-top`), and where no code is left the output is that of the normal form (`pass-end`).
 -- Assumes nothing.
+use Rattle.shortening.specs.declared.Context.the-variants.{Elsewhere}
+use denote.Ref.{now}
+use lib.ListN.{getD}
+use Prim.Native.Nat.{_-_}
 use native.Mathlib.Omega.{arith}
 use Rattle.shortening.specs.Pass.{OfQuestion}
-use Rattle.shortening.proofs.Pass.{Pass, pass-start, pass-top, pass-end, kept-few, arity-small}
+use Rattle.shortening.proofs.Pass.{Pass, pass-start, pass-top, pass-end}
+use Rattle.shortening.proofs.Contexts.{turned-fits, kept-few, operands-few}
+use mathlib.Core.Path.{_∙_, ap}
+use Rattle.symbols.specs.Contract.{symbol-said}
+use Rattle.shortening.specs.Pass.{turned}
 use Rattle.shortening.proofs.Call.{leaves}
 use borrow.Author.Needs.{needs}
 use Rattle.shortening.proofs.shorten_codes.Statement.{statement}
@@ -26,8 +34,11 @@ sub-depth c = omega (arith, pass-top _ _ _ _ _ _ (c .loop-test .taken) (c .befor
 array-copy-out-context : tie.Need-array-copy-out-context Inv-loop μ-loop
 array-copy-out-context c = search needs
 
-shared-slice-read-turn : tie.Need-shared-slice-read-turn Inv-loop μ-loop
-shared-slice-read-turn c = search needs
+shared-slice-read-decode : tie.Need-shared-slice-read-decode Inv-loop μ-loop
+shared-slice-read-decode c = search needs
+
+decode-requires : tie.Need-decode-requires Inv-loop μ-loop
+decode-requires c κs = search needs
 
 turn-requires : tie.Need-turn-requires Inv-loop μ-loop
 turn-requires c κs = search needs
@@ -46,17 +57,23 @@ add-contexts c = search needs
 
 array-set-from-contexts-2 : tie.Need-array-set-from-contexts-2 Inv-loop μ-loop
 array-set-from-contexts-2 c =
-    let l = c .before .before .before .before .before in
+    let l = c .before .before .before .before .before .before in
     omega (arith, pass-top _ _ _ _ _ _ (l .loop-test .taken) (l .before .loop .inv .1) .some)
 
-operands-requires : tie.Need-operands-requires Inv-loop μ-loop
-operands-requires c κs = search needs
+operands-of-requires : tie.Need-operands-of-requires Inv-loop μ-loop
+operands-of-requires c κs = search needs
 
 cast-depth : tie.Need-cast-depth Inv-loop μ-loop
 cast-depth c = search needs
 
 add-depth : tie.Need-add-depth Inv-loop μ-loop
-add-depth c = omega (arith, arity-small (c .before .before .before .turn .result))
+add-depth c = omega (arith, operands-few (symbol-said (c .before .before .before .turn .result)), c .operands-of .ensures)
+
+encode-requires : tie.Need-encode-requires Inv-loop μ-loop
+encode-requires c κs =
+    let l = c .before .before .before .before .before .before .before .before .loop in
+    let k = getD (l .contexts) (l .depth - 1) Elsewhere in
+    turned-fits (c .before .before .before .turn .result) k (getD (now (c .before .before .before .before .before .before .before .before .before .before .args .codes)) (l .i - 1) 0) (c .before .before .before .turn .ensures ∙ ap (turned k) (c .before .before .before .before .decode .ensures))
 
 sub-out : tie.Need-sub-out Inv-loop μ-loop
 sub-out c = search needs
@@ -68,19 +85,21 @@ keep-requires : tie.Need-keep-requires Inv-loop μ-loop
 keep-requires c κs = search needs
 
 sub-start : tie.Need-sub-start Inv-loop μ-loop
-sub-start c = omega (arith, kept-few _ _ (c .keep .ensures))
+sub-start c =
+    let l = c .before .before .before .before .before .before .before .before .before .before .loop in
+    omega (arith, kept-few (getD (l .contexts) (l .depth - 1) Elsewhere) (symbol-said (c .before .before .before .before .before .turn .result)), c .keep .ensures)
 
 loop-less : tie.Need-loop-less Inv-loop μ-loop
 loop-less c = search needs
 
 loop-again : tie.Need-loop-again Inv-loop μ-loop
 loop-again c =
-    let turned = c .before .before .before .before in
-    let l = turned .before .before .before in
-    let (q, h) = l .before .loop .inv in (
+    let l = c .before .before .before .before .before .before .before .before .before .before .loop in
+    let (q, h) = l .inv in
+    let said = c .before .before .before .before .before .turn .ensures ∙ ap (turned (getD (l .contexts) (l .depth - 1) Elsewhere)) (c .before .before .before .before .before .before .decode .ensures) in (
       q,
-      rw (c .before .before .before .first-context .ensures, c .before .before .second-context .ensures, c .before .operands .ensures, c .keep .ensures, turned .turn .ensures)
-          (pass-top _ _ _ _ _ _ (l .loop-test .taken) h .next),
+      rw (c .before .before .before .before .first-context .ensures, c .before .before .before .second-context .ensures, c .before .before .operands-of .ensures, c .before .encode .ensures, c .keep .ensures, said)
+          (pass-top _ _ _ _ _ _ (c .before .before .before .before .before .before .before .before .before .loop-test .taken) h .next),
     )
 
 returns : tie.Need-returns Inv-loop μ-loop
@@ -98,16 +117,18 @@ shorten-codes-spec =
     sub-i
     sub-depth
     array-copy-out-context
-    shared-slice-read-turn
+    shared-slice-read-decode
+    decode-requires
     turn-requires
     first-context-requires
     array-set-from-contexts
     second-context-requires
     add-contexts
     array-set-from-contexts-2
-    operands-requires
+    operands-of-requires
     cast-depth
     add-depth
+    encode-requires
     sub-out
     array-write-out
     keep-requires

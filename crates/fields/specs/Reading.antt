@@ -1,14 +1,17 @@
 -- What it is to read a file: one definition for the four kinds of file.
 -- SPECIFICATION, Order in a field: 5, 1 for the head, 2, 1 for the body, 3, 6, 4; fields are taken from the left.
 -- Assumes nothing.
-use mathlib.Core.Bool.{Bool, cond, _&&_}
+use mathlib.Core.Bool.{Bool, cond, not, _&&_}
 use mathlib.Core.List.{List}
 use Prim.Native.Nat.{ℕ, zero, suc, _+_, _*_}
-use lib.Dec.{leb, ltb}
+use lib.Dec.{leb, ltb, eqb}
 use lib.ListN.{length, getD, take, drop}
-use Rattle.fields.specs.declared.Due.{Due}
+use Rattle.theory.specs.Lists.{filter, some?}
 use Rattle.theory.specs.Result.{Result, got, refused, onward}
-use Rattle.fields.specs.Table.{among, rows}
+use Rattle.fields.specs.declared.File.{File}
+use Rattle.fields.specs.declared.Row.{Row}
+use Rattle.fields.specs.declared.Due.{Due}
+use Rattle.fields.specs.Table.{rows, allowed, in-set, rows-of}
 
 -- the number in two bytes, and in eight, the high one first
 abbrev pub word : List ℕ → ℕ → ℕ
@@ -23,14 +26,37 @@ pub data Field : Type 0 where
   wrong : ℕ → ℕ → Field
   body : ℕ → ℕ → Field
 
--- the tag is due, and the length is its own
-unfoldable pub fitting : Due → ℕ → ℕ → Bool
-fitting d t n = leb (d .lo) t && leb t (d .hi) && among rows (d .file) t n
+-- ---- what is due at a place: the rows of a set, as far as the table allows them in the file
+abbrev pub due-row? : Due → Row → Bool
+due-row? d r = in-set (d .rows) r && allowed r (d .file)
 
+unfoldable pub due-rows : Due → List Row
+due-rows d = filter (due-row? d) rows
+
+-- one of them has the tag; has the tag and the length
+unfoldable pub due-tag? : Due → ℕ → Bool
+due-tag? d t = some? (λ r. eqb (r .0) t) (due-rows d)
+
+unfoldable pub fitting : Due → ℕ → ℕ → Bool
+fitting d t n = some? (λ r. eqb (r .0) t && eqb (r .1) n) (due-rows d)
+
+-- what is due is the last that may follow, and the byte is no tag of it
+abbrev pub beyond? : Due → ℕ → Bool
+beyond? d t = d .closing && not (due-tag? d t)
+
+-- rows of a set, and whether the file may end; where it is full nothing is due, so that any byte is 5
+abbrev pub rows-due : File → ℕ → (complete full : Bool) → Due
+rows-due f m complete full = record { file = f; rows = cond full 0 m; complete = complete; closing = full }
+
+-- the same by tags
+abbrev pub tags-due : File → List ℕ → (complete full : Bool) → Due
+tags-due f ts complete full = rows-due f (rows-of ts) complete full
+
+-- ---- the field at a place
 unfoldable pub field-at : Due → List ℕ → ℕ → Field
 field-at d s at =
     cond (leb (length s) at) (cond (d .complete) ends (wrong 5 at))
-    (cond (d .full) (wrong 5 at)
+    (cond (beyond? d (getD s at 0)) (wrong 5 at)
     (cond (ltb (length s) (at + 3)) (wrong 1 at)
     (cond (fitting d (getD s at 0) (word s (at + 1)))
     (cond (ltb (length s) (at + 3 + word s (at + 1))) (wrong 1 at) (body (getD s at 0) (word s (at + 1))))

@@ -6,8 +6,8 @@ use Rattle.theory.specs.PathExpr.{forward, through, step, join}
 use Rattle.theory.specs.Merging.{Member, member}
 use Rattle.theory.specs.Result.{got, refused}
 use Rattle.fields.specs.Case.{Case, case, AllRead}
-use Rattle.fields.specs.Table.{among, rows}
-use Rattle.fields.specs.Reading.{eight, fitting, field-at, walk, read}
+use Rattle.fields.specs.Table.{rows, rows-of}
+use Rattle.fields.specs.Reading.{eight, due-rows, due-tag?, fitting, field-at, walk, read}
 use Rattle.symbols.specs.Symbols.{order-code, arity, step-of, operator-of, symbol-in, push}
 use Rattle.narrowed_question.specs.Form.{Flat, narrowed-form}
 use Rattle.narrowed_question.specs.Writing.{encode}
@@ -24,5 +24,5 @@ cases =
     ∷ []
 
 pub all-read : AllRead narrowed-form cases
-unfolding among rows eight fitting field-at walk read order-code arity step-of operator-of symbol-in push encode narrowed-file
+unfolding rows-of rows eight due-rows due-tag? fitting field-at walk read order-code arity step-of operator-of symbol-in push encode narrowed-file
 all-read = refl

@@ -12,11 +12,11 @@ use Rattle.theory.specs.PathExpr.{before?}
 use Rattle.fields.specs.declared.File.the-variants as file
 use Rattle.symbols.specs.declared.Stack.{Stack}
 use Rattle.theory.specs.Result.{got, refused, onward}
-use Rattle.fields.specs.Table.{rows, tag-length}
-use Rattle.fields.specs.Reading.{ends, body, field-at, word, eight, read}
+use Rattle.fields.specs.Table.{rows, rows-of}
+use Rattle.fields.specs.Reading.{ends, body, field-at, due-rows, word, eight, read}
 use Rattle.symbols.specs.Symbols.{Numbered, symbol-in, arity, push, due-symbols}
 use Rattle.fields.proofs.Bools.{onward-got, cond-then, not-got}
-use Rattle.fields.proofs.Fields.{found, body-length, one-due, ended}
+use Rattle.fields.proofs.Fields.{found, found-one, body-length, ended}
 use Rattle.symbols.proofs.InPath.{in-path}
 use Rattle.symbols.proofs.Symbols.{push-anywhere, push-got}
 use Rattle.fields.proofs.Accepted.{accepted-ind}
@@ -46,11 +46,11 @@ module _ (s : List ℕ) (h : Bytes s) where
 
   body-head : (at t n : ℕ) (st′ : State) (v : List Flat) → field-at (due head) s at ≡ body t n
       → head-of at (take n (drop (at + 3) s)) ≡ got st′ → Ahead s st′ (at + 3 + n) v → Ahead s head at v
-  unfolding tag-length rows
+  unfolding due-rows rows-of rows
   body-head at t n st′ v e j ih z =
       let b = take n (drop (at + 3) s) in
       let f = found (due head) s at t n e in
-      let o = one-due (due head) t n refl (f .fit) in
+      let o = found-one file.Narrowed (0x41 ∷ []) false false f .1 in
       let a = cond-then (leb (word b 0) 128) (not-got 3 at st′) j in
       let w : between (word b 0) [] [] ≡ st′ = cc (a .1) in
       let r = subst (λ (x : State). Ahead s x (at + 3 + n) v) (sym w) ih (f .room) in
@@ -65,14 +65,14 @@ module _ (s : List ℕ) (h : Bytes s) where
   body-between : (left : ℕ) (prev : List ℕ) (ms : List Flat) (at t n : ℕ) (st′ : State) (v : List Flat) → field-at (due (between left prev ms)) s at ≡ body t n
       → onward (λ o. got (within (left - 1) prev ms o)) (open-of at (take n (drop (at + 3) s))) ≡ got st′
       → Ahead s st′ (at + 3 + n) v → Ahead s (between left prev ms) at v
-  unfolding tag-length rows
+  unfolding due-rows rows-of rows
   body-between left prev ms at t n st′ v e j ih i =
       let b = take n (drop (at + 3) s) in
       let hb = body-bytes n (at + 3) in
       let d = due (between left prev ms) in
       let f = found d s at t n e in
-      let u = one-due d t n refl (f .fit) in
-      let hl : left ≡ 0 → ⊥ = eqb-false left 0 (f .more) in
+      let (more, u) = found-one file.Narrowed (0x42 ∷ []) (eqb left 0) (eqb left 0) f in
+      let hl : left ≡ 0 → ⊥ = eqb-false left 0 more in
       let (o, p, w) = onward-got (λ o. got (within (left - 1) prev ms o)) (open-of at b) st′ j in
       let k = open-known at b o p in
       let o₀ = open-as at (eight b 1) (eight b 9) (record { left = getD b 0 0; depth = 0 }) [] in

@@ -5,18 +5,18 @@ use mathlib.Core.Path.{_≡_, refl, ap, ap₂, _∙_, sym, subst}
 use mathlib.Core.Bool.{Bool, true, false, false≢true, cond}
 use mathlib.Core.List.{List, [], _∷_, _++_}
 use lib.ListN.{length, getD, take, drop, length-append}
-use lib.Dec.{leb}
+use lib.Dec.{leb, eqb}
 use native.Mathlib.Omega.{arith}
 use borrow.Author.Tests.{eqb-true, eqb-false, leb-true, eq-eqb, ne-eqb}
 use Rattle.theory.specs.PathExpr.{before?}
 use Rattle.fields.specs.declared.File.the-variants as file
 use Rattle.symbols.specs.declared.Stack.{Stack}
 use Rattle.theory.specs.Result.{got, refused}
-use Rattle.fields.specs.Table.{rows, tag-length}
-use Rattle.fields.specs.Reading.{ends, wrong, body, field-at, read, word, eight}
+use Rattle.fields.specs.Table.{rows, rows-of, tag-length}
+use Rattle.fields.specs.Reading.{ends, wrong, body, field-at, due-rows, read, word, eight}
 use Rattle.symbols.specs.Symbols.{Numbered, numbered, arity}
 use Rattle.fields.proofs.Bools.{and-left, and-right}
-use Rattle.fields.proofs.Fields.{found, body-length, one-due, ended}
+use Rattle.fields.proofs.Fields.{found, found-one, body-length, ended}
 use Rattle.symbols.proofs.InPath.{in-path}
 use Rattle.symbols.proofs.Symbols.{push-got}
 use Rattle.fields.proofs.ReaderLoop.{Going, going-start, going-ends, going-wrong, going-refused, going-more}
@@ -70,12 +70,13 @@ Opened st = (v : ℕ) → open-list st v ≡ v ∷ []
 
 -- a field that was found is ready to be judged
 pub field-ready : (s : List ℕ) (at u m : ℕ) (st : Standing) → Able st → field-at (due-of st) s at ≡ body u m → BodyReady st u (length (take m (drop (at + 3) s)))
-unfolding tag-length rows
-field-ready s at u m Head r e = let g = found (due-of Head) s at u m e in body-length g ∙ one-due (due-of Head) u m refl (g .fit) .1
+unfolding due-rows rows-of rows tag-length
+field-ready s at u m Head r e = let g = found (due-of Head) s at u m e in body-length g ∙ found-one file.Narrowed (0x41 ∷ []) false false g .1 .1
 field-ready s at u m (Between l) r e =
     let g = found (due-of (Between l)) s at u m e in
-    let h : l ≡ 0 → ⊥ = eqb-false l 0 (g .more) in
-    (body-length g ∙ one-due (due-of (Between l)) u m refl (g .fit) .1, omega arith)
+    let (left, o) = found-one file.Narrowed (0x42 ∷ []) (eqb l 0) (eqb l 0) g in
+    let h : l ≡ 0 → ⊥ = eqb-false l 0 left in
+    (body-length g ∙ o .1, omega arith)
 field-ready s at u m (Within l p q) r e = let g = in-path file.Narrowed q s at u m e in (g .long, (g .some, r))
 
 module _ (s : List ℕ) (at : ℕ) (P : List ℕ) (ms : List Flat) (f t : ℕ) (xs : List Numbered) where

@@ -11,8 +11,8 @@ use Rattle.theory.specs.PathExpr.{before?}
 use Rattle.fields.specs.declared.File.the-variants as file
 use Rattle.symbols.specs.declared.Stack.{Stack}
 use Rattle.theory.specs.Result.{Result, got}
-use Rattle.fields.specs.Table.{among, rows}
-use Rattle.fields.specs.Reading.{eight, fitting, read}
+use Rattle.fields.specs.Table.{rows, rows-of}
+use Rattle.fields.specs.Reading.{eight, due-rows, fitting, read}
 use Rattle.symbols.specs.Symbols.{Numbered, arity, push, due-symbols}
 use Rattle.symbols.proofs.Symbols.{push-got, push-anywhere}
 use Rattle.fields.proofs.ReaderLoop.{Going, going-start, going-ends, going-more}
@@ -28,12 +28,12 @@ use Rattle.symbols.proofs.Bytes.{symbol-fits, symbol-short, symbol-reads}
 use Rattle.narrowed_question.proofs.MembersAhead.{member-of, one-more}
 
 pub head-fits : fitting (due head) 0x41 2 ≡ true
-unfolding fitting among rows
+unfolding fitting due-rows rows-of rows
 head-fits = refl
 
-pub open-fits : (left : ℕ) (prev : List ℕ) (ms : List Flat) → fitting (due (between left prev ms)) 0x42 17 ≡ true
-unfolding fitting among rows
-open-fits left prev ms = refl
+pub open-fits : (left : ℕ) (prev : List ℕ) (ms : List Flat) → 0 < left → fitting (due (between left prev ms)) 0x42 17 ≡ true
+unfolding fitting due-rows rows-of rows
+open-fits left prev ms h = rw (ne-eqb left 0 (omega arith)) refl
 
 -- the member that its 42 opens
 abbrev pub opened : ℕ → Flat → Open
@@ -65,7 +65,7 @@ module _ (s : List ℕ) (A : Result (List Flat)) where
         let t = symbol-tag x in
         let b = symbol-body x in
         let n = length b in
-        let y = field-lies (due-symbols file.Narrowed (o .stack)) s at t b r e (symbol-short x) (ne-eqb (o .stack .left) 0 (omega arith)) (symbol-fits (o .stack) x) in
+        let y = field-lies (due-symbols file.Narrowed (o .stack)) s at t b r e (symbol-short x) (symbol-fits (o .stack) x l) in
         let j : judge (within left prev ms o) at (at + 3 + n) t (take n (drop (at + 3) s)) ≡ got st =
         rw (y .inner, symbol-reads at x f, push-anywhere (o .stack) 0 0 at (at + 3 + n) (arity (x .number)) q p) w in
         (at + 3 + n, going-more narrowed-form s A (within left prev ms o) at g t n (y .seen) st j, y .after)
@@ -97,7 +97,7 @@ module _ (s : List ℕ) (A : Result (List Flat)) where
     open-forth : (m : Flat) (at : ℕ) (r : List ℕ) → Formed m → Going narrowed-form s A (between (suc left) prev ms) at → drop at s ≡ head-bytes m ++ r
         → Reaches (within left prev ms (opened at m)) r
     open-forth m at r f g e =
-        let y = field-lies (due (between (suc left) prev ms)) s at 0x42 (head-body m) r e (omega arith) (ne-eqb (suc left) 0 (omega arith)) (open-fits (suc left) prev ms) in
+        let y = field-lies (due (between (suc left) prev ms)) s at 0x42 (head-body m) r e (omega arith) (open-fits (suc left) prev ms (omega arith)) in
         let i : suc left - 1 ≡ left = omega arith in
         let j : judge (between (suc left) prev ms) at (at + 3 + 17) 0x42 (take 17 (drop (at + 3) s)) ≡ got (within left prev ms (opened at m)) =
         rw (y .inner, le-leb 1 (length (m .symbols)) (f .some), le-leb (length (m .symbols)) 48 (f .few), from-back m, to-back m) (ap (λ (k : ℕ). got (within k prev ms (opened at m))) i) in
@@ -118,7 +118,7 @@ unfolding encode
 read-encode v w =
     let s = encode v in
     let A = read narrowed-form s in
-    let y = field-lies (due head) s 0 0x41 (two-bytes (length v)) (members-bytes v) refl (omega arith) refl head-fits in
+    let y = field-lies (due head) s 0 0x41 (two-bytes (length v)) (members-bytes v) refl (omega arith) head-fits in
     let h = word-back (length v) in
     let j : judge head 0 5 0x41 (take 2 (drop 3 s)) ≡ got (between (length v) [] []) = rw (h, le-leb (length v) 128 (w .few)) in
     members-forth s A v [] [] 5 (going-more narrowed-form s A head 0 (going-start narrowed-form s) 0x41 2 (y .seen) (between (length v) [] []) j) (y .after) (w .in-order)

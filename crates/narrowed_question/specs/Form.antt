@@ -11,7 +11,7 @@ use Rattle.fields.specs.declared.File.the-variants as file
 use Rattle.fields.specs.declared.Due.{Due}
 use Rattle.symbols.specs.declared.Stack.{Stack}
 use Rattle.theory.specs.Result.{Result, got, refused, onward}
-use Rattle.fields.specs.Reading.{Form, word, eight}
+use Rattle.fields.specs.Reading.{Form, tags-due, word, eight}
 use Rattle.symbols.specs.Symbols.{Numbered, order-code, symbol-in, arity, push, due-symbols}
 
 -- a member as its file has it: from set, to set, and its symbols in postfix order
@@ -51,8 +51,8 @@ pub data State : Type 0 where
   within : (left : ℕ) (prev : List ℕ) → List Flat → Open → State
 
 abbrev pub due : State → Due
-due head = record { file = file.Narrowed; lo = 0x41; hi = 0x41; complete = false; full = false }
-due (between left prev ms) = record { file = file.Narrowed; lo = 0x42; hi = 0x42; complete = eqb left 0; full = eqb left 0 }
+due head = tags-due file.Narrowed (0x41 ∷ []) false false
+due (between left prev ms) = tags-due file.Narrowed (0x42 ∷ []) (eqb left 0) (eqb left 0)
 due (within left prev ms o) = due-symbols file.Narrowed (o .stack)
 
 -- 41: the number of members, 0 to 128; refusal 3

@@ -2,7 +2,7 @@
 -- Assumes nothing.
 use mathlib.Core.Path.{_≡_}
 use mathlib.Core.Bool.{false, cond, _&&_}
-use mathlib.Core.List.{List}
+use mathlib.Core.List.{List, [], _∷_}
 use Prim.Native.Nat.{ℕ, _+_, _-_, _<_}
 use lib.Dec.{leb, eqb}
 use lib.ListN.{getD, take, drop}
@@ -11,7 +11,7 @@ use Rattle.fields.specs.declared.Due.{Due}
 use Rattle.symbols.specs.declared.Stack.{Stack}
 use Rattle.fields.specs.Table.{tag-length}
 use Rattle.theory.specs.Result.{Result, got, refused, onward}
-use Rattle.fields.specs.Reading.{Field, field-at, word, eight}
+use Rattle.fields.specs.Reading.{Field, field-at, tags-due, word, eight}
 use Rattle.fields.specs.Reading as field
 use Rattle.fields.specs.Contract.{refusal-said}
 use Rattle.symbols.specs.Symbols.{Numbered, symbol-in, symbol-length, arity, push, due-symbols}
@@ -22,8 +22,8 @@ use Rattle.narrowed_question.specs.declared.Turn.{Turn}
 use Rattle.narrowed_question.specs.declared.Turn.the-variants as turn
 
 abbrev pub due-of : Standing → Due
-due-of Head = record { file = file.Narrowed; lo = 0x41; hi = 0x41; complete = false; full = false }
-due-of (Between l) = record { file = file.Narrowed; lo = 0x42; hi = 0x42; complete = eqb l 0; full = eqb l 0 }
+due-of Head = tags-due file.Narrowed (0x41 ∷ []) false false
+due-of (Between l) = tags-due file.Narrowed (0x42 ∷ []) (eqb l 0) (eqb l 0)
 due-of (Within l p q) = due-symbols file.Narrowed q
 
 -- what a field does: the file ends before it; it goes on; it opens a member of the given number of symbols with these sets; a symbol, with its set; a member's last symbol

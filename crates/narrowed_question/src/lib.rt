@@ -89,22 +89,10 @@ fn due(st: Standing) -> Due
     ensures { λ r. ⌜ r ≡ due-of st ⌝ }
 {
     match st {
-        Standing::Head => Due {
-            file: File::Narrowed,
-            lo: fields::NARROWED_TAG,
-            hi: fields::NARROWED_TAG,
-            complete: false,
-            full: false,
-        },
+        Standing::Head => fields::rows_due(File::Narrowed, fields::NARROWED_ROW, false, false),
         Standing::Between(l) => {
             let full = l == 0;
-            Due {
-                file: File::Narrowed,
-                lo: fields::MEMBER_TAG,
-                hi: fields::MEMBER_TAG,
-                complete: full,
-                full,
-            }
+            fields::rows_due(File::Narrowed, fields::MEMBER_ROW, full, full)
         }
         Standing::Within(_, _, q) => symbols::symbols_due(File::Narrowed, q),
     }

@@ -2,7 +2,7 @@
 -- Assumes nothing.
 use Prim.Native.Nat.{ℕ, _+_, _<_, _≤_}
 use mathlib.Core.Path.{_≡_, refl, ap, ap₂, _∙_, sym, subst}
-use mathlib.Core.Bool.{true, false≢true, _&&_}
+use mathlib.Core.Bool.{true, false, false≢true, _&&_}
 use mathlib.Core.List.{List, [], _∷_, _++_}
 use lib.ListN.{length, getD, take, drop, set, replicate, length-append}
 use lib.Dec.{leb}
@@ -11,11 +11,11 @@ use borrow.Author.Tests.{leb-true}
 use Rattle.fields.specs.declared.File.the-variants as file
 use Rattle.symbols.specs.declared.Stack.{Stack}
 use Rattle.theory.specs.Result.{got, refused, onward}
-use Rattle.fields.specs.Table.{rows, tag-length}
-use Rattle.fields.specs.Reading.{ends, wrong, body, field-at, read}
+use Rattle.fields.specs.Table.{rows, rows-of, tag-length}
+use Rattle.fields.specs.Reading.{ends, wrong, body, field-at, due-rows, read}
 use Rattle.symbols.specs.Symbols.{symbol-in, push, arity}
 use Rattle.fields.proofs.Bools.{onward-got, refused-too, not-refused, cond-then, not-got, and-right}
-use Rattle.fields.proofs.Fields.{found, body-length, one-due, ended}
+use Rattle.fields.proofs.Fields.{found, found-one, body-length, ended}
 use Rattle.symbols.proofs.InPath.{in-path}
 use Rattle.fields.proofs.ReaderLoop.{Going, going-start, going-ends, going-wrong, going-refused, going-more}
 use Rattle.fields.specs.Padded.{padded}
@@ -69,8 +69,8 @@ module _ (s : List ℕ) (at count : ℕ) (code : List ℕ) where
 
   module _ (t m : ℕ) where
     pub reading-ready : (st : Standing) → Reading s st at count code → field-at (due-of st) s at ≡ body t m → BodyReady st t (length (take m (drop (at + 3) s)))
-    unfolding tag-length rows
-    reading-ready Head r e = let f = found due-head s at t m e in body-length f ∙ one-due due-head t m refl (f .fit) .1
+    unfolding due-rows rows-of rows tag-length
+    reading-ready Head r e = let f = found due-head s at t m e in body-length f ∙ found-one file.Question (0x21 ∷ []) false false f .1 .1
     reading-ready (Within q) r e = let f = in-path file.Question q s at t m e in (f .long, (f .some, omega (arith, r .holds .1, r .holds .2)))
 
     -- the definition's judgement is the code's, with the symbols

@@ -2,11 +2,11 @@
 -- Assumes nothing.
 use Prim.Native.Nat.{ℕ, zero, suc, _+_, _<_, _≤_}
 use mathlib.Core.Path.{_≡_, refl, ap, ap₂, _∙_, sym, subst}
-use mathlib.Core.Logic.{inl}
-use mathlib.Core.Bool.{true, false≢true, _&&_}
+use mathlib.Core.Logic.{inl, ⊎-elim}
+use mathlib.Core.Bool.{false≢true, _&&_}
 use mathlib.Core.List.{List, [], _∷_, _++_, map, append-assoc, append-nil}
 use mathlib.Core.Option.{some}
-use lib.Dec.{T, leb, lt→ltb}
+use lib.Dec.{T, leb, eqb, lt→ltb}
 use lib.ListN.{length, getD, take, drop, length-map}
 use native.Mathlib.Omega.{arith}
 use borrow.Author.Tests.{eqb-true, leb-true}
@@ -17,12 +17,11 @@ use Rattle.theory.proofs.Postfix.{postfix-path-of}
 use Rattle.fields.specs.declared.File.the-variants as file
 use Rattle.symbols.specs.declared.Stack.{Stack}
 use Rattle.theory.specs.Result.{got}
-use Rattle.fields.specs.Table.{rows, among, tag-length}
-use Rattle.fields.specs.Reading.{ends, body, field-at, fitting, read}
+use Rattle.fields.specs.Table.{rows, rows-of}
+use Rattle.fields.specs.Reading.{ends, body, field-at, due-rows, read}
 use Rattle.symbols.specs.Symbols.{Numbered, numbered, symbol-in, symbol-numbered, number-symbol, arity, push, due-symbols, Runs}
 use Rattle.fields.proofs.Bools.{onward-got, cond-then, not-got, and-left, and-right}
-use Rattle.fields.proofs.Rows.{own-length}
-use Rattle.fields.proofs.Fields.{found, ended}
+use Rattle.fields.proofs.Fields.{Found, found, found-one, ended}
 use Rattle.symbols.proofs.InPath.{in-path}
 use Rattle.fields.proofs.Accepted.{accepted-ind}
 use Rattle.symbols.proofs.Symbols.{symbol-plain, push-got, push-anywhere}
@@ -32,12 +31,11 @@ use Rattle.question.specs.Form.{State, head, within, question-form, due,
 use Rattle.question.specs.Writing.{numbered-codes}
 
 -- field 45 is not a question's
-no-through : (q : Stack) (t n : ℕ) → fitting (due-symbols file.Question q) t n ≡ true → t ≡ 0x45 → ⊥
-unfolding fitting among rows tag-length
-no-through q t n e h =
-    let a = and-right (leb 0x43 t && leb t 0x45) (among rows file.Question t n) e in
-    let l : n ≡ 8 = own-length file.Question t n a ∙ ap tag-length h in
-    false≢true (subst (λ (m : ℕ). among rows file.Question 0x45 m ≡ true) l (subst (λ (u : ℕ). among rows file.Question u n ≡ true) h a))
+no-through : (q : Stack) (s : List ℕ) (at t n : ℕ) → Found (due-symbols file.Question q) s at t n → t ≡ 0x45 → ⊥
+unfolding due-rows rows-of rows
+no-through q s at t n r h =
+    let (b, o) = found-one file.Question (0x43 ∷ 0x44 ∷ 0x45 ∷ []) (eqb (q .left) 0) (eqb (q .left) 0) r in
+    ⊎-elim (λ x. omega (arith, x .0)) (λ x. omega (arith, x .0)) o
 
 -- each is a symbol without a set
 abbrev pub Small : List ℕ → Type 0
@@ -74,7 +72,7 @@ module _ (s : List ℕ) where
   body-within q cs at t n st′ v e j ih =
       let b = take n (drop (at + 3) s) in
       let f = in-path file.Question q s at t n e in
-      let h = no-through q t n (found (due (within q cs)) s at t n e .fit) in
+      let h = no-through q s at t n (found (due (within q cs)) s at t n e) in
       let (x, hx, j′) = onward-got (one-more q cs at (at + 3 + n)) (symbol-in at t b) st′ j in
       let (q′, hq, w) = onward-got (λ p. got (within p (cs ++ (x .number ∷ [])))) (push q at (at + 3 + n) (arity (x .number))) st′ j′ in
       let w′ : within q′ (cs ++ (x .number ∷ [])) ≡ st′ = cc w in

@@ -1,8 +1,8 @@
 -- The codes that were read from a file of bytes, written, are that file: `question-bytes cs ≡ s`.
 -- Assumes nothing.
-use mathlib.Core.Path.{_≡_, refl, sym, ap, _∙_, subst}
+use mathlib.Core.Path.{_≡_, sym, ap, _∙_, subst}
 use mathlib.Core.Logic.{inl, inr}
-use mathlib.Core.Bool.{false≢true, _&&_}
+use mathlib.Core.Bool.{false, false≢true, _&&_}
 use mathlib.Core.List.{List, [], _∷_, _++_, append-assoc, append-nil}
 use Prim.Native.Nat.{ℕ, suc, _+_, _<_}
 use native.Mathlib.Omega.{arith}
@@ -13,11 +13,11 @@ use borrow.Author.Tests.{eqb-true}
 use Rattle.fields.specs.declared.File.the-variants as file
 use Rattle.symbols.specs.declared.Stack.{Stack}
 use Rattle.theory.specs.Result.{got}
-use Rattle.fields.specs.Table.{rows, tag-length}
-use Rattle.fields.specs.Reading.{ends, body, field-at, read}
+use Rattle.fields.specs.Table.{rows, rows-of}
+use Rattle.fields.specs.Reading.{ends, body, field-at, due-rows, read}
 use Rattle.symbols.specs.Symbols.{Numbered, numbered, symbol-in, arity, push, Fine}
 use Rattle.fields.proofs.Bools.{onward-got, cond-then, not-got}
-use Rattle.fields.proofs.Fields.{found, body-length, one-due, ended}
+use Rattle.fields.proofs.Fields.{found, found-one, body-length, ended}
 use Rattle.symbols.proofs.InPath.{in-path}
 use Rattle.symbols.proofs.Symbols.{push-got}
 use Rattle.fields.proofs.Accepted.{accepted-ind}
@@ -49,11 +49,11 @@ module _ (s : List ℕ) (h : Bytes s) where
 
   body-head : (at t n : ℕ) (st′ : State) (v : List ℕ) → field-at (due head) s at ≡ body t n → judge head at (at + 3 + n) t (take n (drop (at + 3) s)) ≡ got st′ → Ahead st′ (at + 3 + n) v
       → Ahead head at v
-  unfolding head-of tag-length rows question-bytes
+  unfolding head-of due-rows rows-of rows question-bytes
   body-head at t n st′ v e j ih known =
       let b = take n (drop (at + 3) s) in
       let f = found (due head) s at t n e in
-      let o = one-due (due head) t n refl (f .fit) in
+      let o = found-one file.Question (0x21 ∷ []) false false f .1 in
       let (m, hm, w) = onward-got (λ m. got (fresh m)) (head-of at b) st′ j in
       let k = cond-then (leb 1 (getD b 0 0) && leb (getD b 0 0) 32) (not-got 3 at m) hm in
       let z : getD b 0 0 ≡ m = cc (k .1) in

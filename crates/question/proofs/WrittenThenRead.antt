@@ -1,7 +1,7 @@
 -- What is written of a question's path is read as its codes, which ask for that path.
 -- Assumes nothing.
 use mathlib.Core.Path.{_≡_, refl, sym, ap, ap₂, _∙_, subst}
-use mathlib.Core.Bool.{true}
+use mathlib.Core.Bool.{true, false}
 use mathlib.Core.List.{List, [], _∷_, _++_, map, append-assoc, append-nil}
 use mathlib.Core.Option.{some}
 use Prim.Native.Nat.{ℕ, _+_, _<_, _≤_}
@@ -19,8 +19,8 @@ use Rattle.theory.proofs.Members.{plain-sets}
 use Rattle.theory.proofs.Walks.{size-pos}
 use Rattle.fields.specs.declared.File.the-variants as file
 use Rattle.theory.specs.Result.{Result, got}
-use Rattle.fields.specs.Table.{among, rows}
-use Rattle.fields.specs.Reading.{fitting, read}
+use Rattle.fields.specs.Table.{rows, rows-of}
+use Rattle.fields.specs.Reading.{due-rows, tags-due, fitting, read}
 use Rattle.fields.proofs.ReaderLoop.{Going, going-start, going-ends, going-more}
 use Rattle.fields.proofs.Lies.{field-lies, ends-lie}
 use Rattle.symbols.specs.declared.Stack.{Stack}
@@ -69,11 +69,11 @@ asked-numbers (s ∷ ss) h =
     (ap₂ (λ (y : Numbered) (l : List Numbered). y ∷ l) (x .0) (r .0), (x .1, r .1))
 
 -- ---- their bytes are read as these codes
-code-fits : (q : Stack) (c : ℕ) → c < 134 → fitting (due-symbols file.Question q) (symbol-tag (numbered c 0)) (length (symbol-body (numbered c 0))) ≡ true
-unfolding fitting among rows
-code-fits q c h = go (decLe 128 c)
+code-fits : (q : Stack) (c : ℕ) → 0 < q .left → c < 134 → fitting (due-symbols file.Question q) (symbol-tag (numbered c 0)) (length (symbol-body (numbered c 0))) ≡ true
+unfolding fitting due-rows rows-of rows
+code-fits q c l h = rw (ne-eqb (q .left) 0 (omega arith)) (go (decLe 128 c))
   where
-    go : Dec (128 ≤ c) → fitting (due-symbols file.Question q) (symbol-tag (numbered c 0)) (length (symbol-body (numbered c 0))) ≡ true
+    go : Dec (128 ≤ c) → fitting (tags-due file.Question (0x43 ∷ 0x44 ∷ 0x45 ∷ []) false false) (symbol-tag (numbered c 0)) (length (symbol-body (numbered c 0))) ≡ true
     go (yes l) = rw (le-ltb c 128 l, ne-eqb c 255 (omega arith))
     go (no l) = rw (lt-ltb c 128 (omega arith))
 
@@ -89,7 +89,7 @@ module _ (s : List ℕ) (A : Result (List ℕ)) where
       let n = length b in
       let q′ = u .1 .0 in
       let hq = push-got q 0 0 (arity y) q′ (u .1 .1) .0 in
-      let f = field-lies (due-symbols file.Question q) s at t b (symbols-bytes (numbered-codes ys)) e (symbol-short x) (ne-eqb (q .left) 0 (λ z. omega arith)) (code-fits q y (small .0)) in
+      let f = field-lies (due-symbols file.Question q) s at t b (symbols-bytes (numbered-codes ys)) e (symbol-short x) (code-fits q y (omega arith) (small .0)) in
       let st = within q′ (cs ++ (y ∷ [])) in
       let j : judge (within q cs) at (at + 3 + n) t (take n (drop (at + 3) s)) ≡ got st =
       rw (f .inner, symbol-reads at x (u .0), push-anywhere q 0 0 at (at + 3 + n) (arity y) q′ (u .1 .1)) in
@@ -97,7 +97,7 @@ module _ (s : List ℕ) (A : Result (List ℕ)) where
       ∙ ap got (append-assoc cs (y ∷ []) ys)
 
 head-fits : fitting (due head) 0x21 1 ≡ true
-unfolding fitting among rows
+unfolding fitting due-rows rows-of rows
 head-fits = refl
 
 read-codes : (cs : List ℕ) → 1 ≤ length cs → length cs ≤ 32 → Runs (record { left = length cs; depth = 0 }) (numbered-codes cs) → Small cs → read question-form (question-bytes cs) ≡ got cs
@@ -106,7 +106,7 @@ read-codes cs any-code few runs small =
     let s = question-bytes cs in
     let A = read question-form s in
     let n = length cs in
-    let f = field-lies (due head) s 0 0x21 (n ∷ []) (symbols-bytes (numbered-codes cs)) refl (omega arith) refl head-fits in
+    let f = field-lies (due head) s 0 0x21 (n ∷ []) (symbols-bytes (numbered-codes cs)) refl (omega arith) head-fits in
     let j : judge head 0 4 0x21 (take 1 (drop 3 s)) ≡ got (fresh n) = rw (le-leb 1 n any-code, le-leb n 32 few) in
     symbols-forth s A cs (record { left = n; depth = 0 }) [] 4 (going-more question-form s A head 0 (going-start question-form s) 0x21 1 (f .seen) (fresh n) j) (f .after) runs small refl
 

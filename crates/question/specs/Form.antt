@@ -11,7 +11,7 @@ use Rattle.fields.specs.declared.File.the-variants as file
 use Rattle.fields.specs.declared.Due.{Due}
 use Rattle.symbols.specs.declared.Stack.{Stack}
 use Rattle.theory.specs.Result.{Result, got, refused, onward}
-use Rattle.fields.specs.Reading.{Form}
+use Rattle.fields.specs.Reading.{tags-due, Form}
 use Rattle.symbols.specs.Symbols.{Numbered, symbol-numbered, symbol-in, arity, push, due-symbols}
 
 -- the head is due; or a path is being read, with the codes of its symbols so far
@@ -20,7 +20,7 @@ pub data State : Type 0 where
   within : Stack → List ℕ → State
 
 abbrev pub due-head : Due
-due-head = record { file = file.Question; lo = 0x21; hi = 0x21; complete = false; full = false }
+due-head = tags-due file.Question (0x21 ∷ []) false false
 
 abbrev pub due : State → Due
 due head = due-head

@@ -50,13 +50,7 @@ fn due(st: Standing) -> Due
     ensures { λ r. ⌜ r ≡ due-of st ⌝ }
 {
     match st {
-        Standing::Head => Due {
-            file: File::Question,
-            lo: fields::QUESTION_TAG,
-            hi: fields::QUESTION_TAG,
-            complete: false,
-            full: false,
-        },
+        Standing::Head => fields::rows_due(File::Question, fields::QUESTION_ROW, false, false),
         Standing::Within(q) => symbols::symbols_due(File::Question, q),
     }
 }

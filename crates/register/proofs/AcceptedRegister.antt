@@ -15,11 +15,12 @@ use Rattle.theory.proofs.Lists.{every-in}
 use Rattle.theory.specs.Result.{Result, got, refused}
 use Rattle.fields.specs.Reading.{read}
 use Rattle.fields.proofs.Bools.{and-left, and-right}
-use Rattle.fields.proofs.Fields.{found, ended}
+use Rattle.fields.proofs.Fields.{ended}
 use Rattle.fields.proofs.Accepted.{accepted-ind}
 use Rattle.register.specs.Form.{State, start, within, due, value, register-form, value-of, register-in, kind?, link?}
 use Rattle.register.specs.Contract.{sizes, sized}
 use Rattle.register.specs.LinksAhead.{Accepted}
+use Rattle.register.proofs.Fields.{still-due}
 use Rattle.register.proofs.Sound.{SoundState, sound-more}
 
 pub record Limits (r : Register) : Type 0 where
@@ -68,7 +69,7 @@ unfolding read
 accepted-register s r e =
     accepted-ind register-form s (λ st at v. SoundState st → Limits v)
     (λ st at f. sound-limits st (ended (due st) s at f .may))
-    (λ st at t n st′ v f j ih w. ih (sound-more st at (at + 3 + n) t (take n (drop (at + 3) s)) st′ (found (due st) s at t n f .more) j w))
+    (λ st at t n st′ v f j ih w. ih (sound-more st at (at + 3 + n) t (take n (drop (at + 3) s)) st′ (still-due st s at t n f) j w))
     (suc (length s)) start 0 r e tt
 
 -- what the reader's answer says of the register in the file

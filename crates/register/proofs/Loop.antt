@@ -20,7 +20,7 @@ use Rattle.register.specs.declared.Position.the-variants.{Start, Within}
 use Rattle.register.specs.Form.{State, start, within, due, judge, value, register-form, kind-of, link-of, edge-of}
 use Rattle.register.specs.Contract.{entry-of, sizes, sized}
 use Rattle.register.specs.Internal.{due-of, judged, BodyReady, sizes-of}
-use Rattle.register.proofs.Fields.{ready}
+use Rattle.register.proofs.Fields.{still-due, ready}
 use Rattle.register.proofs.Sound.{SoundState, sound-more}
 
 abbrev state-of : Position → List ℕ → List Edge → State
@@ -98,5 +98,5 @@ module _ (s : List ℕ) (st : Position) (at : ℕ) (r : Reading s st at) where
           kinds = kinds-then st (r .kinds) b;
           links = links-then st (r .links) b;
           going = going-more register-form s _ _ at (r .going) t n f _ g;
-          sound = sound-more (state-of st (r .kinds) (r .links)) at (at + 3 + n) t b _ (found _ s at t n f .more) g (r .sound);
+          sound = sound-more (state-of st (r .kinds) (r .links)) at (at + 3 + n) t b _ (still-due (state-of st (r .kinds) (r .links)) s at t n f) g (r .sound);
         }

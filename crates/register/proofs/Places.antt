@@ -20,7 +20,7 @@ use Rattle.register.specs.declared.Links as declared·Links
 use Rattle.register.specs.declared.NextLink.the-variants as next-link
 use Rattle.register.specs.Form.{State, start, within, due, due-head, due-entry, judge, value, register-form, value-of, register-in, edge-of, after-head}
 use Rattle.register.specs.LinksAhead.{Accepted, cursor-at, OnLinks, to-come, handed}
-use Rattle.register.proofs.Fields.{head-length, entry-length}
+use Rattle.register.proofs.Fields.{head-length, entry-due, entry-length}
 use Rattle.register.proofs.Walk.{to-come-length}
 use Rattle.register.proofs.Sound.{by-head, by-entry, head-got, kind-got, link-got}
 
@@ -154,7 +154,7 @@ module _ (s : List ℕ) where
   at-body (within q ks es) at t n st′ v e j ih = λ inside.
       let f = found (due-entry q) s at t n e in
       let b = take n (drop (at + 3) s) in
-      by-entry (λ x. Ends s x (at + 3 + n) v → Rest s q ks es at v) q ks es at (at + 3 + n) t b st′ (f .more) j
+      by-entry (λ x. Ends s x (at + 3 + n) v → Rest s q ks es at v) q ks es at (at + 3 + n) t b st′ (entry-due q s at t n e) j
       (λ q′ k l g r.
       let h = link-got q at b q′ g .1 in
       let hn : n ≡ 5 = entry-length q s at t n e ∙ simp (eq-eqb _ _ k) in

@@ -42,7 +42,7 @@ link-got q at b q′ e =
 
 -- a field within the file is a link or a kind, and there is one due
 pub by-entry : (P : State → Type 0) (q : Progress) (ks : List ℕ) (es : List Edge) (at next t : ℕ) (b : List ℕ) (st : State)
-    → due (within q ks es) .full ≡ false → judge (within q ks es) at next t b ≡ got st
+    → due (within q ks es) .closing ≡ false → judge (within q ks es) at next t b ≡ got st
     → ((q′ : Progress) → q .kindless ≡ 0 → 0 < q .left → link-of q at b ≡ got q′ → P (within q′ ks (es ++ (edge-of b ∷ []))))
     → ((q′ : Progress) → 0 < q .kindless → kind-of q at b ≡ got q′ → P (within q′ (ks ++ (getD b 0 0 ∷ [])) es))
     → P st
@@ -86,7 +86,7 @@ every-snoc : {A : Type 0} (f : A → Bool) (xs : List A) (x : A) → every? f xs
 every-snoc f [] x e h = rw h
 every-snoc f (y ∷ ys) x e h = rw (and-left (f y) (every? f ys) e, every-snoc f ys x (and-right (f y) (every? f ys) e) h)
 
-pub sound-more : (st : State) (at next t : ℕ) (b : List ℕ) (st′ : State) → due st .full ≡ false → judge st at next t b ≡ got st′ → SoundState st → SoundState st′
+pub sound-more : (st : State) (at next t : ℕ) (b : List ℕ) (st′ : State) → due st .closing ≡ false → judge st at next t b ≡ got st′ → SoundState st → SoundState st′
 sound-more start at next t b st′ m j w =
     by-head SoundState at next t b st′ j (λ q g.
     let h = head-got at b q g in

@@ -10,7 +10,7 @@ use Rattle.theory.specs.Register.{Edge, edge, Register}
 use Rattle.fields.specs.declared.File.the-variants as file
 use Rattle.fields.specs.declared.Due.{Due}
 use Rattle.theory.specs.Result.{Result, got, refused, onward}
-use Rattle.fields.specs.Reading.{Form, word, read}
+use Rattle.fields.specs.Reading.{Form, word, tags-due, read}
 use Rattle.register.specs.declared.Progress.{Progress}
 
 -- 31 is due; or a 32 or 33, with the kinds and links so far. `Progress` has the numbers of records and links, of records whose kind is due, of
@@ -20,7 +20,7 @@ pub data State : Type 0 where
   within : Progress → List ℕ → List Edge → State
 
 abbrev pub due-head : Due
-due-head = record { file = file.Register; lo = 0x31; hi = 0x31; complete = false; full = false }
+due-head = tags-due file.Register (0x31 ∷ []) false false
 
 -- the kinds first
 abbrev pub due-tag : Progress → ℕ
@@ -30,7 +30,7 @@ abbrev pub complete? : Progress → Bool
 complete? q = eqb (q .kindless) 0 && eqb (q .left) 0
 
 abbrev pub due-entry : Progress → Due
-due-entry q = record { file = file.Register; lo = due-tag q; hi = due-tag q; complete = complete? q; full = complete? q }
+due-entry q = tags-due file.Register (due-tag q ∷ []) (complete? q) (complete? q)
 
 -- 31: the numbers of records and links; refusal 3
 abbrev pub after-head : List ℕ → Progress

@@ -191,31 +191,13 @@ fn due_at(st: Position) -> Due
     ensures { λ r. ⌜ r ≡ due-of st ⌝ }
 {
     match st {
-        Position::Start => Due {
-            file: File::Register,
-            lo: fields::REGISTER_TAG,
-            hi: fields::REGISTER_TAG,
-            complete: false,
-            full: false,
-        },
+        Position::Start => fields::rows_due(File::Register, fields::REGISTER_ROW, false, false),
         Position::Within(q) => {
             if q.kindless == 0 {
                 let full = q.left == 0;
-                return Due {
-                    file: File::Register,
-                    lo: fields::LINK_TAG,
-                    hi: fields::LINK_TAG,
-                    complete: full,
-                    full,
-                };
+                return fields::rows_due(File::Register, fields::LINK_ROW, full, full);
             }
-            Due {
-                file: File::Register,
-                lo: fields::KIND_TAG,
-                hi: fields::KIND_TAG,
-                complete: false,
-                full: false,
-            }
+            fields::rows_due(File::Register, fields::KIND_ROW, false, false)
         }
     }
 }

@@ -1,24 +1,25 @@
 -- The loop over a sheet's fields, which fills the table: what holds at its head, and a law for each way out.
 -- Assumes nothing.
 use mathlib.Core.Path.{_≡_, refl, ap, sym, subst, _∙_}
-use mathlib.Core.Bool.{false≢true}
+use mathlib.Core.Bool.{true, false, false≢true}
 use mathlib.Core.List.{List, [], _∷_, _++_}
 use Prim.Native.Nat.{ℕ, _+_, _≤_, _<_}
 use native.Mathlib.Omega.{arith}
-use lib.Dec.{T, ltb→lt}
+use lib.Dec.{T, eqb, ltb→lt}
 use lib.ListN.{length, take, drop, replicate}
 use borrow.Author.Tests.{eqb-false}
 use Rattle.theory.specs.Register.{Edge}
 use Rattle.theory.specs.Sheet.{Sheet, sheet?}
 use Rattle.theory.proofs.Tests.{tests}
 use Rattle.theory.proofs.Sheet.{kinds-fit, names-fit}
+use Rattle.fields.specs.declared.File.the-variants as file
 use Rattle.fields.specs.declared.Refusal.{Refusal}
 use Rattle.theory.specs.Result.{Result, got, refused, onward}
-use Rattle.fields.specs.Reading.{ends, wrong, body, field-at, read}
-use Rattle.fields.specs.Table.{tag-length, rows}
+use Rattle.fields.specs.Reading.{ends, wrong, body, field-at, due-rows, read}
+use Rattle.fields.specs.Table.{tag-length, rows, rows-of}
 use Rattle.fields.specs.Contract.{refusal-said}
 use Rattle.fields.proofs.Bools.{onward-got, refused-too, not-refused}
-use Rattle.fields.proofs.Fields.{found, body-length, one-due, ended}
+use Rattle.fields.proofs.Fields.{found, found-one, body-length, ended}
 use Rattle.fields.proofs.ReaderLoop.{Going, going-start, going-ends, going-wrong, going-refused, going-more}
 use Rattle.sheet.specs.declared.Outcome.{Outcome}
 use Rattle.sheet.specs.declared.Outcome.the-variants as outcome
@@ -71,12 +72,13 @@ module _ (s : List ℕ) (at : ℕ) (table : List ℕ) where
 
   module _ (t n : ℕ) where
     pub progress-ready : (st : Standing) → Progress s st at table → field-at (due-of st) s at ≡ body t n → BodyReady st (length (take n (drop (at + 3) s)))
-    unfolding tag-length rows
-    progress-ready Head p e = let f = found due-head s at t n e in body-length f ∙ one-due due-head t n refl (f .fit) .1
+    unfolding due-rows rows-of rows tag-length
+    progress-ready Head p e = let f = found due-head s at t n e in body-length f ∙ found-one file.Sheet (0x11 ∷ []) false false f .1 .1
     progress-ready (Within q) p e =
         let f = found (due-triple q) s at t n e in
-        let h : q .count ≡ 512 → ⊥ = eqb-false (q .count) 512 (f .more) in
-        (body-length f ∙ one-due (due-triple q) t n refl (f .fit) .1, omega (arith, p .holds .1))
+        let o = found-one file.Sheet (0x12 ∷ []) true (eqb (q .count) 512) f in
+        let h : q .count ≡ 512 → ⊥ = eqb-false (q .count) 512 (o .0) in
+        (body-length f ∙ o .1 .1, omega (arith, p .holds .1))
 
     stops : (st : Standing) (es : List Edge) (i j : ℕ) (b : List ℕ) → judged st at b ≡ refused i j → judge (state-of st es) at (at + 3 + n) t b ≡ refused i j
     stops Head es i j b h = refused-too (λ q. got (go q)) (λ q. got (within q [])) i j (head-of at b) (λ q. not-refused (go q) i j) h

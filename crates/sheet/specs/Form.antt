@@ -11,7 +11,7 @@ use Rattle.theory.specs.Sheet.{Sheet}
 use Rattle.fields.specs.declared.File.the-variants as file
 use Rattle.fields.specs.declared.Due.{Due}
 use Rattle.theory.specs.Result.{Result, got, refused, onward}
-use Rattle.fields.specs.Reading.{Form}
+use Rattle.fields.specs.Reading.{tags-due, Form}
 use Rattle.sheet.specs.declared.Triples.{Triples}
 
 -- the head is due; or triples are, with those so far. `Triples` has the numbers of kinds, of links, of triples so far, and
@@ -21,10 +21,10 @@ pub data State : Type 0 where
   within : Triples → List Edge → State
 
 abbrev pub due-head : Due
-due-head = record { file = file.Sheet; lo = 0x11; hi = 0x11; complete = false; full = false }
+due-head = tags-due file.Sheet (0x11 ∷ []) false false
 
 abbrev pub due-triple : Triples → Due
-due-triple q = record { file = file.Sheet; lo = 0x12; hi = 0x12; complete = true; full = eqb (q .count) 512 }
+due-triple q = tags-due file.Sheet (0x12 ∷ []) true (eqb (q .count) 512)
 
 abbrev pub due : State → Due
 due head = due-head

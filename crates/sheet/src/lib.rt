@@ -82,20 +82,15 @@ fn due(st: Standing) -> Due
     ensures { λ r. ⌜ r ≡ due-of st ⌝ }
 {
     match st {
-        Standing::Head => Due {
-            file: File::Sheet,
-            lo: fields::SHEET_TAG,
-            hi: fields::SHEET_TAG,
-            complete: false,
-            full: false,
-        },
-        Standing::Within(q) => Due {
-            file: File::Sheet,
-            lo: fields::TRIPLE_TAG,
-            hi: fields::TRIPLE_TAG,
-            complete: true,
-            full: q.count == MOST_TRIPLES,
-        },
+        Standing::Head => fields::rows_due(File::Sheet, fields::SHEET_ROW, false, false),
+        Standing::Within(q) => {
+            fields::rows_due(
+                File::Sheet,
+                fields::TRIPLE_ROW,
+                true,
+                q.count == MOST_TRIPLES,
+            )
+        }
     }
 }
 

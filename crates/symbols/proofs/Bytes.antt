@@ -10,7 +10,7 @@ use lib.Dec.{leb, ltb, eqb}
 use native.Mathlib.Omega.{arith}
 use borrow.Author.Tests.{eqb-true, eqb-false, ltb-true, leb-true, lt-ltb, le-ltb, le-leb, ne-eqb, ltb-false}
 use Rattle.theory.specs.Result.{got}
-use Rattle.fields.specs.Reading.{eight, fitting}
+use Rattle.fields.specs.Reading.{eight, fitting, due-rows, tags-due}
 use Rattle.symbols.specs.Symbols.{Numbered, numbered, step-of, operator-of, symbol-in, symbol-length, due-symbols}
 use Rattle.fields.proofs.Bools.{cond-then, not-got, and-left, and-right}
 use Rattle.fields.specs.Writing.{Bytes, eight-bytes, field-bytes}
@@ -18,7 +18,7 @@ use Rattle.symbols.specs.Writing.{symbol-tag, symbol-body, symbol-bytes}
 use Rattle.symbols.specs.Symbols.{Fine}
 use Rattle.fields.specs.declared.File.the-variants as file
 use Rattle.symbols.specs.declared.Stack.{Stack}
-use Rattle.fields.specs.Table.{among, rows, tag-length}
+use Rattle.fields.specs.Table.{rows, rows-of, tag-length}
 use Rattle.fields.proofs.Bytes.{listed, eight-of, eight-set, eight-back}
 
 -- ---- a symbol that was read: its field's bytes, and its ranges
@@ -66,11 +66,11 @@ symbol-split at t b x h low high l e = by-tag (eqb t 0x43) (eqb t 0x44) refl ref
         subst (λ (u : ℕ). Split u b x) w (subst (λ (u : Numbered). Split 0x45 b u) v (ap (field-bytes 0x45) (listed 8 b l ∙ sym (eight-of b h 0)), inr (refl, eight-set b h 0)))
 
 -- ---- a symbol's bytes are read as it
-pub symbol-fits : (q : Stack) (x : Numbered) → fitting (due-symbols file.Narrowed q) (symbol-tag x) (length (symbol-body x)) ≡ true
-unfolding fitting among rows
-symbol-fits q x = go (ltb (x .number) 128) (eqb (x .number) 255)
+pub symbol-fits : (q : Stack) (x : Numbered) → 0 < q .left → fitting (due-symbols file.Narrowed q) (symbol-tag x) (length (symbol-body x)) ≡ true
+unfolding fitting due-rows rows-of rows
+symbol-fits q x h = rw (ne-eqb (q .left) 0 (omega arith)) (go (ltb (x .number) 128) (eqb (x .number) 255))
   where
-    go : (a b : Bool) → fitting (due-symbols file.Narrowed q) (cond a 0x43 (cond b 0x45 0x44))
+    go : (a b : Bool) → fitting (tags-due file.Narrowed (0x43 ∷ 0x44 ∷ 0x45 ∷ []) false false) (cond a 0x43 (cond b 0x45 0x44))
         (length (cond a (x .number / 64 ∷ x .number % 64 ∷ []) (cond b (eight-bytes (x .set)) (x .number ∷ [])))) ≡ true
     go true b = refl
     go false true = refl

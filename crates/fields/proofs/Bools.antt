@@ -1,6 +1,6 @@
 -- Tests that came out one way, taken apart; and answers that were got.
 -- Assumes nothing.
-use mathlib.Core.Path.{_≡_, refl, sym}
+use mathlib.Core.Path.{_≡_, refl, sym, ap}
 use mathlib.Core.Bool.{Bool, true, false, cond, _&&_, false≢true}
 use Prim.Native.Nat.{ℕ}
 use native.Mathlib.Omega.{arith}
@@ -25,6 +25,12 @@ and-right false b e = absurd (false≢true e)
 
 pub not-got : {A : Type 0} (n p : ℕ) (x : A) → refused n p ≡ got x → ⊥
 not-got n p x e = let z : _≡_ {A = ℕ} 0 1 = cc in omega arith
+
+pub got-same : {A : Type 0} {x y : A} → got x ≡ got y → x ≡ y
+got-same e = cc
+
+pub got-both : {A B : Type 0} {x y : A} {u v : B} → _≡_ {A = Result (A × B)} (got (x, u)) (got (y, v)) → (x ≡ y) × (u ≡ v)
+got-both {A} {B} e = let z = got-same e in (ap (λ (p : A × B). p .0) z, ap (λ (p : A × B). p .1) z)
 
 -- a chain of two that came to a value
 pub onward-got : {A B : Type 0} (f : A → Result B) (a : Result A) (y : B) → onward f a ≡ got y → (x : A) × (a ≡ got x) × (f x ≡ got y)

@@ -2,7 +2,8 @@
 -- SPECIFICATION, Order in a field: 5, 1 for the head, 2, 1 for the body, 3, 6, 4; fields are taken from the left.
 -- Assumes nothing.
 use mathlib.Core.Bool.{Bool, cond, not, _&&_}
-use mathlib.Core.List.{List}
+use mathlib.Core.List.{List, [], _∷_, _++_}
+use mathlib.Core.Option.{Option, none, some}
 use Prim.Native.Nat.{ℕ, zero, suc, _+_, _*_}
 use lib.Dec.{leb, ltb, eqb}
 use lib.ListN.{length, getD, take, drop}
@@ -92,3 +93,38 @@ module _ (F : Form) (s : List ℕ) where
 -- a field has three bytes or more, so there are fewer fields than bytes, and `walk` never runs out
 unfoldable pub read : (F : Form) → List ℕ → Result (F .Value)
 read F s = walk F s (suc (length s)) (F .start) 0
+
+-- ---- a kind of file by where its reader stands, a field at a time, and by what is kept of the fields
+pub record Format : Type 1 where
+  -- where the reader stands; what a field hands over; what is kept of the fields so far; what was read
+  pub Control : Type 0
+  pub Item : Type 0
+  pub Kept : Type 0
+  pub Value : Type 0
+  pub start : Control
+  pub empty : Kept
+  pub due : Control → Due
+  -- by its place, the place after it, its tag and its body: 3, 6, 4
+  pub judge : Control → ℕ → ℕ → ℕ → List ℕ → Result (Control × Item)
+  -- what a field adds; 4 where that is judged by what was kept
+  pub keep : Kept → Item → Result Kept
+  pub value : Control → Kept → Value
+
+-- what is kept is the list of what was handed over
+abbrev pub listed : {A : Type 0} → List A → Option A → Result (List A)
+listed xs none = got xs
+listed xs (some x) = got (xs ++ (x ∷ []))
+
+-- a field that was judged, kept
+abbrev pub kept : (F : Format) → F .Kept → Result (F .Control × F .Item) → Result (F .Control × F .Kept)
+kept F k a = onward (λ p. onward (λ k′. got (p .0, k′)) (F .keep k (p .1))) a
+
+abbrev pub form : Format → Form
+form F = record {
+  State = F .Control × F .Kept;
+  Value = F .Value;
+  start = (F .start, F .empty);
+  due = λ st. F .due (st .0);
+  judge = λ st at next t b. kept F (st .1) (F .judge (st .0) at next t b);
+  value = λ st. F .value (st .0) (st .1);
+}

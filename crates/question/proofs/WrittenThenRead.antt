@@ -30,7 +30,9 @@ use Rattle.symbols.proofs.Symbols.{push-got, push-anywhere}
 use Rattle.symbols.proofs.Numbers.{symbol-of, held-postfix, numbered-symbols, length-codes}
 use Rattle.symbols.proofs.Bytes.{symbol-short, symbol-reads}
 use Rattle.symbols.proofs.Counting.{read-runs}
-use Rattle.question.specs.Form.{head, within, question-form, due, judge, head-of, fresh, question-symbols}
+use Rattle.question.specs.declared.Standing.{Standing}
+use Rattle.question.specs.declared.Standing.the-variants.{Head, Within}
+use Rattle.question.specs.Form.{question-form, due, head-of, fresh, question-symbols}
 use Rattle.question.specs.Writing.{numbered-codes, question-bytes}
 use Rattle.question.proofs.Paths.{Small, Asked, AllAsked, symbols-are}
 
@@ -78,10 +80,10 @@ code-fits q c l h = rw (ne-eqb (q .left) 0 (omega arith)) (go (decLe 128 c))
     go (no l) = rw (lt-ltb c 128 (omega arith))
 
 module _ (s : List ℕ) (A : Result (List ℕ)) where
-  symbols-forth : (ys : List ℕ) (q : Stack) (cs : List ℕ) (at : ℕ) → Going question-form s A (within q cs) at → drop at s ≡ symbols-bytes (numbered-codes ys) → Runs q (numbered-codes ys) → Small ys
+  symbols-forth : (ys : List ℕ) (q : Stack) (cs : List ℕ) (at : ℕ) → Going question-form s A (Within q, cs) at → drop at s ≡ symbols-bytes (numbered-codes ys) → Runs q (numbered-codes ys) → Small ys
       → length ys ≡ q .left → A ≡ got (cs ++ ys)
   symbols-forth [] q cs at g e u small l =
-      going-ends question-form s A (within q cs) at g (ends-lie (due (within q cs)) s at e (eq-eqb (q .left) 0 (omega arith))) ∙ ap got (sym (append-nil cs))
+      going-ends question-form s A (Within q, cs) at g (ends-lie (due (Within q)) s at e (eq-eqb (q .left) 0 (omega arith))) ∙ ap got (sym (append-nil cs))
   symbols-forth (y ∷ ys) q cs at g e u small l =
       let x = numbered y 0 in
       let t = symbol-tag x in
@@ -90,13 +92,13 @@ module _ (s : List ℕ) (A : Result (List ℕ)) where
       let q′ = u .1 .0 in
       let hq = push-got q 0 0 (arity y) q′ (u .1 .1) .0 in
       let f = field-lies (due-symbols file.Question q) s at t b (symbols-bytes (numbered-codes ys)) e (symbol-short x) (code-fits q y (omega arith) (small .0)) in
-      let st = within q′ (cs ++ (y ∷ [])) in
-      let j : judge (within q cs) at (at + 3 + n) t (take n (drop (at + 3) s)) ≡ got st =
+      let st : Standing × List ℕ = (Within q′, cs ++ (y ∷ [])) in
+      let j : question-form .judge (Within q, cs) at (at + 3 + n) t (take n (drop (at + 3) s)) ≡ got st =
       rw (f .inner, symbol-reads at x (u .0), push-anywhere q 0 0 at (at + 3 + n) (arity y) q′ (u .1 .1)) in
-      symbols-forth ys q′ (cs ++ (y ∷ [])) (at + 3 + n) (going-more question-form s A (within q cs) at g t n (f .seen) st j) (f .after) (u .1 .2) (small .1) (omega arith)
+      symbols-forth ys q′ (cs ++ (y ∷ [])) (at + 3 + n) (going-more question-form s A (Within q, cs) at g t n (f .seen) st j) (f .after) (u .1 .2) (small .1) (omega arith)
       ∙ ap got (append-assoc cs (y ∷ []) ys)
 
-head-fits : fitting (due head) 0x21 1 ≡ true
+head-fits : fitting (due Head) 0x21 1 ≡ true
 unfolding fitting due-rows rows-of rows
 head-fits = refl
 
@@ -106,9 +108,10 @@ read-codes cs any-code few runs small =
     let s = question-bytes cs in
     let A = read question-form s in
     let n = length cs in
-    let f = field-lies (due head) s 0 0x21 (n ∷ []) (symbols-bytes (numbered-codes cs)) refl (omega arith) head-fits in
-    let j : judge head 0 4 0x21 (take 1 (drop 3 s)) ≡ got (fresh n) = rw (le-leb 1 n any-code, le-leb n 32 few) in
-    symbols-forth s A cs (record { left = n; depth = 0 }) [] 4 (going-more question-form s A head 0 (going-start question-form s) 0x21 1 (f .seen) (fresh n) j) (f .after) runs small refl
+    let f = field-lies (due Head) s 0 0x21 (n ∷ []) (symbols-bytes (numbered-codes cs)) refl (omega arith) head-fits in
+    let j : question-form .judge (Head, []) 0 4 0x21 (take 1 (drop 3 s)) ≡ got (Within (fresh n), []) = rw (le-leb 1 n any-code, le-leb n 32 few) in
+    let g = going-more question-form s A (Head, []) 0 (going-start question-form s) 0x21 1 (f .seen) (Within (fresh n), []) j in
+    symbols-forth s A cs (fresh n) [] 4 g (f .after) runs small refl
 
 -- ---- of a question's path
 module _ (p : PathExpr) (g : T (plain? p)) (h : T (links? 64 p)) where

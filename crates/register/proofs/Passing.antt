@@ -17,8 +17,7 @@ use Rattle.fields.proofs.Rows.{fits-within}
 use Rattle.fields.proofs.Fields.{found, body-get}
 use Rattle.register.specs.declared.Progress.{Progress}
 use Rattle.register.specs.declared.Position.the-variants.{Within}
-use Rattle.register.specs.Form.{due-entry, kind-of, link-of, after-link, key}
-use Rattle.register.specs.Contract.{entry-of}
+use Rattle.register.specs.Form.{due, kind-of, link-of, entry-of, after-link, key}
 use Rattle.register.specs.Passed.{KindAt, NumberAt, Passes, Passed, here, further}
 use Rattle.register.proofs.Loop.{Reading, reading-more}
 
@@ -38,10 +37,10 @@ link-row : fitting (tags-due file.Register (0x33 ∷ []) false false) 0x33 5 ≡
 unfolding fitting due-rows rows-of rows
 link-row = refl
 
-kind-fits : (q : Progress) → 0 < q .kindless → fitting (due-entry q) 0x32 1 ≡ true
+kind-fits : (q : Progress) → 0 < q .kindless → fitting (due (Within q)) 0x32 1 ≡ true
 kind-fits q h = rw (ne-eqb (q .kindless) 0 (omega arith)) kind-row
 
-link-fits : (q : Progress) → q .kindless ≡ 0 → 0 < q .left → fitting (due-entry q) 0x33 5 ≡ true
+link-fits : (q : Progress) → q .kindless ≡ 0 → 0 < q .left → fitting (due (Within q)) 0x33 5 ≡ true
 link-fits q z h = rw (eq-eqb (q .kindless) 0 z, ne-eqb (q .left) 0 (omega arith)) link-row
 
 -- ---- one field more was passed over
@@ -60,7 +59,7 @@ module _ {s : List ℕ} {q p : Progress} {at i : ℕ} (d : Passed s q at p i) (r
   past-kind k e =
       let o : i + 4 - (i + 3) ≡ 1 = omega arith in
       let z : eqb (p .kindless) 0 ≡ false = ne-eqb (p .kindless) 0 (λ e. omega (arith, k .due)) in
-      let f = field-there (due-entry p) s i 0x32 1 (kind-fits p (k .due)) (omega (arith, kind-room k)) (k .tag) (kind-length k) in
+      let f = field-there (due (Within p)) s i 0x32 1 (kind-fits p (k .due)) (omega (arith, kind-room k)) (k .tag) (kind-length k) in
       let w : i + 3 + 1 ≡ i + 4 = omega arith in
       subst (Passed s q at r) w (further p i 0x32 1 r d f (rw (z, ← o) e))
 
@@ -136,7 +135,7 @@ module _ {s : List ℕ} {q : Progress} {at i left floor v records : ℕ} (g : Li
       let k = link-number (getD s i 0) (word s (i + 1)) (word s (i + 3)) (getD s (i + 5) 0) (word s (i + 6)) v records
       (bytes i) (word-less (i + 1)) (word-less (i + 3)) (bytes (i + 5)) (word-less (i + 6)) hr (number-there .is ∙ eight-parts s i) low (p .high) in
       let b = take 5 (drop (i + 3) s) in
-      let f = field-there (due-entry (standing q left floor)) s i 0x33 5 (link-fits (standing q left floor) refl (p .due)) (omega (arith, linked-room)) (k .tag) (k .len) in
+      let f = field-there (due (Within (standing q left floor))) s i 0x33 5 (link-fits (standing q left floor) refl (p .due)) (omega (arith, linked-room)) (k .tag) (k .len) in
       let kb : key b + 0x3300050000000000 ≡ v = rw (body-from s i, body-label s i, body-to s i) (k .key) in
       let l = link-taken (standing q left floor) i b (rw (body-from s i, ← er) (k .from)) (rw (body-label s i) (omega (arith, k .label, p .label)))
       (rw (body-to s i, ← er) (omega (arith, k .to, p .to)))
@@ -163,7 +162,7 @@ pub passed-on : {s : List ℕ} {q : Progress} {at : ℕ} (p : Progress) (i : ℕ
 passed-on q at here h = (omega arith, h)
 passed-on p i (further q′ j t n p′ d e g) h =
     let r = passed-on q′ j d h in
-    let f = found (due-entry q′) _ j t n e .room in
+    let f = found (due (Within q′)) _ j t n e .room in
     (omega (arith, r .0), f)
 
 pub passed-both : {s : List ℕ} {q : Progress} {at : ℕ} {p : Progress} {i : ℕ} (r : Progress) (j : ℕ) → Passed s q at p i → Passed s p i r j → Passed s q at r j

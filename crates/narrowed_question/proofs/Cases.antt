@@ -9,7 +9,7 @@ use Rattle.fields.specs.Case.{Case, case, AllRead}
 use Rattle.fields.specs.Table.{rows, rows-of}
 use Rattle.fields.specs.Reading.{eight, due-rows, due-tag?, fitting, field-at, walk, read}
 use Rattle.symbols.specs.Symbols.{order-code, arity, step-of, operator-of, symbol-in, push}
-use Rattle.narrowed_question.specs.Form.{Flat, narrowed-form}
+use Rattle.narrowed_question.specs.Form.{Flat, count-of, open-of, symbol-of, narrowed-form}
 use Rattle.narrowed_question.specs.Writing.{encode}
 use Rattle.narrowed_question.specs.Members.{flat-of, narrowed-file}
 
@@ -24,5 +24,5 @@ cases =
     ∷ []
 
 pub all-read : AllRead narrowed-form cases
-unfolding rows-of rows eight due-rows due-tag? fitting field-at walk read order-code arity step-of operator-of symbol-in push encode narrowed-file
+unfolding count-of open-of symbol-of rows-of rows eight due-rows due-tag? fitting field-at walk read order-code arity step-of operator-of symbol-in push encode narrowed-file
 all-read = refl

@@ -14,9 +14,9 @@ ghost use Rattle.theory.specs.PathExpr.{before?};
 ghost use Rattle.fields.specs.Table.{tag-length};
 ghost use Rattle.fields.specs.Reading.{read as read-file, word};
 ghost use Rattle.symbols.specs.Symbols.{order-code, symbol-length};
-ghost use Rattle.narrowed_question.specs.Form.{narrowed-form};
+ghost use Rattle.narrowed_question.specs.Form.{count-of, open-of, symbol-of, narrowed-format, narrowed-form};
 ghost use Rattle.narrowed_question.specs.Contract.{ReadsNarrowed, Blank, ReadsInto, segment-codes, Packed, arrays};
-ghost use Rattle.narrowed_question.specs.Internal.{due-of, count-of, open-move, symbol-move, judged, BodyReady, turn-said, Able, turned, marked};
+ghost use Rattle.narrowed_question.specs.Internal.{BodyReady, goes-on, turn-said, Able, turned, marked};
 
 // The number of members, or why the file is refused.
 pub enum Outcome {
@@ -86,7 +86,7 @@ pub struct Marks {
 }
 
 fn due(st: Standing) -> Due
-    ensures { λ r. ⌜ r ≡ due-of st ⌝ }
+    ensures { λ r. ⌜ r ≡ narrowed-format .due st ⌝ }
 {
     match st {
         Standing::Head => fields::rows_due(File::Narrowed, fields::NARROWED_ROW, false, false),
@@ -101,7 +101,7 @@ fn due(st: Standing) -> Due
 // 41: the number of members; refusal 3.
 fn count(at: usize, b: &[u8]) -> Turn
     requires { ⌜ length (now b) ≡ tag-length 0x41 ⌝ }
-    ensures { λ r. ⌜ turn-said r ≡ count-of at (now (b .entry)) ⌝ }
+    ensures { λ r. ⌜ turn-said r ≡ goes-on (count-of at (now (b .entry))) ⌝ }
 {
     let n = fields::two(b, MEMBERS_IN);
     if MOST_MEMBERS < n {
@@ -114,7 +114,7 @@ fn count(at: usize, b: &[u8]) -> Turn
 // 42: the number of symbols and the two sets; refusal 3.
 fn open_member(l: u8, at: usize, b: &[u8]) -> Turn
     requires { ⌜ (length (now b) ≡ tag-length 0x42) × (0 < l) ⌝ }
-    ensures { λ r. ⌜ turn-said r ≡ open-move l at (now (b .entry)) ⌝ }
+    ensures { λ r. ⌜ turn-said r ≡ goes-on (open-of l at (now (b .entry))) ⌝ }
 {
     let n = b[SIZE_IN];
     if n < 1 {
@@ -136,7 +136,7 @@ fn open_member(l: u8, at: usize, b: &[u8]) -> Turn
 // 43, 44 or 45: a symbol; refusals 3 and 6.
 fn grow(l: u8, p: usize, q: Stack, at: usize, next: usize, tag: u8, b: &[u8]) -> Turn
     requires { ⌜ (length (now b) ≡ symbol-length tag) × ((0 < q .left) × (q .depth < 255)) ⌝ }
-    ensures { λ r. ⌜ turn-said r ≡ symbol-move l p q at next tag (now (b .entry)) ⌝ }
+    ensures { λ r. ⌜ turn-said r ≡ goes-on (symbol-of l p q at next tag (now (b .entry))) ⌝ }
 {
     match symbols::symbol_in(at, tag, b) {
         Read::Refused(r) => Turn::Stop(r),
@@ -159,7 +159,7 @@ fn grow(l: u8, p: usize, q: Stack, at: usize, next: usize, tag: u8, b: &[u8]) ->
 
 fn judge(st: Standing, at: usize, next: usize, tag: u8, b: &[u8]) -> Turn
     requires { ⌜ BodyReady st tag (length (now b)) ⌝ }
-    ensures { λ r. ⌜ turn-said r ≡ judged st at next tag (now (b .entry)) ⌝ }
+    ensures { λ r. ⌜ turn-said r ≡ goes-on (narrowed-format .judge st at next tag (now (b .entry))) ⌝ }
 {
     match st {
         Standing::Head => count(at, b),

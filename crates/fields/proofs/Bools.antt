@@ -37,12 +37,6 @@ pub onward-got : {A B : Type 0} (f : A → Result B) (a : Result A) (y : B) → 
 onward-got f (got x) y e = (x, refl, e)
 onward-got f (refused n p) y e = absurd (not-got n p y e)
 
--- two chains from one answer are refused together, where each refusal after it is one of both
-pub refused-too : {A B C : Type 0} (f : A → Result B) (g : A → Result C) (i j : ℕ) (a : Result A) → ((x : A) → f x ≡ refused i j → g x ≡ refused i j)
-    → onward f a ≡ refused i j → onward g a ≡ refused i j
-refused-too f g i j (got x) k e = k x e
-refused-too f g i j (refused n p) k e = cc
-
 pub not-refused : {A B : Type 0} (x : A) (i j : ℕ) → got x ≡ refused i j → B
 not-refused x i j e = let z : _≡_ {A = ℕ} 0 1 = cc in absurd (omega arith)
 

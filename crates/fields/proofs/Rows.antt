@@ -1,11 +1,11 @@
 -- Laws of the table of tags: a tag has one row, and a field that fits what is due is one of the rows that are due.
 -- Assumes nothing.
-use Prim.Native.Nat.{ℕ}
+use Prim.Native.Nat.{ℕ, _^_}
 use mathlib.Core.Path.{_≡_, refl, sym, ap, _∙_}
 use mathlib.Core.Logic.{_⊎_, inl, inr}
 use mathlib.Core.Bool.{Bool, true, false, cond, not, _&&_, _||_, true≢false, false≢true, and-false}
-use mathlib.Core.List.{List, [], _∷_}
-use Rattle.theory.specs.Lists.{filter, some?}
+use mathlib.Core.List.{List, [], _∷_, map}
+use Rattle.theory.specs.Lists.{filter, some?, range}
 use Rattle.fields.specs.declared.File.{File}
 use Rattle.fields.specs.declared.File.the-variants.{Sheet, Question, Register, Narrowed}
 use Rattle.fields.specs.declared.Row.{Row}
@@ -15,6 +15,11 @@ use Rattle.fields.specs.Reading.{due-row?, due-rows, due-tag?, fitting, 
 use Rattle.fields.proofs.Bools.{and-left, and-right}
 use borrow.Author.Tests.{eqb-true, eq-eqb, ne-eqb}
 use lib.Dec.{eqb}
+
+-- row i has bit i
+pub own-bits : map (λ (r : Row). r .6) rows ≡ map (λ (i : ℕ). 2 ^ i) (range 11)
+unfolding rows
+own-bits = refl
 
 -- ---- the row of a tag
 abbrev tagged : ℕ → List Row → Bool

@@ -45,7 +45,7 @@ fitting d t n = some? (λ r. eqb (r .0) t && eqb (r .1) n) (due-rows d)
 abbrev pub beyond? : Due → ℕ → Bool
 beyond? d t = d .closing && not (due-tag? d t)
 
--- rows of a set, and whether the file may end; where it is full nothing is due, so that any byte is 5
+-- the rows of a set, until the file is full; then nothing, and any byte is 5
 abbrev pub rows-due : File → ℕ → (complete full : Bool) → Due
 rows-due f m complete full = record { file = f; rows = cond full 0 m; complete = complete; closing = full }
 
@@ -94,7 +94,7 @@ module _ (F : Form) (s : List ℕ) where
 unfoldable pub read : (F : Form) → List ℕ → Result (F .Value)
 read F s = walk F s (suc (length s)) (F .start) 0
 
--- ---- a kind of file by where its reader stands, a field at a time, and by what is kept of the fields
+-- ---- the same, with where the reader stands apart from what it keeps; the code has the first, and both share it
 pub record Format : Type 1 where
   -- where the reader stands; what a field hands over; what is kept of the fields so far; what was read
   pub Control : Type 0
@@ -111,9 +111,9 @@ pub record Format : Type 1 where
   pub value : Control → Kept → Value
 
 -- what is kept is the list of what was handed over
-abbrev pub listed : {A : Type 0} → List A → Option A → Result (List A)
-listed xs none = got xs
-listed xs (some x) = got (xs ++ (x ∷ []))
+abbrev pub collected : {A : Type 0} → List A → Option A → Result (List A)
+collected xs none = got xs
+collected xs (some x) = got (xs ++ (x ∷ []))
 
 -- a field that was judged, kept
 abbrev pub kept : (F : Format) → F .Kept → Result (F .Control × F .Item) → Result (F .Control × F .Kept)

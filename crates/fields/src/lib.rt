@@ -255,8 +255,8 @@ fn row_of(tag: u8) -> Row
     }
 }
 
-// What is due at a place: the rows of a set, as far as the file may have them; whether the file is complete there, so that it may end;
-// whether what is due is closing, the last that may follow, so that a byte that is no tag of it is one past the file's right end.
+// What is due at a place: the rows of a set, as far as the file may have them. Where the file is complete it may end; where what is due is
+// closing nothing else may follow, and a byte that is no tag of it is refusal 5.
 pub struct Due {
     pub file: File,
     pub rows: u16,
@@ -264,7 +264,7 @@ pub struct Due {
     pub closing: bool,
 }
 
-// Rows of a set, and whether the file may end; where it is full nothing is due, and what is due is closing.
+// The rows of a set, until the file is full; then nothing, and any byte is refusal 5.
 pub fn rows_due(file: File, rows: u16, complete: bool, full: bool) -> Due
     ensures { λ r. ⌜ r ≡ rows-due file rows complete full ⌝ }
 {
@@ -284,6 +284,7 @@ pub fn rows_due(file: File, rows: u16, complete: bool, full: bool) -> Due
     }
 }
 
+// Whether a row is due.
 fn row_due(due: Due, row: Row) -> bool
     ensures { λ r. ⌜ r ≡ due-row? due row ⌝ }
 {

@@ -14,7 +14,7 @@ use Rattle.symbols.specs.declared.Stack.{Stack}
 use Rattle.fields.specs.Table.{rows, tag-length, field-size}
 use Rattle.theory.specs.Result.{Result, got, refused, onward}
 use Rattle.fields.specs.Reading.{kept, read}
-use Rattle.symbols.specs.Symbols.{Numbered, numbered, operator-of, symbol-in, arity, push, due-symbols, symbols-given}
+use Rattle.symbols.specs.Symbols.{Numbered, numbered, operator-of, symbol-in, arity, push, symbols-given}
 use Rattle.fields.proofs.Bools.{and-left}
 use Rattle.fields.proofs.ReaderLoop.{Going, going-start, going-ends, going-more, going-refused}
 use Rattle.narrowed_question.specs.declared.Members.{Members}

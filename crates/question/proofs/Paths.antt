@@ -18,7 +18,7 @@ use Rattle.fields.specs.declared.File.the-variants as file
 use Rattle.symbols.specs.declared.Stack.{Stack}
 use Rattle.theory.specs.Result.{got}
 use Rattle.fields.specs.Table.{rows, rows-of}
-use Rattle.fields.specs.Reading.{ends, body, field-at, due-rows, listed, read}
+use Rattle.fields.specs.Reading.{ends, body, field-at, due-rows, collected, read}
 use Rattle.symbols.specs.Symbols.{Numbered, numbered, symbol-in, symbol-numbered, number-symbol, arity, push, due-symbols, Runs}
 use Rattle.fields.proofs.Bools.{onward-got, got-same, got-both, cond-then, not-got, and-left, and-right}
 use Rattle.fields.proofs.Fields.{Found, found, found-one, ended}
@@ -48,7 +48,7 @@ module _ (cs : List ℕ) (at next t : ℕ) (b : List ℕ) (st : Standing × List
       let r = taken question-format Head cs at next t b st j in
       let (n, h, w) = onward-got (λ n. got (Within (fresh n), none)) (head-of at b) _ (r .judged) in
       let v = got-both w in
-      let k : listed cs none ≡ got (st .1) = ap (listed cs) (v .1) ∙ r .kept in
+      let k : collected cs none ≡ got (st .1) = ap (collected cs) (v .1) ∙ r .kept in
       (n, h, λ i. (v .0 i, got-same k i))
 
   pub symbol-taken : (q : Stack) → question-form .judge (Within q, cs) at next t b ≡ got st
@@ -59,7 +59,7 @@ module _ (cs : List ℕ) (at next t : ℕ) (b : List ℕ) (st : Standing × List
       let (x, hx, j′) = onward-got (one-more q at next) (symbol-in at t b) _ (r .judged) in
       let (q′, hq, w) = onward-got (λ p. got (Within p, some (x .number))) (push q at next (arity (x .number))) _ j′ in
       let v = got-both w in
-      let k : listed cs (some (x .number)) ≡ got (st .1) = ap (listed cs) (v .1) ∙ r .kept in
+      let k : collected cs (some (x .number)) ≡ got (st .1) = ap (collected cs) (v .1) ∙ r .kept in
       (x, q′, hx, hq, λ i. (v .0 i, got-same k i))
 
 -- field 45 is not a question's

@@ -12,7 +12,7 @@ use Rattle.fields.specs.declared.File.the-variants as file
 use Rattle.fields.specs.declared.Due.{Due}
 use Rattle.symbols.specs.declared.Stack.{Stack}
 use Rattle.theory.specs.Result.{Result, got, refused, onward}
-use Rattle.fields.specs.Reading.{tags-due, Form, Format, listed, form}
+use Rattle.fields.specs.Reading.{tags-due, Form, Format, collected, form}
 use Rattle.question.specs.declared.Standing.{Standing}
 use Rattle.question.specs.declared.Standing.the-variants.{Head, Within}
 use Rattle.symbols.specs.Symbols.{Numbered, symbol-numbered, symbol-in, arity, push, due-symbols}
@@ -49,7 +49,7 @@ question-format = record {
   empty = [];
   due = due;
   judge = judge;
-  keep = listed;
+  keep = collected;
   value = λ st cs. cs;
 }
 

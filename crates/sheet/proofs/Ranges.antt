@@ -12,7 +12,7 @@ use Rattle.theory.specs.Register.{Edge}
 use Rattle.theory.specs.Sheet.{Sheet, in-range?, sheet?}
 use Rattle.theory.proofs.Tests.{tests, and-left, and-right, and-both, of-true}
 use Rattle.theory.specs.Result.{got}
-use Rattle.fields.specs.Reading.{ends, body, field-at, listed, read}
+use Rattle.fields.specs.Reading.{ends, body, field-at, collected, read}
 use Rattle.fields.proofs.Bools.{cond-then, not-got, onward-got, got-same, got-both}
 use Rattle.fields.proofs.Fields.{ended}
 use Rattle.fields.proofs.Accepted.{accepted-ind, taken}
@@ -86,7 +86,7 @@ module _ (s : List ℕ) where
       let r = taken sheet-format Head es at (at + 3 + n) t b st′ j in
       let (q, h, w) = onward-got (λ q. got (Within q, none)) (head-of at b) _ (r .judged) in
       let v = got-both w in
-      let k : listed es none ≡ got (st′ .1) = ap (listed es) (v .1) ∙ r .kept in
+      let k : collected es none ≡ got (st′ .1) = ap (collected es) (v .1) ∙ r .kept in
       let u : _≡_ {A = Standing × List Edge} (Within q, []) st′ = λ i. (v .0 i, (sym z ∙ got-same k) i) in
       subst (λ (x : Standing × List Edge). Ahead x (at + 3 + n) S) (sym u) ih (head-got at b q h .0)
   at-body (Within q, es) at t n st′ S e j ih = λ u.
@@ -94,7 +94,7 @@ module _ (s : List ℕ) where
       let r = taken sheet-format (Within q) es at (at + 3 + n) t b st′ j in
       let (q′, h, w) = onward-got (λ q′. got (Within q′, some (edge-of b))) (next q at b) _ (r .judged) in
       let v = got-both w in
-      let k : listed es (some (edge-of b)) ≡ got (st′ .1) = ap (listed es) (v .1) ∙ r .kept in
+      let k : collected es (some (edge-of b)) ≡ got (st′ .1) = ap (collected es) (v .1) ∙ r .kept in
       let x : _≡_ {A = Standing × List Edge} (Within q′, es ++ (edge-of b ∷ [])) st′ = λ i. (v .0 i, got-same k i) in
       subst (λ (x : Standing × List Edge). Ahead x (at + 3 + n) S) (sym x) ih (sheet-more q es b q′ u (next-got q at b q′ h))
 

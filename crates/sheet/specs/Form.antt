@@ -12,7 +12,7 @@ use Rattle.theory.specs.Sheet.{Sheet}
 use Rattle.fields.specs.declared.File.the-variants as file
 use Rattle.fields.specs.declared.Due.{Due}
 use Rattle.theory.specs.Result.{Result, got, refused, onward}
-use Rattle.fields.specs.Reading.{tags-due, Form, Format, listed, form}
+use Rattle.fields.specs.Reading.{tags-due, Form, Format, collected, form}
 use Rattle.sheet.specs.declared.Triples.{Triples}
 use Rattle.sheet.specs.declared.Standing.{Standing}
 use Rattle.sheet.specs.declared.Standing.the-variants.{Head, Within}
@@ -69,7 +69,7 @@ sheet-format = record {
   empty = [];
   due = due;
   judge = λ st at next t b. judge st at b;
-  keep = listed;
+  keep = collected;
   value = value;
 }
 

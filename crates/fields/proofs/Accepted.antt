@@ -1,12 +1,13 @@
 -- Induction over the fields of a file that was accepted.
 -- Assumes nothing.
 use Prim.Native.Nat.{ℕ, suc, zero, _+_}
-use mathlib.Core.Path.{_≡_, refl}
+use mathlib.Core.Path.{_≡_, refl, ap, _∙_}
 use mathlib.Core.List.{List}
 use lib.ListN.{take, drop}
 use native.Mathlib.Omega.{arith}
 use Rattle.theory.specs.Result.{Result, got, refused, onward}
-use Rattle.fields.specs.Reading.{Field, ends, wrong, body, field-at, Form, after, walk}
+use Rattle.fields.specs.Reading.{Field, ends, wrong, body, field-at, Form, after, walk, Format, form}
+use Rattle.fields.proofs.Bools.{onward-got, got-same}
 
 module _ (F : Form) (s : List ℕ) (P : F .State → ℕ → F .Value → Type 0)
     (at-end : (st : F .State) (at : ℕ) → field-at (F .due st) s at ≡ ends → P st at (F .value st))
@@ -30,3 +31,17 @@ module _ (F : Form) (s : List ℕ) (P : F .State → ℕ → F .Value → Type 0
   unfolding walk
   accepted-ind zero st at v h = let z : _≡_ {A = ℕ} 0 1 = cc in absurd (omega arith)
   accepted-ind (suc k) st at v h = by-field k st at v (accepted-ind k) (field-at (F .due st) s at) refl h
+
+-- ---- a field of a format's file, by its two steps
+pub record Taken (F : Format) (c : F .Control) (k : F .Kept) (at next t : ℕ) (b : List ℕ) (st : F .Control × F .Kept) : Type 0 where
+  pub item : F .Item
+  pub judged : F .judge c at next t b ≡ got (st .0, item)
+  pub kept : F .keep k item ≡ got (st .1)
+
+pub taken : (F : Format) (c : F .Control) (k : F .Kept) (at next t : ℕ) (b : List ℕ) (st : F .Control × F .Kept) → form F .judge (c, k) at next t b ≡ got st
+    → Taken F c k at next t b st
+taken F c k at next t b st e =
+    let ((c′, i), j, w) = onward-got (λ (p : F .Control × F .Item). onward (λ (k′ : F .Kept). got (p .0, k′)) (F .keep k (p .1))) (F .judge c at next t b) st e in
+    let (k′, h, v) = onward-got (λ (x : F .Kept). got (c′, x)) (F .keep k i) st w in
+    let z : (c′, k′) ≡ st = got-same v in
+    record { item = i; judged = j ∙ ap (λ (x : F .Control × F .Kept). got (x .0, i)) z; kept = h ∙ ap (λ (x : F .Control × F .Kept). got (x .1)) z }

@@ -1,6 +1,6 @@
 -- Tests that came out one way, taken apart; and answers that were got.
 -- Assumes nothing.
-use mathlib.Core.Path.{_≡_, refl, sym}
+use mathlib.Core.Path.{_≡_, refl, sym, ap}
 use mathlib.Core.Bool.{Bool, true, false, cond, _&&_, false≢true}
 use Prim.Native.Nat.{ℕ}
 use native.Mathlib.Omega.{arith}
@@ -26,16 +26,16 @@ and-right false b e = absurd (false≢true e)
 pub not-got : {A : Type 0} (n p : ℕ) (x : A) → refused n p ≡ got x → ⊥
 not-got n p x e = let z : _≡_ {A = ℕ} 0 1 = cc in omega arith
 
+pub got-same : {A : Type 0} {x y : A} → got x ≡ got y → x ≡ y
+got-same e = cc
+
+pub got-both : {A B : Type 0} {x y : A} {u v : B} → _≡_ {A = Result (A × B)} (got (x, u)) (got (y, v)) → (x ≡ y) × (u ≡ v)
+got-both {A} {B} e = let z = got-same e in (ap (λ (p : A × B). p .0) z, ap (λ (p : A × B). p .1) z)
+
 -- a chain of two that came to a value
 pub onward-got : {A B : Type 0} (f : A → Result B) (a : Result A) (y : B) → onward f a ≡ got y → (x : A) × (a ≡ got x) × (f x ≡ got y)
 onward-got f (got x) y e = (x, refl, e)
 onward-got f (refused n p) y e = absurd (not-got n p y e)
-
--- two chains from one answer are refused together, where each refusal after it is one of both
-pub refused-too : {A B C : Type 0} (f : A → Result B) (g : A → Result C) (i j : ℕ) (a : Result A) → ((x : A) → f x ≡ refused i j → g x ≡ refused i j)
-    → onward f a ≡ refused i j → onward g a ≡ refused i j
-refused-too f g i j (got x) k e = k x e
-refused-too f g i j (refused n p) k e = cc
 
 pub not-refused : {A B : Type 0} (x : A) (i j : ℕ) → got x ≡ refused i j → B
 not-refused x i j e = let z : _≡_ {A = ℕ} 0 1 = cc in absurd (omega arith)

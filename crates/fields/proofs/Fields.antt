@@ -2,27 +2,26 @@
 -- Assumes nothing.
 use Prim.Native.Nat.{ℕ, _+_, _<_, _≤_}
 use mathlib.Core.Path.{_≡_, refl, ap, _∙_, sym}
-use mathlib.Core.Bool.{Bool, true, false, cond, _&&_}
+use mathlib.Core.Bool.{Bool, true, false, cond}
 use mathlib.Core.List.{List}
 use lib.ListN.{length, getD, take, drop, length-take, length-drop}
 use lib.Seq.{getD-take, getD-drop}
 use lib.Dec.{leb, ltb}
 use native.Mathlib.Omega.{arith}
 use borrow.Author.Tests.{leb-true, ltb-false}
+use Rattle.fields.specs.declared.File.{File}
 use Rattle.fields.specs.declared.Due.{Due}
 use Rattle.fields.specs.declared.Seen.{Seen}
-use Rattle.fields.specs.Table.{among, rows, tag-length}
-use Rattle.fields.specs.Reading.{ends, wrong, body, field-at, fitting, word}
+use Rattle.fields.specs.Reading.{ends, wrong, body, field-at, due-rows, tags-due, fitting, beyond?, word}
 use Rattle.fields.specs.Contract.{field-said}
-use Rattle.fields.proofs.Rows.{own-length}
-use Rattle.fields.proofs.Bools.{cond-else, cond-then, and-left, and-right}
+use Rattle.fields.proofs.Rows.{OneOf, due-one}
+use Rattle.fields.proofs.Bools.{cond-else, cond-then}
 
 -- what the definition finds at a place where e is due, by what the code saw there with d for it
 pub seen-at : (s : List ℕ) (at : ℕ) {d e : Due} {r x : Seen} → d ≡ e → field-said r ≡ field-at d s at → r ≡ x → field-at e s at ≡ field-said x
 seen-at s at p q u = ap (λ (f : Due). field-at f s at) (sym p) ∙ sym q ∙ ap field-said u
 
 pub record Found (d : Due) (s : List ℕ) (at t n : ℕ) : Type 0 where
-  pub more : d .full ≡ false
   pub fit : fitting d t n ≡ true
   pub room : at + 3 + n ≤ length s
   pub tag : getD s at 0 ≡ t
@@ -39,25 +38,20 @@ pub found : (d : Due) (s : List ℕ) (at t n : ℕ) → field-at d s at ≡ body
 unfolding field-at
 found d s at t n e =
     let a = cond-else (leb (length s) at) (not-early (d .complete) at t n) e in
-    let b = cond-else (d .full) (not-wrong 5 at t n) (a .1) in
+    let b = cond-else (beyond? d (getD s at 0)) (not-wrong 5 at t n) (a .1) in
     let c = cond-else (ltb (length s) (at + 3)) (not-wrong 1 at t n) (b .1) in
     let f = cond-then (fitting d (getD s at 0) (word s (at + 1))) (not-wrong 2 at t n) (c .1) in
     let g = cond-else (ltb (length s) (at + 3 + word s (at + 1))) (not-wrong 1 at t n) (f .1) in
     let ht : getD s at 0 ≡ t = cc (g .1) in
     let hn : word s (at + 1) ≡ n = cc (g .1) in
-    record { more = b .0; fit = rw (← ht, ← hn) (f .0); room = rw (← hn) (ltb-false _ _ (g .0)); tag = ht; len = hn }
+    record { fit = rw (← ht, ← hn) (f .0); room = rw (← hn) (ltb-false _ _ (g .0)); tag = ht; len = hn }
 
 pub body-length : {d : Due} {s : List ℕ} {at t n : ℕ} → Found d s at t n → length (take n (drop (at + 3) s)) ≡ n
 body-length r = let h = r .room in simp (length-take, length-drop) (omega arith)
 
--- where one tag alone is due, the field has it, and its length
-pub one-due : (d : Due) (t n : ℕ) → d .lo ≡ d .hi → fitting d t n ≡ true → (t ≡ d .lo) × (n ≡ tag-length (d .lo))
-unfolding fitting
-one-due d t n e h =
-    let low = leb-true (d .lo) t (and-left _ _ (and-left _ (among rows (d .file) t n) h)) in
-    let high = leb-true t (d .hi) (and-right (leb (d .lo) t) _ (and-left _ (among rows (d .file) t n) h)) in
-    let z : t ≡ d .lo = omega arith in
-    (z, own-length (d .file) t n (and-right (leb (d .lo) t && leb t (d .hi)) _ h) ∙ ap tag-length z)
+-- it is one of the rows that are due
+pub found-one : (f : File) (ts : List ℕ) (c b : Bool) {s : List ℕ} {at t n : ℕ} → Found (tags-due f ts c b) s at t n → (b ≡ false) × OneOf (due-rows (tags-due f ts c false)) t n
+found-one f ts c b r = due-one f ts c b _ _ (r .fit)
 
 wrong-not-ends : (k p : ℕ) → wrong k p ≡ ends → ⊥
 wrong-not-ends k p e = let z : _≡_ {A = ℕ} 0 1 = cc in omega arith
@@ -71,17 +65,17 @@ pub ended : (d : Due) (s : List ℕ) (at : ℕ) → field-at d s at ≡ ends →
 unfolding field-at
 ended d s at e = at-end (leb (length s) at) refl e
   where
-    late : cond (d .full) (wrong 5 at) (cond (ltb (length s) (at + 3)) (wrong 1 at) (cond (fitting d (getD s at 0) (word s (at + 1)))
+    late : cond (beyond? d (getD s at 0)) (wrong 5 at) (cond (ltb (length s) (at + 3)) (wrong 1 at) (cond (fitting d (getD s at 0) (word s (at + 1)))
         (cond (ltb (length s) (at + 3 + word s (at + 1))) (wrong 1 at) (body (getD s at 0) (word s (at + 1)))) (wrong 2 at))) ≡ ends → ⊥
     late e =
-        let a = cond-else (d .full) (wrong-not-ends 5 at) e in
+        let a = cond-else (beyond? d (getD s at 0)) (wrong-not-ends 5 at) e in
         let b = cond-else (ltb (length s) (at + 3)) (wrong-not-ends 1 at) (a .1) in
         let f = cond-then (fitting d (getD s at 0) (word s (at + 1))) (wrong-not-ends 2 at) (b .1) in
         let g = cond-else (ltb (length s) (at + 3 + word s (at + 1))) (wrong-not-ends 1 at) (f .1) in
         let h = g .1 in
         let z : _≡_ {A = ℕ} 0 1 = cc in omega arith
 
-    at-end : (b : Bool) → leb (length s) at ≡ b → cond b (cond (d .complete) ends (wrong 5 at)) (cond (d .full) (wrong 5 at) (cond (ltb (length s) (at + 3)) (wrong 1 at)
+    at-end : (b : Bool) → leb (length s) at ≡ b → cond b (cond (d .complete) ends (wrong 5 at)) (cond (beyond? d (getD s at 0)) (wrong 5 at) (cond (ltb (length s) (at + 3)) (wrong 1 at)
         (cond (fitting d (getD s at 0) (word s (at + 1))) (cond (ltb (length s) (at + 3 + word s (at + 1))) (wrong 1 at) (body (getD s at 0) (word s (at + 1)))) (wrong 2 at)))) ≡ ends
         → Ended d s at
     at-end true q e = record { may = cond-then (d .complete) (wrong-not-ends 5 at) e .0; past = leb-true (length s) at q }

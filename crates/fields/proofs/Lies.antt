@@ -2,7 +2,7 @@
 -- Assumes nothing.
 use Prim.Native.Nat.{ℕ, suc, _+_, _/_, _%_, _-_, _<_}
 use mathlib.Core.Path.{_≡_, ap, ap₂, _∙_, sym}
-use mathlib.Core.Bool.{true, false}
+use mathlib.Core.Bool.{true}
 use mathlib.Core.List.{List, [], _∷_, _++_}
 use lib.ListN.{length, getD, take, drop, take-append-drop, length-append, length-drop}
 use lib.Seq.{drop-cons, drop-drop, getD-drop, take-append-seam, drop-append-seam}
@@ -10,6 +10,7 @@ use native.Mathlib.Omega.{arith}
 use borrow.Author.Tests.{le-ltb, lt-leb, le-leb}
 use Rattle.fields.specs.declared.Due.{Due}
 use Rattle.fields.specs.Reading.{word, ends, body, fitting, field-at}
+use Rattle.fields.proofs.Rows.{fits-within}
 use Rattle.fields.proofs.Fields.{Found, body-length}
 use Rattle.fields.specs.Writing.{Bytes, two-bytes, field-bytes}
 
@@ -46,10 +47,9 @@ pub record Lies (d : Due) (s : List ℕ) (at t : ℕ) (b r : List ℕ) : Type 0 
   pub inner : take (length b) (drop (at + 3) s) ≡ b
   pub after : drop (at + 3 + length b) s ≡ r
 
-pub field-lies : (d : Due) (s : List ℕ) (at t : ℕ) (b r : List ℕ) → drop at s ≡ field-bytes t b ++ r → length b < 65536 → d .full ≡ false → fitting d t (length b) ≡ true
-    → Lies d s at t b r
+pub field-lies : (d : Due) (s : List ℕ) (at t : ℕ) (b r : List ℕ) → drop at s ≡ field-bytes t b ++ r → length b < 65536 → fitting d t (length b) ≡ true → Lies d s at t b r
 unfolding field-at
-field-lies d s at t b r e l o f =
+field-lies d s at t b r e l f =
     let n = length b in
     let hl : length s - at ≡ 3 + (n + length r) = omega (arith, length-drop at s, ap length e, length-append b r) in
     let ht : getD s at 0 ≡ t = lies-get s (field-bytes t b ++ r) at 0 at e (omega arith) in
@@ -58,7 +58,7 @@ field-lies d s at t b r e l o f =
     let hw : word s (at + 1) ≡ n = omega arith in
     let h3 : drop (at + 3) s ≡ b ++ r = sym (drop-drop 3 at s) ∙ ap (drop 3) e in
     record {
-      seen = simp (lt-leb (length s) at (omega arith), o, le-ltb (length s) (at + 3) (omega arith), ht, hw, f, le-ltb (length s) (at + 3 + n) (omega arith));
+      seen = simp (lt-leb (length s) at (omega arith), ht, hw, fits-within d t n f, le-ltb (length s) (at + 3) (omega arith), f, le-ltb (length s) (at + 3 + n) (omega arith));
       inner = ap (take n) h3 ∙ take-append-seam b r;
       after = sym (drop-drop n (at + 3) s) ∙ ap (drop n) h3 ∙ drop-append-seam b r;
     }

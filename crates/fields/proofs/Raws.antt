@@ -9,7 +9,7 @@ use lib.Dec.{ltb, leb}
 use native.Mathlib.Omega.{arith}
 use borrow.Author.Tests.{ltb-false}
 use Rattle.fields.specs.declared.Due.{Due}
-use Rattle.fields.specs.Reading.{word, fitting, field-at, ends, wrong, body}
+use Rattle.fields.specs.Reading.{word, fitting, beyond?, field-at, ends, wrong, body}
 use Rattle.fields.proofs.Bools.{cond-else}
 use Rattle.fields.specs.declared.Raw.{Raw}
 use Rattle.fields.specs.declared.Raw.the-variants.{Whole, Short, Cut, End}
@@ -26,8 +26,8 @@ field-room s at t n e =
 
 -- the field reader and the judgement of what is due make up the definition
 by-tests : (d : Due) (at t n : ℕ) (a b c : Bool)
-    → judged d at (cond a End (cond b Cut (cond c (Short t n) (Whole t n))))
-    ≡ cond a (cond (d .complete) ends (wrong 5 at)) (cond (d .full) (wrong 5 at) (cond b (wrong 1 at) (cond (fitting d t n) (cond c (wrong 1 at) (body t n)) (wrong 2 at))))
+    → judged d at (cond a End (cond b (Cut t) (cond c (Short t n) (Whole t n))))
+    ≡ cond a (cond (d .complete) ends (wrong 5 at)) (cond (beyond? d t) (wrong 5 at) (cond b (wrong 1 at) (cond (fitting d t n) (cond c (wrong 1 at) (body t n)) (wrong 2 at))))
 by-tests d at t n true b c = refl
 by-tests d at t n false true c = refl
 by-tests d at t n false false true = refl
@@ -62,6 +62,6 @@ body-found d s at t n e = go (raw-at s at) refl (judged-is d s at ∙ e)
 
     go : (r : Raw) → raw-at s at ≡ r → judged d at r ≡ body t n → body-of s at r ≡ take n (drop (at + 3) s)
     go End q h = absurd (not-ends (d .complete) h)
-    go Cut q h = absurd (not-cut (d .full) 1 h)
-    go (Short u m) q h = absurd (not-short (d .full) (fitting d u m) h)
-    go (Whole u m) q h = ap (λ k. take k (drop (at + 3) s)) (whole (d .full) (fitting d u m) u m h)
+    go (Cut u) q h = absurd (not-cut (beyond? d u) 1 h)
+    go (Short u m) q h = absurd (not-short (beyond? d u) (fitting d u m) h)
+    go (Whole u m) q h = ap (λ k. take k (drop (at + 3) s)) (whole (beyond? d u) (fitting d u m) u m h)

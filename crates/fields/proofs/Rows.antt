@@ -1,17 +1,27 @@
--- Laws of the table of tags: each tag has one row, and so one length.
+-- Laws of the table of tags: a tag has one row, and a field that fits what is due is one of the rows that are due.
 -- Assumes nothing.
-use Prim.Native.Nat.{ℕ}
+use Prim.Native.Nat.{ℕ, _^_}
 use mathlib.Core.Path.{_≡_, refl, sym, ap, _∙_}
-use mathlib.Core.Bool.{Bool, true, false, cond, not, _&&_, _||_, true≢false, false≢true, and-false, or-false}
-use mathlib.Core.List.{List, [], _∷_}
+use mathlib.Core.Logic.{_⊎_, inl, inr}
+use mathlib.Core.Bool.{Bool, true, false, cond, not, _&&_, _||_, true≢false, false≢true, and-false}
+use mathlib.Core.List.{List, [], _∷_, map}
+use Rattle.theory.specs.Lists.{filter, some?, range}
 use Rattle.fields.specs.declared.File.{File}
 use Rattle.fields.specs.declared.File.the-variants.{Sheet, Question, Register, Narrowed}
 use Rattle.fields.specs.declared.Row.{Row}
-use Rattle.fields.specs.Table.{rows, allowed, matching, among, row-in, row-of, tag-length}
+use Rattle.fields.specs.declared.Due.{Due}
+use Rattle.fields.specs.Table.{rows, in-set, allowed, row-in, row-of}
+use Rattle.fields.specs.Reading.{due-row?, due-rows, due-tag?, fitting, beyond?, tags-due}
 use Rattle.fields.proofs.Bools.{and-left, and-right}
-use borrow.Author.Tests.{eqb-true}
+use borrow.Author.Tests.{eqb-true, eq-eqb, ne-eqb}
 use lib.Dec.{eqb}
 
+-- row i has bit i
+pub own-bits : map (λ (r : Row). r .6) rows ≡ map (λ (i : ℕ). 2 ^ i) (range 11)
+unfolding rows
+own-bits = refl
+
+-- ---- the row of a tag
 abbrev tagged : ℕ → List Row → Bool
 tagged t [] = false
 tagged t (r ∷ rs) = eqb (r .0) t || tagged t rs
@@ -21,37 +31,113 @@ abbrev single-rows : List Row → Bool
 single-rows [] = true
 single-rows (r ∷ rs) = not (tagged (r .0) rs) && single-rows rs
 
-among-tagged : (rs : List Row) (f : File) (t n : ℕ) → among rs f t n ≡ true → tagged t rs ≡ true
-unfolding among
-among-tagged [] f t n e = absurd (false≢true e)
-among-tagged (r ∷ rs) f t n e = go (eqb (r .0) t) e (among-tagged rs f t n)
+-- a test h that only rows with the tag t pass, and those where k holds
+module _ (t : ℕ) (g h k : Row → Bool) (other : (r : Row) → eqb (r .0) t ≡ false → h r ≡ false) (own : (r : Row) → eqb (r .0) t ≡ true → h r ≡ k r) where
+  none-passes : (rs : List Row) → tagged t rs ≡ false → some? h (filter g rs) ≡ false
+  none-passes [] e = refl
+  none-passes (r ∷ rs) e = go (eqb (r .0) t) (g r) refl e (none-passes rs)
+    where
+      go : (a b : Bool) → eqb (r .0) t ≡ a → a || tagged t rs ≡ false → (tagged t rs ≡ false → some? h (filter g rs) ≡ false)
+          → some? h (cond b (r ∷ filter g rs) (filter g rs)) ≡ false
+      go true b q e ih = absurd (true≢false e)
+      go false true q e ih = rw (other r q) (ih e)
+      go false false q e ih = ih e
+
+  -- where no tag has two rows, the row of t tells
+  one-passes : (rs : List Row) → single-rows rs ≡ true → g (row-in [] t) ≡ false → k (row-in rs t) && g (row-in rs t) ≡ some? h (filter g rs)
+  one-passes [] e n = rw n (and-false (k (row-in [] t)))
+  one-passes (r ∷ rs) e n = go (eqb (r .0) t) refl (one-passes rs (and-right (not (tagged (r .0) rs)) (single-rows rs) e) n)
+    where
+      alone : (b : Bool) → tagged (r .0) rs ≡ b → b ≡ false
+      alone true z = absurd (true≢false (sym (and-left (not (tagged (r .0) rs)) (single-rows rs) e) ∙ ap not z))
+      alone false z = refl
+
+      here : (a b : Bool) → h r ≡ b → some? h (filter g rs) ≡ false → b && a ≡ some? h (cond a (r ∷ filter g rs) (filter g rs))
+      here true true p q = rw p
+      here true false p q = rw (p, q)
+      here false true p q = sym q
+      here false false p q = sym q
+
+      skip : (a : Bool) → h r ≡ false → some? h (filter g rs) ≡ some? h (cond a (r ∷ filter g rs) (filter g rs))
+      skip true p = rw p
+      skip false p = refl
+
+      go : (b : Bool) → eqb (r .0) t ≡ b → k (row-in rs t) && g (row-in rs t) ≡ some? h (filter g rs)
+          → k (cond b r (row-in rs t)) && g (cond b r (row-in rs t)) ≡ some? h (cond (g r) (r ∷ filter g rs) (filter g rs))
+      go true q ih = here (g r) (k r) (own r q) (none-passes rs (ap (λ (u : ℕ). tagged u rs) (sym (eqb-true (r .0) t q)) ∙ alone (tagged (r .0) rs) refl))
+      go false q ih = ih ∙ skip (g r) (other r q)
+
+-- the row that stands for none is not due
+no-row : (d : Due) (t : ℕ) → due-row? d (row-in [] t) ≡ false
+no-row d t = by-file (d .file)
   where
-    go : (b : Bool) → (b && eqb (r .1) n && allowed r f) || among rs f t n ≡ true → (among rs f t n ≡ true → tagged t rs ≡ true) → b || tagged t rs ≡ true
-    go true e ih = refl
-    go false e ih = ih e
+    by-file : (f : File) → (in-set (d .rows) (row-in [] t) && allowed (row-in [] t) f) ≡ false
+    by-file Sheet = and-false (in-set (d .rows) (row-in [] t))
+    by-file Question = and-false (in-set (d .rows) (row-in [] t))
+    by-file Register = and-false (in-set (d .rows) (row-in [] t))
+    by-file Narrowed = and-false (in-set (d .rows) (row-in [] t))
 
--- the tag's row tells of every field whether the table has it
-one-row : (rs : List Row) (f : File) (t n : ℕ) → single-rows rs ≡ true → matching (row-in rs t) f t n ≡ among rs f t n
-unfolding among
-one-row [] Sheet t n h = and-false (eqb 0 t && eqb 0 n)
-one-row [] Question t n h = and-false (eqb 0 t && eqb 0 n)
-one-row [] Register t n h = and-false (eqb 0 t && eqb 0 n)
-one-row [] Narrowed t n h = and-false (eqb 0 t && eqb 0 n)
-one-row (r ∷ rs) f t n h = go (eqb (r .0) t) refl (one-row rs f t n (and-right (not (tagged (r .0) rs)) (single-rows rs) h))
-  where
-    alone : (b : Bool) → among rs f (r .0) n ≡ b → b ≡ false
-    alone true e = absurd (true≢false (sym (and-left (not (tagged (r .0) rs)) (single-rows rs) h) ∙ ap not (among-tagged rs f (r .0) n e)))
-    alone false e = refl
+pub row-tag : (d : Due) (t : ℕ) → due-row? d (row-of t) ≡ due-tag? d t
+unfolding row-of rows due-tag? due-rows
+row-tag d t = one-passes t (due-row? d) (λ r. eqb (r .0) t) (λ r. true) (λ r e. e) (λ r e. e) rows refl (no-row d t)
 
-    go : (b : Bool) → eqb (r .0) t ≡ b → matching (row-in rs t) f t n ≡ among rs f t n → matching (cond b r (row-in rs t)) f t n ≡ matching r f t n || among rs f t n
-    go true q rest = rw (← eqb-true (r .0) t q, alone _ refl) (sym (or-false _))
-    go false q rest = rw q rest
+row-fits : (d : Due) (t n : ℕ) → eqb (row-of t .1) n && due-row? d (row-of t) ≡ fitting d t n
+unfolding row-of rows fitting due-rows
+row-fits d t n = one-passes t (due-row? d) (λ r. eqb (r .0) t && eqb (r .1) n) (λ r. eqb (r .1) n) (λ r e. rw e) (λ r e. rw e) rows refl (no-row d t)
 
-pub row-among : (f : File) (t n : ℕ) → matching (row-of t) f t n ≡ among rows f t n
-unfolding row-of rows
-row-among f t n = one-row rows f t n refl
+-- by whether that row has the length
+module _ (d : Due) (t n : ℕ) (r : Row) (e : r ≡ row-of t) where
+  pub fits-by-row : r .1 ≡ n → due-row? d r ≡ fitting d t n
+  fits-by-row h = ap (λ (b : Bool). b && due-row? d r) (sym (eq-eqb (r .1) n h)) ∙ ap (λ (x : Row). eqb (x .1) n && due-row? d x) e ∙ row-fits d t n
 
--- a field that the table has has its tag's length
-pub own-length : (f : File) (t n : ℕ) → among rows f t n ≡ true → n ≡ tag-length t
-unfolding tag-length row-of
-own-length f t n e = sym (eqb-true (row-of t .1) n (and-right (eqb (row-of t .0) t) _ (and-left _ (allowed (row-of t) f) (row-among f t n ∙ e))))
+  pub fits-not : (r .1 ≡ n → ⊥) → false ≡ fitting d t n
+  fits-not h = ap (λ (b : Bool). b && due-row? d r) (sym (ne-eqb (r .1) n h)) ∙ ap (λ (x : Row). eqb (x .1) n && due-row? d x) e ∙ row-fits d t n
+
+-- ---- a field that fits
+-- it is one of the rows: where one alone is due, these are its tag and its length
+abbrev pub OneOf : List Row → ℕ → ℕ → Type 0
+OneOf [] t n = ⊥
+OneOf (r ∷ []) t n = (t ≡ r .0) × (n ≡ r .1)
+OneOf (r ∷ (q ∷ rs)) t n = ((t ≡ r .0) × (n ≡ r .1)) ⊎ OneOf (q ∷ rs) t n
+
+module _ (t n : ℕ) where
+  same : (r : Row) → (eqb (r .0) t && eqb (r .1) n) ≡ true → (t ≡ r .0) × (n ≡ r .1)
+  same r e = (sym (eqb-true (r .0) t (and-left _ (eqb (r .1) n) e)), sym (eqb-true (r .1) n (and-right (eqb (r .0) t) _ e)))
+
+  among : (rs : List Row) → some? (λ r. eqb (r .0) t && eqb (r .1) n) rs ≡ true → OneOf rs t n
+  among [] e = absurd (false≢true e)
+  among (r ∷ []) e = go (eqb (r .0) t && eqb (r .1) n) refl e
+    where
+      go : (b : Bool) → (eqb (r .0) t && eqb (r .1) n) ≡ b → b || false ≡ true → (t ≡ r .0) × (n ≡ r .1)
+      go true q e = same r q
+      go false q e = absurd (false≢true e)
+  among (r ∷ (x ∷ rs)) e = go (eqb (r .0) t && eqb (r .1) n) refl e (among (x ∷ rs))
+    where
+      go : (b : Bool) → (eqb (r .0) t && eqb (r .1) n) ≡ b → b || some? (λ r. eqb (r .0) t && eqb (r .1) n) (x ∷ rs) ≡ true
+          → (some? (λ r. eqb (r .0) t && eqb (r .1) n) (x ∷ rs) ≡ true → OneOf (x ∷ rs) t n) → OneOf (r ∷ (x ∷ rs)) t n
+      go true q e ih = inl (same r q)
+      go false q e ih = inr (ih e)
+
+  -- and its tag is due
+  tagged-too : (rs : List Row) → some? (λ r. eqb (r .0) t && eqb (r .1) n) rs ≡ true → some? (λ r. eqb (r .0) t) rs ≡ true
+  tagged-too [] e = e
+  tagged-too (r ∷ rs) e = go (eqb (r .0) t) e (tagged-too rs)
+    where
+      go : (b : Bool) → (b && eqb (r .1) n) || some? (λ r. eqb (r .0) t && eqb (r .1) n) rs ≡ true
+          → (some? (λ r. eqb (r .0) t && eqb (r .1) n) rs ≡ true → some? (λ r. eqb (r .0) t) rs ≡ true) → b || some? (λ r. eqb (r .0) t) rs ≡ true
+      go true e ih = refl
+      go false e ih = ih e
+
+one-of : (d : Due) (t n : ℕ) → fitting d t n ≡ true → OneOf (due-rows d) t n
+unfolding fitting
+one-of d t n e = among t n (due-rows d) e
+
+pub fits-within : (d : Due) (t n : ℕ) → fitting d t n ≡ true → beyond? d t ≡ false
+unfolding fitting due-tag?
+fits-within d t n e = rw (tagged-too t n (due-rows d) e) (and-false (d .closing))
+
+-- where the file is full nothing fits; and else the rows of the tags do, a list that computes where tags and file are known
+pub due-one : (f : File) (ts : List ℕ) (c b : Bool) (t n : ℕ) → fitting (tags-due f ts c b) t n ≡ true → (b ≡ false) × OneOf (due-rows (tags-due f ts c false)) t n
+unfolding fitting due-rows rows
+due-one f ts c true t n e = absurd (false≢true e)
+due-one f ts c false t n e = (refl, one-of (tags-due f ts c false) t n e)

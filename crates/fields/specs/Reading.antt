@@ -1,14 +1,18 @@
 -- What it is to read a file: one definition for the four kinds of file.
 -- SPECIFICATION, Order in a field: 5, 1 for the head, 2, 1 for the body, 3, 6, 4; fields are taken from the left.
 -- Assumes nothing.
-use mathlib.Core.Bool.{Bool, cond, _&&_}
-use mathlib.Core.List.{List}
+use mathlib.Core.Bool.{Bool, cond, not, _&&_}
+use mathlib.Core.List.{List, [], _∷_, _++_}
+use mathlib.Core.Option.{Option, none, some}
 use Prim.Native.Nat.{ℕ, zero, suc, _+_, _*_}
-use lib.Dec.{leb, ltb}
+use lib.Dec.{leb, ltb, eqb}
 use lib.ListN.{length, getD, take, drop}
-use Rattle.fields.specs.declared.Due.{Due}
+use Rattle.theory.specs.Lists.{filter, some?}
 use Rattle.theory.specs.Result.{Result, got, refused, onward}
-use Rattle.fields.specs.Table.{among, rows}
+use Rattle.fields.specs.declared.File.{File}
+use Rattle.fields.specs.declared.Row.{Row}
+use Rattle.fields.specs.declared.Due.{Due}
+use Rattle.fields.specs.Table.{rows, allowed, in-set, rows-of}
 
 -- the number in two bytes, and in eight, the high one first
 abbrev pub word : List ℕ → ℕ → ℕ
@@ -23,14 +27,37 @@ pub data Field : Type 0 where
   wrong : ℕ → ℕ → Field
   body : ℕ → ℕ → Field
 
--- the tag is due, and the length is its own
-unfoldable pub fitting : Due → ℕ → ℕ → Bool
-fitting d t n = leb (d .lo) t && leb t (d .hi) && among rows (d .file) t n
+-- ---- what is due at a place: the rows of a set, as far as the table allows them in the file
+abbrev pub due-row? : Due → Row → Bool
+due-row? d r = in-set (d .rows) r && allowed r (d .file)
 
+unfoldable pub due-rows : Due → List Row
+due-rows d = filter (due-row? d) rows
+
+-- one of them has the tag; has the tag and the length
+unfoldable pub due-tag? : Due → ℕ → Bool
+due-tag? d t = some? (λ r. eqb (r .0) t) (due-rows d)
+
+unfoldable pub fitting : Due → ℕ → ℕ → Bool
+fitting d t n = some? (λ r. eqb (r .0) t && eqb (r .1) n) (due-rows d)
+
+-- what is due is the last that may follow, and the byte is no tag of it
+abbrev pub beyond? : Due → ℕ → Bool
+beyond? d t = d .closing && not (due-tag? d t)
+
+-- the rows of a set, until the file is full; then nothing, and any byte is 5
+abbrev pub rows-due : File → ℕ → (complete full : Bool) → Due
+rows-due f m complete full = record { file = f; rows = cond full 0 m; complete = complete; closing = full }
+
+-- the same by tags
+abbrev pub tags-due : File → List ℕ → (complete full : Bool) → Due
+tags-due f ts complete full = rows-due f (rows-of ts) complete full
+
+-- ---- the field at a place
 unfoldable pub field-at : Due → List ℕ → ℕ → Field
 field-at d s at =
     cond (leb (length s) at) (cond (d .complete) ends (wrong 5 at))
-    (cond (d .full) (wrong 5 at)
+    (cond (beyond? d (getD s at 0)) (wrong 5 at)
     (cond (ltb (length s) (at + 3)) (wrong 1 at)
     (cond (fitting d (getD s at 0) (word s (at + 1)))
     (cond (ltb (length s) (at + 3 + word s (at + 1))) (wrong 1 at) (body (getD s at 0) (word s (at + 1))))
@@ -66,3 +93,38 @@ module _ (F : Form) (s : List ℕ) where
 -- a field has three bytes or more, so there are fewer fields than bytes, and `walk` never runs out
 unfoldable pub read : (F : Form) → List ℕ → Result (F .Value)
 read F s = walk F s (suc (length s)) (F .start) 0
+
+-- ---- the same, with where the reader stands apart from what it keeps; the code has the first, and both share it
+pub record Format : Type 1 where
+  -- where the reader stands; what a field hands over; what is kept of the fields so far; what was read
+  pub Control : Type 0
+  pub Item : Type 0
+  pub Kept : Type 0
+  pub Value : Type 0
+  pub start : Control
+  pub empty : Kept
+  pub due : Control → Due
+  -- by its place, the place after it, its tag and its body: 3, 6, 4
+  pub judge : Control → ℕ → ℕ → ℕ → List ℕ → Result (Control × Item)
+  -- what a field adds; 4 where that is judged by what was kept
+  pub keep : Kept → Item → Result Kept
+  pub value : Control → Kept → Value
+
+-- what is kept is the list of what was handed over
+abbrev pub collected : {A : Type 0} → List A → Option A → Result (List A)
+collected xs none = got xs
+collected xs (some x) = got (xs ++ (x ∷ []))
+
+-- a field that was judged, kept
+abbrev pub kept : (F : Format) → F .Kept → Result (F .Control × F .Item) → Result (F .Control × F .Kept)
+kept F k a = onward (λ p. onward (λ k′. got (p .0, k′)) (F .keep k (p .1))) a
+
+abbrev pub form : Format → Form
+form F = record {
+  State = F .Control × F .Kept;
+  Value = F .Value;
+  start = (F .start, F .empty);
+  due = λ st. F .due (st .0);
+  judge = λ st at next t b. kept F (st .1) (F .judge (st .0) at next t b);
+  value = λ st. F .value (st .0) (st .1);
+}

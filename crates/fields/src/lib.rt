@@ -2,8 +2,8 @@
 ghost use mathlib.Core.Path.{_≡_};
 ghost use Prim.Native.Nat.{_+_, _<_};
 ghost use lib.ListN.{length};
-ghost use Rattle.fields.specs.Table.{allowed, matching, among, rows, row-of};
-ghost use Rattle.fields.specs.Reading.{fitting, field-at, word, eight};
+ghost use Rattle.fields.specs.Table.{allowed, row-of};
+ghost use Rattle.fields.specs.Reading.{due-row?, due-tag?, fitting, beyond?, rows-due, field-at, word, eight};
 ghost use Rattle.fields.specs.Raw.{raw-at, body-in, judged};
 ghost use Rattle.fields.specs.Contract.{number-of, place-of, source-number, field-said};
 
@@ -127,21 +127,29 @@ pub const BYTE: u16 = 256;
 
 pub const TWO_BYTES: u64 = BYTE as u64 * BYTE as u64;
 
-// A tag, its one length, and whether a sheet, a question, a register, a narrowed question may have it.
-pub struct Row(pub u8, pub u16, pub bool, pub bool, pub bool, pub bool);
+// A tag, its length, whether a sheet, a question, a register, a narrowed question may have it, and the row's bit in a set of rows.
+pub struct Row(
+    pub u8,
+    pub u16,
+    pub bool,
+    pub bool,
+    pub bool,
+    pub bool,
+    pub u16,
+);
 
 const ROWS: [Row; 11] = [
-    Row(0x11, 2, true, false, false, false),
-    Row(0x12, 3, true, false, false, false),
-    Row(0x21, 1, false, true, false, false),
-    Row(0x31, 4, false, false, true, false),
-    Row(0x32, 1, false, false, true, false),
-    Row(0x33, 5, false, false, true, false),
-    Row(0x41, 2, false, false, false, true),
-    Row(0x42, 17, false, false, false, true),
-    Row(0x43, 2, false, true, false, true),
-    Row(0x44, 1, false, true, false, true),
-    Row(0x45, 8, false, false, false, true),
+    Row(0x11, 2, true, false, false, false, 1),
+    Row(0x12, 3, true, false, false, false, 2),
+    Row(0x21, 1, false, true, false, false, 4),
+    Row(0x31, 4, false, false, true, false, 8),
+    Row(0x32, 1, false, false, true, false, 16),
+    Row(0x33, 5, false, false, true, false, 32),
+    Row(0x41, 2, false, false, false, true, 64),
+    Row(0x42, 17, false, false, false, true, 128),
+    Row(0x43, 2, false, true, false, true, 256),
+    Row(0x44, 1, false, true, false, true, 512),
+    Row(0x45, 8, false, false, false, true, 1024),
 ];
 
 // The tags of the table by name, and the lengths that code elsewhere counts with.
@@ -185,6 +193,34 @@ pub const OPERATOR_LENGTH: u16 = ROWS[9].1;
 
 pub const THROUGH_LENGTH: u16 = ROWS[10].1;
 
+// The rows by name, as sets of one row; `|` makes larger sets.
+pub const SHEET_ROW: u16 = ROWS[0].6;
+
+pub const TRIPLE_ROW: u16 = ROWS[1].6;
+
+pub const QUESTION_ROW: u16 = ROWS[2].6;
+
+pub const REGISTER_ROW: u16 = ROWS[3].6;
+
+pub const KIND_ROW: u16 = ROWS[4].6;
+
+pub const LINK_ROW: u16 = ROWS[5].6;
+
+pub const NARROWED_ROW: u16 = ROWS[6].6;
+
+pub const MEMBER_ROW: u16 = ROWS[7].6;
+
+pub const STEP_ROW: u16 = ROWS[8].6;
+
+pub const OPERATOR_ROW: u16 = ROWS[9].6;
+
+pub const THROUGH_ROW: u16 = ROWS[10].6;
+
+// Any symbol's row.
+pub const SYMBOL_ROWS: u16 = STEP_ROW | OPERATOR_ROW | THROUGH_ROW;
+
+const NO_ROWS: u16 = 0;
+
 fn allows(row: Row, file: File) -> bool
     ensures { λ r. ⌜ r ≡ allowed row file ⌝ }
 {
@@ -196,20 +232,9 @@ fn allows(row: Row, file: File) -> bool
     }
 }
 
-fn matches(row: Row, file: File, tag: u8, len: u16) -> bool
-    ensures { λ r. ⌜ r ≡ matching row file tag len ⌝ }
-{
-    if row.0 == tag {
-        if row.1 == len {
-            return allows(row, file);
-        }
-        return false;
-    }
-    false
-}
-
 // The row of a tag, or one that allows no file. Each tag names its row by a constant, since a row at an index that is only known when it
-// runs costs a copy of the whole table.
+// runs costs a copy of the whole table. Where a tag gets a second row, that row comes from a function like this one, with an arm for each
+// such tag, and `tag_due` and `is_due` ask of both rows.
 fn row_of(tag: u8) -> Row
     ensures { λ r. ⌜ r ≡ row-of tag ⌝ }
 {
@@ -226,36 +251,74 @@ fn row_of(tag: u8) -> Row
         STEP_TAG => rows[8],
         OPERATOR_TAG => rows[9],
         THROUGH_TAG => rows[10],
-        _ => Row(0, 0, false, false, false, false),
+        _ => Row(0, 0, false, false, false, false, NO_ROWS),
     }
 }
 
-// Whether the table has the tag, with this length, for the file.
-fn own(file: File, tag: u8, len: u16) -> bool
-    ensures { λ r. ⌜ r ≡ among rows file tag len ⌝ }
-{
-    matches(row_of(tag), file, tag, len)
-}
-
-// What is due at a place: the tags lo to hi; whether the file is complete there, so that it may end; whether it is full, so that it must.
+// What is due at a place: the rows of a set, as far as the file may have them. Where the file is complete it may end; where what is due is
+// closing nothing else may follow, and a byte that is no tag of it is refusal 5.
 pub struct Due {
     pub file: File,
-    pub lo: u8,
-    pub hi: u8,
+    pub rows: u16,
     pub complete: bool,
-    pub full: bool,
+    pub closing: bool,
+}
+
+// The rows of a set, until the file is full; then nothing, and any byte is refusal 5.
+pub fn rows_due(file: File, rows: u16, complete: bool, full: bool) -> Due
+    ensures { λ r. ⌜ r ≡ rows-due file rows complete full ⌝ }
+{
+    if full {
+        return Due {
+            file,
+            rows: NO_ROWS,
+            complete,
+            closing: true,
+        };
+    }
+    Due {
+        file,
+        rows,
+        complete,
+        closing: false,
+    }
+}
+
+// Whether a row is due.
+fn row_due(due: Due, row: Row) -> bool
+    ensures { λ r. ⌜ r ≡ due-row? due row ⌝ }
+{
+    if due.rows & row.6 == 0 {
+        return false;
+    }
+    let file = due.file;
+    allows(row, file)
+}
+
+// Whether the tag is due.
+fn tag_due(due: Due, tag: u8) -> bool
+    ensures { λ r. ⌜ r ≡ due-tag? due tag ⌝ }
+{
+    row_due(due, row_of(tag))
 }
 
 // Whether the tag is due and the length is its own.
 fn is_due(due: Due, tag: u8, len: u16) -> bool
     ensures { λ r. ⌜ r ≡ fitting due tag len ⌝ }
 {
-    if due.lo <= tag {
-        if tag <= due.hi {
-            let file = due.file;
-            return own(file, tag, len);
-        }
-        return false;
+    let row = row_of(tag);
+    if row.1 == len {
+        return row_due(due, row);
+    }
+    false
+}
+
+// Whether what is due is closing and the byte is no tag of it.
+fn beyond(due: Due, byte: u8) -> bool
+    ensures { λ r. ⌜ r ≡ beyond? due byte ⌝ }
+{
+    if due.closing {
+        return !tag_due(due, byte);
     }
     false
 }
@@ -291,11 +354,11 @@ pub fn eight_at(s: &[u8], at: usize) -> u64
         + long(two(s, at + 6))
 }
 
-// The field at a place, whatever is due: its tag and length, the same with the body cut short, a head cut short, or the file's end.
+// The field at a place, whatever is due: its tag and length, the same with the body cut short, the tag of a head cut short, or the file's end.
 pub enum Raw {
     Whole(u8, u16),
     Short(u8, u16),
-    Cut,
+    Cut(u8),
     End,
 }
 
@@ -306,7 +369,7 @@ pub fn step_at(s: &[u8], at: usize) -> Raw
         return Raw::End;
     }
     if s.len() < at + HEAD {
-        return Raw::Cut;
+        return Raw::Cut(s[at]);
     }
     let len = two(s, at + 1);
     if s.len() < at + HEAD + len as usize {
@@ -326,7 +389,7 @@ pub fn body_at(s: &[u8], at: usize) -> &[u8]
             &s[a..e]
         }
         Raw::Short(_, _) => &s[..0],
-        Raw::Cut => &s[..0],
+        Raw::Cut(_) => &s[..0],
         Raw::End => &s[..0],
     }
 }
@@ -349,14 +412,14 @@ fn judge(raw: Raw, at: usize, due: Due) -> Seen
             }
             Seen::Wrong(Refusal::WrongEnd(at))
         }
-        Raw::Cut => {
-            if due.full {
+        Raw::Cut(t) => {
+            if beyond(due, t) {
                 return Seen::Wrong(Refusal::WrongEnd(at));
             }
             Seen::Wrong(Refusal::Truncated(at))
         }
         Raw::Short(t, n) => {
-            if due.full {
+            if beyond(due, t) {
                 return Seen::Wrong(Refusal::WrongEnd(at));
             }
             if is_due(due, t, n) {
@@ -365,7 +428,7 @@ fn judge(raw: Raw, at: usize, due: Due) -> Seen
             Seen::Wrong(Refusal::Unexpected(at))
         }
         Raw::Whole(t, n) => {
-            if due.full {
+            if beyond(due, t) {
                 return Seen::Wrong(Refusal::WrongEnd(at));
             }
             if is_due(due, t, n) {

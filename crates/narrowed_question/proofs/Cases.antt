@@ -6,10 +6,10 @@ use Rattle.theory.specs.PathExpr.{forward, named, through, step, join}
 use Rattle.theory.specs.Merging.{Member, member}
 use Rattle.theory.specs.Result.{got, refused}
 use Rattle.fields.specs.Case.{Case, case, AllRead}
-use Rattle.fields.specs.Table.{among, rows}
-use Rattle.fields.specs.Reading.{eight, fitting, field-at, walk, read}
+use Rattle.fields.specs.Table.{rows, rows-of}
+use Rattle.fields.specs.Reading.{eight, fitting, field-at, walk, read, due-rows, due-tag?}
 use Rattle.symbols.specs.Symbols.{symbol-numbered, order-code, arity, step-of, operator-of, symbol-in, push}
-use Rattle.narrowed_question.specs.Form.{Flat, narrowed-form}
+use Rattle.narrowed_question.specs.Form.{Flat, narrowed-form, count-of, open-of, member-symbol}
 use Rattle.narrowed_question.specs.Writing.{encode}
 use Rattle.narrowed_question.specs.Members.{flat-of, narrowed-file}
 
@@ -24,5 +24,5 @@ cases =
     ∷ []
 
 pub all-read : AllRead narrowed-form cases
-unfolding among rows eight fitting field-at walk read order-code arity symbol-numbered step-of operator-of symbol-in push encode narrowed-file
+unfolding count-of open-of member-symbol rows-of rows eight due-rows due-tag? fitting field-at walk read order-code arity symbol-numbered step-of operator-of symbol-in push encode narrowed-file
 all-read = refl

@@ -2,10 +2,10 @@
 -- Assumes nothing.
 use Prim.Native.Nat.{ℕ, _+_, _<_, _≤_}
 use mathlib.Core.Path.{_≡_, refl, ap, ap₂, _∙_, sym, subst}
-use mathlib.Core.Bool.{Bool, true, false, cond}
+use mathlib.Core.Bool.{true, false}
 use mathlib.Core.List.{List, [], _∷_, _++_}
+use mathlib.Core.Option.{none, some}
 use lib.ListN.{length, take, drop, set, length-set, replicate, length-append, length-replicate}
-use lib.Dec.{eqb}
 use native.Mathlib.Omega.{arith}
 use Rattle.theory.specs.PathExpr.{before?}
 use Rattle.theory.specs.Result.{Result, got, refused}
@@ -13,20 +13,17 @@ use Rattle.fields.specs.declared.Refusal.{Refusal}
 use Rattle.fields.specs.Contract.{refusal-said, number-of, place-of}
 use Rattle.fields.specs.Reading.{Field, ends, wrong, body, field-at, word, read}
 use Rattle.symbols.specs.Symbols.{Numbered, numbered}
-use Rattle.narrowed_question.specs.Form.{Flat, narrowed-form, order-codes}
+use Rattle.narrowed_question.specs.Form.{Flat, Item, nothing, opens, symbol, last, due, judge, narrowed-form, order-codes}
 use Rattle.narrowed_question.specs.declared.Standing.{Standing}
-use Rattle.narrowed_question.specs.declared.Standing.the-variants.{Head, Between, Within}
+use Rattle.narrowed_question.specs.declared.Standing.the-variants.{Head, Between}
 use Rattle.narrowed_question.specs.Contract.{arrays, counted, members-in, Packed, ReadsNarrowed, Blank, ReadsInto, outcome-said, segment-codes}
-use Rattle.narrowed_question.specs.Internal.{go, more, last, marked, due-of, judged, turned, turned-by, Able, Move}
+use Rattle.narrowed_question.specs.Internal.{marked, turned, turned-by, Able}
 use Rattle.narrowed_question.specs.declared.Outcome.{Outcome}
 use Rattle.narrowed_question.specs.declared.Outcome.the-variants as outcome
 use Rattle.narrowed_question.specs.declared.Members.{Members}
 use Rattle.narrowed_question.specs.declared.Marks.{Marks}
-use Rattle.narrowed_question.specs.Internal as internal
-use Rattle.symbols.specs.declared.Stack.{Stack}
-use Rattle.fields.proofs.Bools.{not-got, told-refused}
+use Rattle.fields.proofs.Bools.{onward-got, not-got, told-refused}
 use Rattle.fields.proofs.Fields.{found}
-use Rattle.narrowed_question.proofs.Moves.{moves, count-go, open-go}
 use Rattle.narrowed_question.proofs.Tracks.{Tracks, tracks-start, total, open-list, Shut, tracks-ends, tracks-wrong, tracks-able, tracks-stop}
 use Rattle.narrowed_question.proofs.Tracks.{tracks-go, tracks-open, tracks-more, last-few, last-members, last-total, last-opened, tracks-order, tracks-done}
 use Rattle.narrowed_question.proofs.ArraysFilled.{Filled, filled-start, refill, filled-open, room, filled-more, filled-done, numbers-long, before-codes, open-codes, filled-packed}
@@ -65,24 +62,24 @@ module _ {s : List ℕ} {st : Standing} {at done prev first used : ℕ} {sizes f
       subst (λ ys. Filled (r .ms) [] [] [] ys (r .P) done prev first used sizes from to numbers sets) x
       (refill (h (total st (r .xs))) (h (r .f)) (h (r .t)) (r .filled))
 
-  reading-ends : field-at (due-of st) s at ≡ ends
+  reading-ends : field-at (due st) s at ≡ ends
       → (got done ≡ counted (read narrowed-form s)) × Packed (members-in (read narrowed-form s)) (record { count = done; sizes = sizes; from = from; to = to; numbers = numbers; sets = sets })
   reading-ends e =
       let g = tracks-ends s at (r .P) (r .ms) (r .f) (r .t) (r .xs) st (r .tracks) e in
       let p = filled-packed (shut (g .2) (g .1)) in
       (ap got (p .count) ∙ ap counted (sym (g .0)), subst (λ a. Packed (members-in a) (record { count = done; sizes = sizes; from = from; to = to; numbers = numbers; sets = sets })) (sym (g .0)) p)
 
-  reading-wrong : (i j : ℕ) → field-at (due-of st) s at ≡ wrong i j → read narrowed-form s ≡ refused i j
+  reading-wrong : (i j : ℕ) → field-at (due st) s at ≡ wrong i j → read narrowed-form s ≡ refused i j
   reading-wrong i j e = tracks-wrong s at (r .P) (r .ms) (r .f) (r .t) (r .xs) st (r .tracks) i j e
 
   pub reading-able : Able st × (at ≤ length s)
   reading-able = (tracks-able s at (r .P) (r .ms) (r .f) (r .t) (r .xs) st (r .tracks), r .tracks .going .inside)
 
-  module _ (u m : ℕ) (e : field-at (due-of st) s at ≡ body u m) where
-    reading-stop : (i j : ℕ) → judged st at (at + 3 + m) u (take m (drop (at + 3) s)) ≡ refused i j → read narrowed-form s ≡ refused i j
+  module _ (u m : ℕ) (e : field-at (due st) s at ≡ body u m) where
+    reading-stop : (i j : ℕ) → judge st at (at + 3 + m) u (take m (drop (at + 3) s)) ≡ refused i j → read narrowed-form s ≡ refused i j
     reading-stop i j h = tracks-stop s at (r .P) (r .ms) (r .f) (r .t) (r .xs) u m st (r .tracks) e i j h
 
-    reading-go : (st′ : Standing) → judged st at (at + 3 + m) u (take m (drop (at + 3) s)) ≡ got (go st′) → Reading s st′ (at + 3 + m) done prev first used sizes from to numbers sets
+    reading-go : (st′ : Standing) → judge st at (at + 3 + m) u (take m (drop (at + 3) s)) ≡ got (st′, nothing) → Reading s st′ (at + 3 + m) done prev first used sizes from to numbers sets
     reading-go st′ h =
         let g = tracks-go s at (r .P) (r .ms) (r .f) (r .t) (r .xs) u m st (r .tracks) e st′ h in
         let o : (v w : ℕ) → open-list st v ≡ open-list st′ w = λ v w. g .0 v ∙ sym (g .2 w) in
@@ -96,7 +93,7 @@ module _ {s : List ℕ} {st : Standing} {at done prev first used : ℕ} {sizes f
           filled = refill (o (total st (r .xs)) (total st′ (r .xs))) (o (r .f) (r .f)) (o (r .t) (r .t)) (r .filled);
         }
 
-    reading-open : (n f t : ℕ) (st′ : Standing) → judged st at (at + 3 + m) u (take m (drop (at + 3) s)) ≡ got (internal.open-as n f t st′)
+    reading-open : (n f t : ℕ) (st′ : Standing) → judge st at (at + 3 + m) u (take m (drop (at + 3) s)) ≡ got (st′, opens n f t)
         → (done < 128) × Reading s st′ (at + 3 + m) done prev first used (set sizes done n) (set from done f) (set to done t) numbers sets
     reading-open n f t st′ h =
         let g = tracks-open s at (r .P) (r .ms) (r .f) (r .t) (r .xs) u m st (r .tracks) e n f t st′ h in
@@ -113,10 +110,10 @@ module _ {s : List ℕ} {st : Standing} {at done prev first used : ℕ} {sizes f
           },
         )
 
-    reading-more : (c k : ℕ) (st′ : Standing) → judged st at (at + 3 + m) u (take m (drop (at + 3) s)) ≡ got (more c k st′)
+    reading-more : (c k : ℕ) (st′ : Standing) → judge st at (at + 3 + m) u (take m (drop (at + 3) s)) ≡ got (st′, symbol (numbered c k))
         → (used < 6144) × Reading s st′ (at + 3 + m) done prev first (used + 1) sizes from to (set numbers used c) (set sets used k)
     reading-more c k st′ h =
-        let g = tracks-more s at (r .P) (r .ms) (r .f) (r .t) (r .xs) u m st (r .tracks) e c k st′ h in
+        let g = tracks-more s at (r .P) (r .ms) (r .f) (r .t) (r .xs) u m st (r .tracks) e (numbered c k) st′ h in
         let o : (v : ℕ) → open-list st v ≡ open-list st′ v = λ v. g .4 v ∙ sym (g .5 v) in
         let full = r .xs ++ (numbered c k ∷ []) in (
           room (r .filled) c k (g .0) (g .1),
@@ -131,21 +128,21 @@ module _ {s : List ℕ} {st : Standing} {at done prev first used : ℕ} {sizes f
           },
         )
 
-    module _ (c k l p : ℕ) (h : judged st at (at + 3 + m) u (take m (drop (at + 3) s)) ≡ got (last c k l p)) where
+    module _ (c k l p : ℕ) (h : judge st at (at + 3 + m) u (take m (drop (at + 3) s)) ≡ got (Between l, last (numbered c k) p)) where
       abbrev full : List Numbered
       full = r .xs ++ (numbered c k ∷ [])
 
       few : length (r .ms) < 128
-      few = last-members s at (r .P) (r .ms) (r .f) (r .t) (r .xs) u m c k l p st (r .tracks) e h
+      few = last-members s at (r .P) (r .ms) (r .f) (r .t) (r .xs) u m (numbered c k) l p st (r .tracks) e h
 
       short : length (r .xs) < 48
-      short = last-few s at (r .P) (r .ms) (r .f) (r .t) (r .xs) u m c k l p st (r .tracks) e h
+      short = last-few s at (r .P) (r .ms) (r .f) (r .t) (r .xs) u m (numbered c k) l p st (r .tracks) e h
 
       -- the member, whole
       whole : Filled (r .ms) (length full ∷ []) (r .f ∷ []) (r .t ∷ []) full (r .P) done prev first (used + 1) sizes from to (set numbers used c) (set sets used k)
       whole =
-          let o = last-opened s at (r .P) (r .ms) (r .f) (r .t) (r .xs) u m c k l p st (r .tracks) e h in
-          let n : total st (r .xs) ≡ length full = last-total s at (r .P) (r .ms) (r .f) (r .t) (r .xs) u m c k l p st (r .tracks) e h ∙ sym (length-append (r .xs) (numbered c k ∷ [])) in
+          let o = last-opened s at (r .P) (r .ms) (r .f) (r .t) (r .xs) u m (numbered c k) l p st (r .tracks) e h in
+          let n : total st (r .xs) ≡ length full = last-total s at (r .P) (r .ms) (r .f) (r .t) (r .xs) u m (numbered c k) l p st (r .tracks) e h ∙ sym (length-append (r .xs) (numbered c k ∷ [])) in
           refill (o (total st (r .xs)) ∙ ap (λ (v : ℕ). v ∷ []) n) (o (r .f)) (o (r .t)) (filled-more (r .filled) c k few short)
 
       last-room : used < 6144
@@ -165,7 +162,7 @@ module _ {s : List ℕ} {st : Standing} {at done prev first used : ℕ} {sizes f
       compared = ap₂ before? (before-codes whole) (open-codes whole)
 
       reading-order : before? (segment-codes (set numbers used c) prev first) (segment-codes (set numbers used c) first (used + 1)) ≡ false → read narrowed-form s ≡ refused 4 p
-      reading-order b = tracks-order s at (r .P) (r .ms) (r .f) (r .t) (r .xs) u m c k l p st (r .tracks) e h (sym compared ∙ b)
+      reading-order b = tracks-order s at (r .P) (r .ms) (r .f) (r .t) (r .xs) u m (numbered c k) l p st (r .tracks) e h (sym compared ∙ b)
 
       reading-last : before? (segment-codes (set numbers used c) prev first) (segment-codes (set numbers used c) first (used + 1)) ≡ true
           → Reading s (Between l) (at + 3 + m) (done + 1) first (used + 1) (used + 1) sizes from to (set numbers used c) (set sets used k)
@@ -175,112 +172,95 @@ module _ {s : List ℕ} {st : Standing} {at done prev first used : ℕ} {sizes f
         f = 0;
         t = 0;
         xs = [];
-        tracks = tracks-done s at (r .P) (r .ms) (r .f) (r .t) (r .xs) u m c k l p st (r .tracks) e h (sym compared ∙ b);
+        tracks = tracks-done s at (r .P) (r .ms) (r .f) (r .t) (r .xs) u m (numbered c k) l p st (r .tracks) e h (sym compared ∙ b);
         filled = filled-done whole (omega (arith, short, length-append (r .xs) (numbered c k ∷ [])));
       }
 
 -- ---- a turn: the field at a place, judged
--- 41, 42 and symbols are not the file's end
-not-end : (st : Standing) (at next u : ℕ) (b : List ℕ) → judged st at next u b ≡ got internal.ends → ⊥
-not-end Head at next u b e = let (w, _) = count-go at b internal.ends e in let z : _≡_ {A = ℕ} 0 1 = cc in absurd (omega arith)
-not-end (Between l) at next u b e = let (w, _) = open-go l at b internal.ends e in let z : _≡_ {A = ℕ} 0 1 = cc in absurd (omega arith)
-not-end (Within l p q) at next u b e = let m = moves l p q at next u b internal.ends e in by-left (eqb (m .q′ .left) 0) (m .x) (m .q′) (m .move-is)
-  where
-    by-left : (c : Bool) (x : Numbered) (q′ : Stack) → cond c (last (x .number) (x .set) l p) (more (x .number) (x .set) (Within l p q′)) ≡ internal.ends → ⊥
-    by-left true x q′ e = let z : _≡_ {A = ℕ} 0 1 = cc in absurd (omega arith)
-    by-left false x q′ e = let z : _≡_ {A = ℕ} 0 1 = cc in absurd (omega arith)
-
--- a field that was judged to be a move
-record Judged (s : List ℕ) (st : Standing) (at : ℕ) (v : Move) : Type 0 where
+-- the reading goes on by v
+record Judged (s : List ℕ) (st : Standing) (at : ℕ) (v : Standing × Item) : Type 0 where
   tag : ℕ
   len : ℕ
-  seen : field-at (due-of st) s at ≡ body tag len
-  moved : judged st at (at + 3 + len) tag (take len (drop (at + 3) s)) ≡ got v
+  seen : field-at (due st) s at ≡ body tag len
+  moved : judge st at (at + 3 + len) tag (take len (drop (at + 3) s)) ≡ got v
   next : at + 3 + len ≡ at + 3 + word s (at + 1)
   room : at + 3 + word s (at + 1) ≤ length s
 
 module _ (s : List ℕ) (st : Standing) (at : ℕ) where
-  turn-field : (v : Move) → (v ≡ internal.ends → ⊥) → turned st at s ≡ got v → Judged s st at v
+  turn-field : (v : Standing × Item) → turned st at s ≡ got (some v) → Judged s st at v
   unfolding turned
-  turn-field v n e = by-field (field-at (due-of st) s at) refl e
+  turn-field v e = by-field (field-at (due st) s at) refl e
     where
-      by-field : (d : Field) → field-at (due-of st) s at ≡ d → turned-by st at s d ≡ got v → Judged s st at v
-      by-field ends h e = let z : internal.ends ≡ v = cc in absurd (n (sym z))
-      by-field (wrong i j) h e = absurd (not-got i j v e)
+      by-field : (d : Field) → field-at (due st) s at ≡ d → turned-by st at s d ≡ got (some v) → Judged s st at v
+      by-field ends h e = let z : _≡_ {A = ℕ} 0 1 = cc in absurd (omega arith)
+      by-field (wrong i j) h e = absurd (not-got i j (some v) e)
       by-field (body u m) h e =
-          let g = found (due-of st) s at u m h in
+          let g = found (due st) s at u m h in
           let z : at + 3 + m ≡ at + 3 + word s (at + 1) = ap (λ (i : ℕ). at + 3 + i) (sym (g .len)) in
-          record { tag = u; len = m; seen = h; moved = e; next = z; room = subst (λ (i : ℕ). i ≤ length s) z (g .room) }
+          let (w, j, k) = onward-got (λ (p : Standing × Item). got (some p)) (judge st at (at + 3 + m) u (take m (drop (at + 3) s))) (some v) e in
+          let x : w ≡ v = cc k in
+          record { tag = u; len = m; seen = h; moved = j ∙ ap got x; next = z; room = subst (λ (i : ℕ). i ≤ length s) z (g .room) }
 
-  turn-end : turned st at s ≡ got internal.ends → field-at (due-of st) s at ≡ ends
+  turn-end : turned st at s ≡ got none → field-at (due st) s at ≡ ends
   unfolding turned
-  turn-end e = by-field (field-at (due-of st) s at) refl e
+  turn-end e = by-field (field-at (due st) s at) refl e
     where
-      by-field : (d : Field) → field-at (due-of st) s at ≡ d → turned-by st at s d ≡ got internal.ends → field-at (due-of st) s at ≡ ends
+      by-field : (d : Field) → field-at (due st) s at ≡ d → turned-by st at s d ≡ got none → field-at (due st) s at ≡ ends
       by-field ends h e = h
-      by-field (wrong i j) h e = absurd (not-got i j internal.ends e)
-      by-field (body u m) h e = absurd (not-end st at (at + 3 + m) u (take m (drop (at + 3) s)) e)
+      by-field (wrong i j) h e = absurd (not-got i j none e)
+      by-field (body u m) h e =
+          let (w, j, k) = onward-got (λ (p : Standing × Item). got (some p)) (judge st at (at + 3 + m) u (take m (drop (at + 3) s))) none e in
+          let z : _≡_ {A = ℕ} 0 1 = cc k in absurd (omega arith)
 
   -- the place after a field that was judged
-  pub turn-room : (v : Move) → (v ≡ internal.ends → ⊥) → turned st at s ≡ got v → at + 3 + word s (at + 1) ≤ length s
-  turn-room v n e = turn-field v n e .room
-
-pub go-moves : (st : Standing) → go st ≡ internal.ends → ⊥
-go-moves st e = let z : _≡_ {A = ℕ} 0 1 = cc in absurd (omega arith)
-
-pub open-moves : (n f t : ℕ) (st : Standing) → internal.open-as n f t st ≡ internal.ends → ⊥
-open-moves n f t st e = let z : _≡_ {A = ℕ} 0 1 = cc in absurd (omega arith)
-
-pub more-moves : (c k : ℕ) (st : Standing) → more c k st ≡ internal.ends → ⊥
-more-moves c k st e = let z : _≡_ {A = ℕ} 0 1 = cc in absurd (omega arith)
-
-pub last-moves : (c k l p : ℕ) → last c k l p ≡ internal.ends → ⊥
-last-moves c k l p e = let z : _≡_ {A = ℕ} 0 1 = cc in absurd (omega arith)
+  pub turn-room : (v : Standing × Item) → turned st at s ≡ got (some v) → at + 3 + word s (at + 1) ≤ length s
+  turn-room v e = turn-field v e .room
 
 module _ {s : List ℕ} {st : Standing} {at done prev first used : ℕ} {sizes from to numbers sets : List ℕ} (r : Reading s st at done prev first used sizes from to numbers sets) where
-  pub turn-ends : turned st at s ≡ got internal.ends → ReadsInto (read narrowed-form s) (outcome.Accepted done) sizes from to numbers sets
+  pub turn-ends : turned st at s ≡ got none → ReadsInto (read narrowed-form s) (outcome.Accepted done) sizes from to numbers sets
   turn-ends e =
       let a = reading-ends r (turn-end s st at e) in
       record { outcome = a .0; members = λ n h. let z : done ≡ n = cc in subst (λ (i : ℕ). Packed (members-in (read narrowed-form s)) (arrays i sizes from to numbers sets)) z (a .1) }
 
   pub turn-stop : (i j : ℕ) → turned st at s ≡ refused i j → read narrowed-form s ≡ refused i j
   unfolding turned
-  turn-stop i j e = by-field (field-at (due-of st) s at) refl e
+  turn-stop i j e = by-field (field-at (due st) s at) refl e
     where
-      by-field : (d : Field) → field-at (due-of st) s at ≡ d → turned-by st at s d ≡ refused i j → read narrowed-form s ≡ refused i j
+      by-field : (d : Field) → field-at (due st) s at ≡ d → turned-by st at s d ≡ refused i j → read narrowed-form s ≡ refused i j
       by-field ends h e = let z : _≡_ {A = ℕ} 0 1 = cc in absurd (omega arith)
       by-field (wrong k l) h e =
           let a : k ≡ i = cc in
           let b : l ≡ j = cc in
           reading-wrong r k l h ∙ ap₂ refused a b
-      by-field (body u m) h e = reading-stop r u m h i j e
+      by-field (body u m) h e =
+          reading-stop r u m h i j (told-refused some (judge st at (at + 3 + m) u (take m (drop (at + 3) s))) i j (sym e))
 
   -- the reading at the place after the field
   abbrev Next : Standing → ℕ → ℕ → ℕ → ℕ → List ℕ → List ℕ → List ℕ → List ℕ → List ℕ → ℕ → Type 0
   Next st′ d p f u a b c n m at′ = Reading s st′ at′ d p f u a b c n m
 
-  pub turn-go : (st′ : Standing) → turned st at s ≡ got (go st′) → Reading s st′ (at + 3 + word s (at + 1)) done prev first used sizes from to numbers sets
+  pub turn-go : (st′ : Standing) → turned st at s ≡ got (some (st′, nothing)) → Reading s st′ (at + 3 + word s (at + 1)) done prev first used sizes from to numbers sets
   turn-go st′ e =
-      let j = turn-field s st at (go st′) (go-moves st′) e in
+      let j = turn-field s st at (st′, nothing) e in
       subst (Next st′ done prev first used sizes from to numbers sets) (j .next) (reading-go r (j .tag) (j .len) (j .seen) st′ (j .moved))
 
-  pub turn-open : (n f t : ℕ) (st′ : Standing) → turned st at s ≡ got (internal.open-as n f t st′)
+  pub turn-open : (n f t : ℕ) (st′ : Standing) → turned st at s ≡ got (some (st′, opens n f t))
       → (done < 128) × Reading s st′ (at + 3 + word s (at + 1)) done prev first used (set sizes done n) (set from done f) (set to done t) numbers sets
   turn-open n f t st′ e =
-      let j = turn-field s st at (internal.open-as n f t st′) (open-moves n f t st′) e in
+      let j = turn-field s st at (st′, opens n f t) e in
       let (h, x) = reading-open r (j .tag) (j .len) (j .seen) n f t st′ (j .moved) in
       (h, subst (Next st′ done prev first used (set sizes done n) (set from done f) (set to done t) numbers sets) (j .next) x)
 
-  pub turn-more : (c k : ℕ) (st′ : Standing) → turned st at s ≡ got (more c k st′)
+  pub turn-more : (c k : ℕ) (st′ : Standing) → turned st at s ≡ got (some (st′, symbol (numbered c k)))
       → (used < 6144) × Reading s st′ (at + 3 + word s (at + 1)) done prev first (used + 1) sizes from to (set numbers used c) (set sets used k)
   turn-more c k st′ e =
-      let j = turn-field s st at (more c k st′) (more-moves c k st′) e in
+      let j = turn-field s st at (st′, symbol (numbered c k)) e in
       let (h, x) = reading-more r (j .tag) (j .len) (j .seen) c k st′ (j .moved) in
       (h, subst (Next st′ done prev first (used + 1) sizes from to (set numbers used c) (set sets used k)) (j .next) x)
 
-  module _ (c k l p : ℕ) (e : turned st at s ≡ got (last c k l p)) where
-    abbrev J : Judged s st at (last c k l p)
-    J = turn-field s st at (last c k l p) (last-moves c k l p) e
+  module _ (c k l p : ℕ) (e : turned st at s ≡ got (some (Between l, last (numbered c k) p))) where
+    abbrev J : Judged s st at (Between l, last (numbered c k) p)
+    J = turn-field s st at (Between l, last (numbered c k) p) e
 
     -- the bounds that the code needs
     pub turn-last : (used < 6144) × (done < 128) × (prev ≤ first) × (first ≤ used + 1) × (length (set numbers used c) ≡ 6144)
@@ -317,17 +297,17 @@ module _ (s sizes from to numbers sets : List ℕ) (k : Marks) (h : At s sizes f
   abbrev place : ℕ
   place = k .at + 3 + word s (k .at + 1)
 
-  pub at-open : (n f t : ℕ) (st : Standing) → turned (k .st) (k .at) s ≡ got (internal.open-as n f t st)
+  pub at-open : (n f t : ℕ) (st : Standing) → turned (k .st) (k .at) s ≡ got (some (st, opens n f t))
       → At s (set sizes (k .done) n) (set from (k .done) f) (set to (k .done) t) numbers sets (marked st place (k .done) (k .prev) (k .first) (k .used))
   at-open n f t st e =
       let l = h .1 in
       (turn-open (h .0) n f t st e .1, (length-set sizes (k .done) n ∙ l .0, length-set from (k .done) f ∙ l .1, length-set to (k .done) t ∙ l .2, l .3, l .4))
 
-  pub at-more : (c m : ℕ) (st : Standing) → turned (k .st) (k .at) s ≡ got (more c m st)
+  pub at-more : (c m : ℕ) (st : Standing) → turned (k .st) (k .at) s ≡ got (some (st, symbol (numbered c m)))
       → At s sizes from to (set numbers (k .used) c) (set sets (k .used) m) (marked st place (k .done) (k .prev) (k .first) (k .used + 1))
   at-more c m st e = let l = h .1 in (turn-more (h .0) c m st e .1, (l .0, l .1, l .2, length-set numbers (k .used) c ∙ l .3, length-set sets (k .used) m ∙ l .4))
 
-  pub at-close : (c m l p : ℕ) → turned (k .st) (k .at) s ≡ got (last c m l p)
+  pub at-close : (c m l p : ℕ) → turned (k .st) (k .at) s ≡ got (some (Between l, last (numbered c m) p))
       → before? (segment-codes (set numbers (k .used) c) (k .prev) (k .first)) (segment-codes (set numbers (k .used) c) (k .first) (k .used + 1)) ≡ true
       → At s sizes from to (set numbers (k .used) c) (set sets (k .used) m) (marked (Between l) place (k .done + 1) (k .first) (k .used + 1) (k .used + 1))
   at-close c m l p e b =

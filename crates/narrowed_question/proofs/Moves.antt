@@ -1,113 +1,81 @@
--- A narrowed question's reading, a field at a time: where the definition stands, and what a field that was judged leads to.
+-- A narrowed question's field that was judged, taken apart: what each kind of field hands over, and where it leads.
 -- Assumes nothing.
-use Prim.Native.Nat.{ℕ, _-_}
-use mathlib.Core.Path.{_≡_, refl}
+use Prim.Native.Nat.{ℕ, _-_, _≤_}
+use mathlib.Core.Path.{_≡_, refl, ap}
 use mathlib.Core.Bool.{Bool, true, false, cond, _&&_}
-use mathlib.Core.List.{List, []}
+use mathlib.Core.List.{List}
 use lib.ListN.{getD}
 use lib.Dec.{leb, eqb}
 use native.Mathlib.Omega.{arith}
-use borrow.Author.Tests.{eqb-true, eqb-false}
-use Rattle.fields.specs.declared.File.the-variants as file
+use borrow.Author.Tests.{eqb-true, eqb-false, leb-true}
 use Rattle.symbols.specs.declared.Stack.{Stack}
-use Rattle.theory.specs.Result.{got, refused, onward}
+use Rattle.theory.specs.Result.{got, onward}
 use Rattle.fields.specs.Reading.{word, eight}
-use Rattle.symbols.specs.Symbols.{Numbered, numbered, symbol-in, push, arity}
-use Rattle.fields.proofs.Bools.{onward-got, refused-too, not-refused, cond-then, not-got}
-use Rattle.narrowed_question.specs.Form.{Flat, open-as, between, within, judge as judge-of, head-of, open-of, grown}
+use Rattle.symbols.specs.Symbols.{Numbered, symbol-in, push, arity}
+use Rattle.fields.proofs.Bools.{onward-got, got-same, cond-then, not-got, and-left, and-right}
 use Rattle.narrowed_question.specs.declared.Standing.{Standing}
 use Rattle.narrowed_question.specs.declared.Standing.the-variants.{Between, Within}
-use Rattle.narrowed_question.specs.Internal.{Move, go, more, last, count-of, open-move, moved, symbol-move}
-use Rattle.narrowed_question.specs.Internal as internal
+use Rattle.narrowed_question.specs.Form.{Item, nothing, opens, symbol, last, count-of, fresh, open-of, grown, member-symbol}
 
--- a symbol's move, taken apart
-pub record Moves (l p : ℕ) (q : Stack) (at next t : ℕ) (b : List ℕ) (m : Move) : Type 0 where
+-- 41 hands over nothing
+pub count-got : (at : ℕ) (b : List ℕ) (v : Standing × Item) → count-of at b ≡ got v → (Between (word b 0) ≡ v .0) × (nothing ≡ v .1) × (word b 0 ≤ 128)
+unfolding count-of
+count-got at b v e =
+    let a = cond-then (leb (word b 0) 128) (not-got 3 at v) e in
+    let z = got-same (a .1) in
+    (ap (λ (p : Standing × Item). p .0) z, ap (λ (p : Standing × Item). p .1) z, leb-true (word b 0) 128 (a .0))
+
+-- 42 opens a member
+pub open-got : (l at : ℕ) (b : List ℕ) (v : Standing × Item) → open-of l at b ≡ got v
+    → (Within (l - 1) at (fresh (getD b 0 0)) ≡ v .0) × (opens (getD b 0 0) (eight b 1) (eight b 9) ≡ v .1) × (1 ≤ getD b 0 0) × (getD b 0 0 ≤ 48)
+unfolding open-of
+open-got l at b v e =
+    let a = cond-then (leb 1 (getD b 0 0) && leb (getD b 0 0) 48) (not-got 3 at v) e in
+    let z = got-same (a .1) in (
+      ap (λ (p : Standing × Item). p .0) z,
+      ap (λ (p : Standing × Item). p .1) z,
+      leb-true 1 (getD b 0 0) (and-left _ (leb (getD b 0 0) 48) (a .0)),
+      leb-true (getD b 0 0) 48 (and-right (leb 1 (getD b 0 0)) _ (a .0)),
+    )
+
+-- a symbol
+pub record Symbolic (l p : ℕ) (q : Stack) (at next t : ℕ) (b : List ℕ) (v : Standing × Item) : Type 0 where
   pub x : Numbered
   pub q′ : Stack
   pub sym-is : symbol-in at t b ≡ got x
   pub push-is : push q at next (arity (x .number)) ≡ got q′
-  pub move-is : moved l p x q′ ≡ m
+  pub grown-is : grown l p x q′ ≡ v
 
-pub moves : (l p : ℕ) (q : Stack) (at next t : ℕ) (b : List ℕ) (m : Move) → symbol-move l p q at next t b ≡ got m → Moves l p q at next t b m
-unfolding symbol-move
-moves l p q at next t b m e =
-    let (x, hx, e′) = onward-got (λ x. onward (λ q′. got (moved l p x q′)) (push q at next (arity (x .number)))) (symbol-in at t b) m e in
-    let (q′, hq, e″) = onward-got (λ q′. got (moved l p x q′)) (push q at next (arity (x .number))) m e′ in
-    record { x = x; q′ = q′; sym-is = hx; push-is = hq; move-is = cc e″ }
+pub symbol-got : (l p : ℕ) (q : Stack) (at next t : ℕ) (b : List ℕ) (v : Standing × Item) → member-symbol l p q at next t b ≡ got v → Symbolic l p q at next t b v
+unfolding member-symbol
+symbol-got l p q at next t b v e =
+    let (x, hx, e′) = onward-got (λ x. onward (λ q′. got (grown l p x q′)) (push q at next (arity (x .number)))) (symbol-in at t b) v e in
+    let (q′, hq, e″) = onward-got (λ q′. got (grown l p x q′)) (push q at next (arity (x .number))) v e′ in
+    record { x = x; q′ = q′; sym-is = hx; push-is = hq; grown-is = got-same e″ }
 
--- the definition's judgement, from a symbol's move
-module _ (l p f t : ℕ) (prev : List ℕ) (ms : List Flat) (q : Stack) (xs : List Numbered) (at next u : ℕ) (b : List ℕ) where
-  pub judge-sym : (x : Numbered) (q′ : Stack) → symbol-in at u b ≡ got x → push q at next (arity (x .number)) ≡ got q′
-      → judge-of (within l prev ms (open-as p f t q xs)) at next u b ≡ grown l prev ms (open-as p f t q xs) x q′
-  judge-sym x q′ hx hq = rw (hx, hq)
-
-  -- a refusal is the same for both
-  pub judge-stop : (m k : ℕ) → symbol-move l p q at next u b ≡ refused m k → judge-of (within l prev ms (open-as p f t q xs)) at next u b ≡ refused m k
-  unfolding symbol-move
-  judge-stop m k e =
-      refused-too (λ x. onward (λ q′. got (moved l p x q′)) (push q at next (arity (x .number)))) (λ x. onward (grown l prev ms (open-as p f t q xs) x) (push q at next (arity (x .number)))) m k
-      (symbol-in at u b)
-      (λ x. refused-too (λ q′. got (moved l p x q′)) (grown l prev ms (open-as p f t q xs) x) m k (push q at next (arity (x .number))) (λ q′. not-refused (moved l p x q′) m k)) e
-
--- ---- moves are told apart
-pub more-is : (l p : ℕ) (x : Numbered) (q : Stack) (c m : ℕ) (st : Standing) → moved l p x q ≡ more c m st → (q .left ≡ 0 → ⊥) × (Within l p q ≡ st) × (x ≡ numbered c m)
-more-is l p x q c m st e = by-left (eqb (q .left) 0) refl e
-  where
-    by-left : (b : Bool) → eqb (q .left) 0 ≡ b → cond b (last (x .number) (x .set) l p) (more (x .number) (x .set) (Within l p q)) ≡ more c m st
-        → (q .left ≡ 0 → ⊥) × (Within l p q ≡ st) × (x ≡ numbered c m)
-    by-left true h e = let z : _≡_ {A = ℕ} 0 1 = cc in absurd (omega arith)
-    by-left false h e = let n : x .number ≡ c = cc in let k : x .set ≡ m = cc in (eqb-false (q .left) 0 h, cc, λ i. numbered (n i) (k i))
-
-pub last-is : (l p : ℕ) (x : Numbered) (q : Stack) (c m l′ p′ : ℕ) → moved l p x q ≡ last c m l′ p′ → (q .left ≡ 0) × (l ≡ l′) × (p ≡ p′) × (x ≡ numbered c m)
-last-is l p x q c m l′ p′ e = by-left (eqb (q .left) 0) refl e
-  where
-    by-left : (b : Bool) → eqb (q .left) 0 ≡ b → cond b (last (x .number) (x .set) l p) (more (x .number) (x .set) (Within l p q)) ≡ last c m l′ p′
-        → (q .left ≡ 0) × (l ≡ l′) × (p ≡ p′) × (x ≡ numbered c m)
-    by-left true h e = let n : x .number ≡ c = cc in let k : x .set ≡ m = cc in (eqb-true (q .left) 0 h, cc, cc, λ i. numbered (n i) (k i))
-    by-left false h e = let z : _≡_ {A = ℕ} 0 1 = cc in absurd (omega arith)
-
--- a symbol neither goes on nor opens a member
+-- one of several, or the last
 module _ (l p : ℕ) (x : Numbered) (q : Stack) where
-  pub go-not : (st : Standing) → moved l p x q ≡ go st → ⊥
-  go-not st e = by-left (eqb (q .left) 0) e
+  -- what it hands over, and where it leads
+  pub by-left : (P : Standing × Item → Type 0) (v : Standing × Item) → grown l p x q ≡ v → (q .left ≡ 0 → (Between l ≡ v .0) → (last x p ≡ v .1) → P v)
+      → ((q .left ≡ 0 → ⊥) → (Within l p q ≡ v .0) → (symbol x ≡ v .1) → P v) → P v
+  by-left P v e done more = go (eqb (q .left) 0) refl e
     where
-      by-left : (b : Bool) → cond b (last (x .number) (x .set) l p) (more (x .number) (x .set) (Within l p q)) ≡ go st → ⊥
-      by-left true e = let z : _≡_ {A = ℕ} 0 1 = cc in omega arith
-      by-left false e = let z : _≡_ {A = ℕ} 0 1 = cc in omega arith
+      go : (b : Bool) → eqb (q .left) 0 ≡ b → _≡_ {A = Standing × Item} (cond b (Between l, last x p) (Within l p q, symbol x)) v → P v
+      go true h e = done (eqb-true (q .left) 0 h) (ap (λ (w : Standing × Item). w .0) e) (ap (λ (w : Standing × Item). w .1) e)
+      go false h e = more (eqb-false (q .left) 0 h) (ap (λ (w : Standing × Item). w .0) e) (ap (λ (w : Standing × Item). w .1) e)
 
-  pub open-not : (n f t : ℕ) (st : Standing) → moved l p x q ≡ internal.open-as n f t st → ⊥
-  open-not n f t st e = by-left (eqb (q .left) 0) e
-    where
-      by-left : (b : Bool) → cond b (last (x .number) (x .set) l p) (more (x .number) (x .set) (Within l p q)) ≡ internal.open-as n f t st → ⊥
-      by-left true e = let z : _≡_ {A = ℕ} 0 1 = cc in omega arith
-      by-left false e = let z : _≡_ {A = ℕ} 0 1 = cc in omega arith
+  pub grown-more : (st : Standing) (y : Numbered) → grown l p x q ≡ (st, symbol y) → (q .left ≡ 0 → ⊥) × (Within l p q ≡ st) × (x ≡ y)
+  grown-more st y e =
+      by-left (λ v. (q .left ≡ 0 → ⊥) × (Within l p q ≡ st) × (x ≡ y)) (st, symbol y) e (λ z a i. let w : _≡_ {A = ℕ} 0 1 = cc i in absurd (omega arith)) (λ z a i. (z, a, cc i))
 
--- 41 only goes on, 42 only opens
-pub count-go : (at : ℕ) (b : List ℕ) (m : Move) → count-of at b ≡ got m → (go (Between (word b 0)) ≡ m) × (leb (word b 0) 128 ≡ true)
-unfolding count-of
-count-go at b m e = let a = cond-then (leb (word b 0) 128) (not-got 3 at m) e in (cc (a .1), a .0)
+  pub grown-last : (st : Standing) (y : Numbered) (k : ℕ) → grown l p x q ≡ (st, last y k) → (q .left ≡ 0) × (Between l ≡ st) × (p ≡ k) × (x ≡ y)
+  grown-last st y k e =
+      by-left (λ v. (q .left ≡ 0) × (Between l ≡ st) × (p ≡ k) × (x ≡ y)) (st, last y k) e (λ z a i. (z, a, cc i, cc i)) (λ z a i. let w : _≡_ {A = ℕ} 0 1 = cc i in absurd (omega arith))
 
-pub count-stop : (at : ℕ) (b : List ℕ) (m k : ℕ) → count-of at b ≡ refused m k → head-of at b ≡ refused m k
-unfolding count-of
-count-stop at b m k e = by-test (leb (word b 0) 128) e
-  where
-    by-test : (t : Bool) → cond t (got (go (Between (word b 0)))) (refused 3 at) ≡ refused m k → cond t (got (between (word b 0) [] [])) (refused 3 at) ≡ refused m k
-    by-test true e = let z : _≡_ {A = ℕ} 0 1 = cc in absurd (omega arith)
-    by-test false e = cc
+  pub grown-not-nothing : (st : Standing) → grown l p x q ≡ (st, nothing) → ⊥
+  grown-not-nothing st e =
+      by-left (λ v. ⊥) (st, nothing) e (λ z a i. let w : _≡_ {A = ℕ} 0 1 = cc i in omega arith) (λ z a i. let w : _≡_ {A = ℕ} 0 1 = cc i in omega arith)
 
-abbrev pub opened : ℕ → ℕ → List ℕ → Move
-opened l at b = internal.open-as (getD b 0 0) (eight b 1) (eight b 9) (Within (l - 1) at (record { left = getD b 0 0; depth = 0 }))
-
-pub open-go : (l at : ℕ) (b : List ℕ) (m : Move) → open-move l at b ≡ got m → (opened l at b ≡ m) × ((leb 1 (getD b 0 0) && leb (getD b 0 0) 48) ≡ true)
-unfolding open-move
-open-go l at b m e = let a = cond-then (leb 1 (getD b 0 0) && leb (getD b 0 0) 48) (not-got 3 at m) e in (cc (a .1), a .0)
-
-pub open-stop : (l at : ℕ) (b : List ℕ) (prev : List ℕ) (ms : List Flat) (m k : ℕ) → open-move l at b ≡ refused m k
-    → onward (λ o. got (within (l - 1) prev ms o)) (open-of at b) ≡ refused m k
-unfolding open-move
-open-stop l at b prev ms m k e = by-test (leb 1 (getD b 0 0) && leb (getD b 0 0) 48) e
-  where
-    by-test : (t : Bool) → cond t (got (opened l at b)) (refused 3 at) ≡ refused m k
-        → onward (λ o. got (within (l - 1) prev ms o)) (cond t (got (open-as at (eight b 1) (eight b 9) (record { left = getD b 0 0; depth = 0 }) [])) (refused 3 at)) ≡ refused m k
-    by-test true e = let z : _≡_ {A = ℕ} 0 1 = cc in absurd (omega arith)
-    by-test false e = cc
+  pub grown-not-opens : (st : Standing) (n f t : ℕ) → grown l p x q ≡ (st, opens n f t) → ⊥
+  grown-not-opens st n f t e =
+      by-left (λ v. ⊥) (st, opens n f t) e (λ z a i. let w : _≡_ {A = ℕ} 0 1 = cc i in omega arith) (λ z a i. let w : _≡_ {A = ℕ} 0 1 = cc i in omega arith)

@@ -2,25 +2,27 @@
 -- Assumes nothing.
 use Prim.Native.Nat.{ℕ, suc, _+_, _-_, _<_, _≤_}
 use mathlib.Core.Path.{_≡_, refl, ap, _∙_, sym, subst}
-use mathlib.Core.Bool.{Bool, true, false, false≢true, cond}
+use mathlib.Core.Bool.{true, false, false≢true}
 use mathlib.Core.List.{List, [], _∷_, _++_, append-assoc, append-nil}
 use lib.ListN.{length, getD, take, drop, drop-of-length-le}
-use lib.Dec.{leb, eqb}
+use lib.Dec.{eqb}
 use native.Mathlib.Omega.{arith}
-use borrow.Author.Tests.{eqb-true, eqb-false, leb-true}
+use borrow.Author.Tests.{eqb-true, eqb-false}
 use Rattle.theory.specs.PathExpr.{before?}
 use Rattle.fields.specs.declared.File.the-variants as file
 use Rattle.symbols.specs.declared.Stack.{Stack}
-use Rattle.theory.specs.Result.{got, refused, onward}
-use Rattle.fields.specs.Table.{rows, tag-length}
-use Rattle.fields.specs.Reading.{ends, body, field-at, word, eight, read}
-use Rattle.symbols.specs.Symbols.{Numbered, symbol-in, arity, push, due-symbols}
-use Rattle.fields.proofs.Bools.{onward-got, cond-then, not-got}
-use Rattle.fields.proofs.Fields.{found, body-length, one-due, ended}
+use Rattle.theory.specs.Result.{got}
+use Rattle.fields.specs.Table.{rows, rows-of}
+use Rattle.fields.specs.Reading.{ends, body, field-at, due-rows, word, eight, read}
+use Rattle.symbols.specs.Symbols.{Numbered, arity, push}
+use Rattle.fields.proofs.Bools.{got-same, cond-then, not-got}
+use Rattle.fields.proofs.Fields.{found, found-one, body-length, ended}
 use Rattle.symbols.proofs.InPath.{in-path}
 use Rattle.symbols.proofs.Symbols.{push-anywhere, push-got}
-use Rattle.fields.proofs.Accepted.{accepted-ind}
-use Rattle.narrowed_question.specs.Form.{Flat, Open, open-as, State, head, between, within, order-codes, due, head-of, open-of, grown, judge, value, narrowed-form}
+use Rattle.fields.proofs.Accepted.{accepted-ind, taken}
+use Rattle.narrowed_question.specs.declared.Standing.{Standing}
+use Rattle.narrowed_question.specs.declared.Standing.the-variants.{Head, Between, Within}
+use Rattle.narrowed_question.specs.Form.{Flat, order-codes, Item, nothing, opens, due, fresh, grown, Gathered, gathered, keep, narrowed-format, narrowed-form}
 use Rattle.fields.specs.Writing.{Bytes, field-bytes}
 use Rattle.symbols.specs.Writing.{symbol-bytes, symbols-bytes}
 use Rattle.narrowed_question.specs.Writing.{members-bytes, encode}
@@ -29,60 +31,62 @@ use Rattle.narrowed_question.specs.Formed.{Formed, InOrder, WellFormed}
 use Rattle.fields.proofs.Bytes.{bytes-take, bytes-drop, eight-set}
 use Rattle.fields.proofs.Lies.{field-split}
 use Rattle.symbols.proofs.Bytes.{symbol-split}
-use Rattle.narrowed_question.proofs.MembersAhead.{member-of, one-more, Inside, Back, Ahead, head-case, open-known, member-case}
+use Rattle.narrowed_question.proofs.MembersAhead.{member-of, one-more, Inside, Back, Ahead, head-case, member-case}
+use Rattle.narrowed_question.proofs.Moves.{count-got, open-got, symbol-got, by-left}
 
 module _ (s : List ℕ) (h : Bytes s) where
   body-bytes : (n a : ℕ) → Bytes (take n (drop a s))
   body-bytes n a = bytes-take n (drop a s) (bytes-drop a s h)
 
-  at-end : (st : State) (at : ℕ) → field-at (due st) s at ≡ ends → Ahead s st at (value st)
-  at-end head at e = absurd (false≢true (ended (due head) s at e .may))
-  at-end (between left prev ms) at e = λ i.
-      let r = ended (due (between left prev ms)) s at e in
-      record { rest = []; whole = sym (append-nil ms); count = sym (eqb-true left 0 (r .may)); bytes = drop-of-length-le s (r .past); order = tt }
-  at-end (within left prev ms o) at e = λ i k.
-      let z : o .stack .left ≡ 0 = eqb-true (o .stack .left) 0 (ended (due-symbols file.Narrowed (o .stack)) s at e .may) in
+  at-end : (st : Standing × Gathered) (at : ℕ) → field-at (narrowed-form .due st) s at ≡ ends → Ahead s st at (narrowed-form .value st)
+  at-end (Head, g) at e = absurd (false≢true (ended (due Head) s at e .may))
+  at-end (Between left, g) at e = λ i.
+      let r = ended (due (Between left)) s at e in
+      record { rest = []; whole = sym (append-nil (g .members)); count = sym (eqb-true left 0 (r .may)); bytes = drop-of-length-le s (r .past); order = tt }
+  at-end (Within left p q, g) at e = λ i k.
+      let z : q .left ≡ 0 = eqb-true (q .left) 0 (ended (due (Within left p q)) s at e .may) in
       absurd (omega arith)
 
-  body-head : (at t n : ℕ) (st′ : State) (v : List Flat) → field-at (due head) s at ≡ body t n
-      → head-of at (take n (drop (at + 3) s)) ≡ got st′ → Ahead s st′ (at + 3 + n) v → Ahead s head at v
-  unfolding tag-length rows
-  body-head at t n st′ v e j ih z =
+  body-head : (g : Gathered) (at t n : ℕ) (st′ : Standing × Gathered) (v : List Flat) → field-at (due Head) s at ≡ body t n
+      → narrowed-form .judge (Head, g) at (at + 3 + n) t (take n (drop (at + 3) s)) ≡ got st′ → Ahead s st′ (at + 3 + n) v → Ahead s (Head, g) at v
+  unfolding due-rows rows-of rows
+  body-head g at t n st′ v e j ih none-yet z =
       let b = take n (drop (at + 3) s) in
-      let f = found (due head) s at t n e in
-      let o = one-due (due head) t n refl (f .fit) in
-      let a = cond-then (leb (word b 0) 128) (not-got 3 at st′) j in
-      let w : between (word b 0) [] [] ≡ st′ = cc (a .1) in
-      let r = subst (λ (x : State). Ahead s x (at + 3 + n) v) (sym w) ih (f .room) in
+      let f = found (due Head) s at t n e in
+      let o = found-one file.Narrowed (0x41 ∷ []) false false f .1 in
+      let y = taken narrowed-format Head g at (at + 3 + n) t b st′ j in
+      let (w, i, few) = count-got at b (st′ .0, y .item) (y .judged) in
+      let k : keep g nothing ≡ got (st′ .1) = ap (keep g) i ∙ y .kept in
+      let x : _≡_ {A = Standing × Gathered} (Between (word b 0), gathered [] [] 0 0 []) st′ = λ i. (w i, (sym none-yet ∙ got-same k) i) in
+      let r = subst (λ (x : Standing × Gathered). Ahead s x (at + 3 + n) v) (sym x) ih (f .room) in
       let c : length v ≡ word b 0 = ap length (r .whole) ∙ r .count in
       record {
         bytes = head-case s b v (drop (at + 3 + n) s) (body-bytes n (at + 3)) (body-length f ∙ o .1) c
-            (ap (λ (i : ℕ). drop i s) (sym z) ∙ field-split (due head) s at t n h f ∙ ap (λ (u : ℕ). field-bytes u b ++ drop (at + 3 + n) s) (o .0))
+            (ap (λ (i : ℕ). drop i s) (sym z) ∙ field-split (due Head) s at t n h f ∙ ap (λ (u : ℕ). field-bytes u b ++ drop (at + 3 + n) s) (o .0))
             (r .bytes ∙ ap members-bytes (sym (r .whole)));
-        formed = record { few = omega (arith, leb-true (word b 0) 128 (a .0)); in-order = subst (λ (x : List Flat). InOrder [] x) (sym (r .whole)) (r .order) };
+        formed = record { few = omega (arith, few); in-order = subst (λ (x : List Flat). InOrder [] x) (sym (r .whole)) (r .order) };
       }
 
-  body-between : (left : ℕ) (prev : List ℕ) (ms : List Flat) (at t n : ℕ) (st′ : State) (v : List Flat) → field-at (due (between left prev ms)) s at ≡ body t n
-      → onward (λ o. got (within (left - 1) prev ms o)) (open-of at (take n (drop (at + 3) s))) ≡ got st′
-      → Ahead s st′ (at + 3 + n) v → Ahead s (between left prev ms) at v
-  unfolding tag-length rows
-  body-between left prev ms at t n st′ v e j ih i =
+  body-between : (left : ℕ) (g : Gathered) (at t n : ℕ) (st′ : Standing × Gathered) (v : List Flat) → field-at (due (Between left)) s at ≡ body t n
+      → narrowed-form .judge (Between left, g) at (at + 3 + n) t (take n (drop (at + 3) s)) ≡ got st′ → Ahead s st′ (at + 3 + n) v → Ahead s (Between left, g) at v
+  unfolding due-rows rows-of rows
+  body-between left g at t n st′ v e j ih i =
       let b = take n (drop (at + 3) s) in
       let hb = body-bytes n (at + 3) in
-      let d = due (between left prev ms) in
+      let d = due (Between left) in
       let f = found d s at t n e in
-      let u = one-due d t n refl (f .fit) in
-      let hl : left ≡ 0 → ⊥ = eqb-false left 0 (f .more) in
-      let (o, p, w) = onward-got (λ o. got (within (left - 1) prev ms o)) (open-of at b) st′ j in
-      let k = open-known at b o p in
-      let o₀ = open-as at (eight b 1) (eight b 9) (record { left = getD b 0 0; depth = 0 }) [] in
-      let w₀ : within (left - 1) prev ms o₀ ≡ st′ = ap (within (left - 1) prev ms) (k .0) ∙ cc w in
-      let r = subst (λ (x : State). Ahead s x (at + 3 + n) v) (sym w₀) ih (f .room) (k .1) in
-      let few = k .2 in
+      let (more, u) = found-one file.Narrowed (0x42 ∷ []) (eqb left 0) (eqb left 0) f in
+      let hl : left ≡ 0 → ⊥ = eqb-false left 0 more in
+      let y = taken narrowed-format (Between left) g at (at + 3 + n) t b st′ j in
+      let (w, i, lo, hi) = open-got left at b (st′ .0, y .item) (y .judged) in
+      let g₀ = gathered (g .prev) (g .members) (eight b 1) (eight b 9) [] in
+      let k : keep g (opens (getD b 0 0) (eight b 1) (eight b 9)) ≡ got (st′ .1) = ap (keep g) i ∙ y .kept in
+      let x : _≡_ {A = Standing × Gathered} (Within (left - 1) at (fresh (getD b 0 0)), g₀) st′ = λ i. (w i, got-same k i) in
+      let r = subst (λ (x : Standing × Gathered). Ahead s x (at + 3 + n) v) (sym x) ih (f .room) lo in
       let long = r .long in
-      let m = member-of o₀ (r .ys) in
+      let m = member-of g₀ (r .ys) in
       let formed : Formed m =
-      record { some = omega arith; few = omega arith; from = eight-set b hb 1; to = eight-set b hb 9; runs = subst (λ (l : ℕ). Runs (record { left = l; depth = 0 }) (r .ys)) (sym long) (r .runs) } in
+      record { some = omega arith; few = omega arith; from = eight-set b hb 1; to = eight-set b hb 9; runs = subst (λ (l : ℕ). Runs (fresh l) (r .ys)) (sym long) (r .runs) } in
       record {
         rest = m ∷ r .rest;
         whole = r .whole;
@@ -93,22 +97,22 @@ module _ (s : List ℕ) (h : Bytes s) where
       }
 
   -- ---- symbols
-  module _ (left : ℕ) (prev : List ℕ) (ms : List Flat) (o : Open) (at a : ℕ) (x : Numbered) (q : Stack) (st′ : State) (v : List Flat)
-      (room : a ≤ length s) (some : 0 < o .stack .left) (fine : Fine x) (pushed : push (o .stack) 0 0 (arity (x .number)) ≡ got q)
+  module _ (left p : ℕ) (stack : Stack) (g : Gathered) (at a : ℕ) (x : Numbered) (q : Stack) (st′ : Standing × Gathered) (v : List Flat)
+      (room : a ≤ length s) (some : 0 < stack .left) (fine : Fine x) (pushed : push stack 0 0 (arity (x .number)) ≡ got q)
       (here : drop at s ≡ symbol-bytes x ++ drop a s) (ih : Ahead s st′ a v) where
-    taken : q .left ≡ o .stack .left - 1
-    taken = push-got (o .stack) 0 0 (arity (x .number)) q pushed .0
+    fewer : q .left ≡ stack .left - 1
+    fewer = push-got stack 0 0 (arity (x .number)) q pushed .0
 
     -- the member is done
-    last-case : q .left ≡ 0 → before? prev (order-codes (one-more o x)) ≡ true
-        → between left (order-codes (one-more o x)) (ms ++ (member-of o (one-more o x) ∷ [])) ≡ st′ → Inside s left prev ms o at v
+    last-case : q .left ≡ 0 → before? (g .prev) (order-codes (one-more g x)) ≡ true
+        → _≡_ {A = Standing × Gathered} (Between left, gathered (order-codes (one-more g x)) (g .members ++ (member-of g (one-more g x) ∷ [])) 0 0 []) st′ → Inside s left stack g at v
     last-case z b w =
-        let r = subst (λ (y : State). Ahead s y a v) (sym w) ih room in
+        let r = subst (λ (y : Standing × Gathered). Ahead s y a v) (sym w) ih room in
         record {
           ys = x ∷ [];
           rest = r .rest;
-          whole = r .whole ∙ append-assoc ms _ (r .rest);
-          long = (let y = taken in let l : 1 ≡ o .stack .left = omega arith in l);
+          whole = r .whole ∙ append-assoc (g .members) _ (r .rest);
+          long = (let y = fewer in let l : 1 ≡ stack .left = omega arith in l);
           count = r .count;
           bytes = here ∙ ap (λ (l : List ℕ). symbol-bytes x ++ l) (r .bytes) ∙ ap (λ (l : List ℕ). l ++ members-bytes (r .rest)) (sym (append-nil (symbol-bytes x)));
           runs = (fine, (q, pushed, z));
@@ -117,56 +121,50 @@ module _ (s : List ℕ) (h : Bytes s) where
         }
 
     -- it is not
-    more-case : (q .left ≡ 0 → ⊥) → within left prev ms (open-as (o .place) (o .from) (o .to) q (one-more o x)) ≡ st′ → Inside s left prev ms o at v
+    more-case : (q .left ≡ 0 → ⊥) → _≡_ {A = Standing × Gathered} (Within left p q, gathered (g .prev) (g .members) (g .from) (g .to) (one-more g x)) st′ → Inside s left stack g at v
     more-case z w =
-        let r = subst (λ (y : State). Ahead s y a v) (sym w) ih room (omega arith) in
-        let c = append-assoc (o .sofar) (x ∷ []) (r .ys) in
+        let r = subst (λ (y : Standing × Gathered). Ahead s y a v) (sym w) ih room (omega arith) in
+        let c = append-assoc (g .sofar) (x ∷ []) (r .ys) in
         record {
           ys = x ∷ r .ys;
           rest = r .rest;
-          whole = r .whole ∙ ap (λ (l : List Numbered). ms ++ (member-of o l ∷ r .rest)) c;
-          long = (let y = taken in let k = r .long in let l : suc (length (r .ys)) ≡ o .stack .left = omega arith in l);
+          whole = r .whole ∙ ap (λ (l : List Numbered). g .members ++ (member-of g l ∷ r .rest)) c;
+          long = (let y = fewer in let k = r .long in let l : suc (length (r .ys)) ≡ stack .left = omega arith in l);
           count = r .count;
           bytes = here ∙ ap (λ (l : List ℕ). symbol-bytes x ++ l) (r .bytes) ∙ sym (append-assoc (symbol-bytes x) (symbols-bytes (r .ys)) (members-bytes (r .rest)));
           runs = (fine, (q, pushed, r .runs));
-          above = subst (λ (l : List Numbered). before? prev (order-codes l) ≡ true) c (r .above);
+          above = subst (λ (l : List Numbered). before? (g .prev) (order-codes l) ≡ true) c (r .above);
           order = subst (λ (l : List Numbered). InOrder (order-codes l) (r .rest)) c (r .order);
         }
 
-    grown-case : grown left prev ms o x q ≡ got st′ → Inside s left prev ms o at v
-    grown-case g = by-left (eqb (q .left) 0) refl g
-      where
-        by-left : (b : Bool) → eqb (q .left) 0 ≡ b
-            → cond b (cond (before? prev (order-codes (one-more o x)))
-            (got (between left (order-codes (one-more o x)) (ms ++ (member-of o (one-more o x) ∷ [])))) (refused 4 (o .place)))
-            (got (within left prev ms (open-as (o .place) (o .from) (o .to) q (one-more o x)))) ≡ got st′
-            → Inside s left prev ms o at v
-        by-left true p g =
-            let u = cond-then (before? prev (order-codes (one-more o x))) (not-got 4 (o .place) st′) g in
-            last-case (eqb-true (q .left) 0 p) (u .0) (cc (u .1))
-        by-left false p g = more-case (eqb-false (q .left) 0 p) (cc g)
+    grown-case : (i : Item) → grown left p x q ≡ (st′ .0, i) → keep g i ≡ got (st′ .1) → Inside s left stack g at v
+    grown-case i e k =
+        by-left left p x q (λ w. Inside s left stack g at v) (st′ .0, i) e
+        (λ z w j.
+        let u = cond-then (before? (g .prev) (order-codes (one-more g x))) (not-got 4 p (st′ .1)) (ap (keep g) j ∙ k) in
+        last-case z (u .0) (λ i. (w i, got-same (u .1) i)))
+        (λ z w j. more-case z (λ i. (w i, got-same (ap (keep g) j ∙ k) i)))
 
-  body-within : (left : ℕ) (prev : List ℕ) (ms : List Flat) (o : Open) (at t n : ℕ) (st′ : State) (v : List Flat) → field-at (due-symbols file.Narrowed (o .stack)) s at ≡ body t n
-      → onward (λ x. onward (grown left prev ms o x) (push (o .stack) at (at + 3 + n) (arity (x .number)))) (symbol-in at t (take n (drop (at + 3) s))) ≡ got st′
-      → Ahead s st′ (at + 3 + n) v → Ahead s (within left prev ms o) at v
-  body-within left prev ms o at t n st′ v e j ih _ _ =
+  body-within : (left p : ℕ) (q : Stack) (g : Gathered) (at t n : ℕ) (st′ : Standing × Gathered) (v : List Flat) → field-at (due (Within left p q)) s at ≡ body t n
+      → narrowed-form .judge (Within left p q, g) at (at + 3 + n) t (take n (drop (at + 3) s)) ≡ got st′ → Ahead s st′ (at + 3 + n) v → Ahead s (Within left p q, g) at v
+  body-within left p q g at t n st′ v e j ih _ _ =
       let b = take n (drop (at + 3) s) in
-      let (x, hx, j′) = onward-got (λ x. onward (grown left prev ms o x) (push (o .stack) at (at + 3 + n) (arity (x .number)))) (symbol-in at t b) st′ j in
-      let (q, hq, g) = onward-got (grown left prev ms o x) (push (o .stack) at (at + 3 + n) (arity (x .number))) st′ j′ in
-      let r = in-path file.Narrowed (o .stack) s at t n e in
-      let y = symbol-split at t b x (body-bytes n (at + 3)) (r .low) (r .high) (r .long) hx in
-      grown-case left prev ms o at (at + 3 + n) x q st′ v (r .room) (r .some) (y .1) (push-anywhere (o .stack) at (at + 3 + n) 0 0 (arity (x .number)) q hq)
-      (field-split (due-symbols file.Narrowed (o .stack)) s at t n h (found _ s at t n e) ∙ ap (λ (l : List ℕ). l ++ drop (at + 3 + n) s) (y .0)) ih g
+      let y = taken narrowed-format (Within left p q) g at (at + 3 + n) t b st′ j in
+      let m = symbol-got left p q at (at + 3 + n) t b (st′ .0, y .item) (y .judged) in
+      let r = in-path file.Narrowed q s at t n e in
+      let z = symbol-split at t b (m .x) (body-bytes n (at + 3)) (r .low) (r .high) (r .long) (m .sym-is) in
+      grown-case left p q g at (at + 3 + n) (m .x) (m .q′) st′ v (r .room) (r .some) (z .1) (push-anywhere q at (at + 3 + n) 0 0 (arity (m .x .number)) (m .q′) (m .push-is))
+      (field-split (due (Within left p q)) s at t n h (found _ s at t n e) ∙ ap (λ (l : List ℕ). l ++ drop (at + 3 + n) s) (z .0)) ih (y .item) (m .grown-is) (y .kept)
 
-  at-body : (st : State) (at t n : ℕ) (st′ : State) (v : List Flat) → field-at (due st) s at ≡ body t n
-      → judge st at (at + 3 + n) t (take n (drop (at + 3) s)) ≡ got st′ → Ahead s st′ (at + 3 + n) v → Ahead s st at v
-  at-body head at t n st′ v e j ih = body-head at t n st′ v e j ih
-  at-body (between left prev ms) at t n st′ v e j ih = body-between left prev ms at t n st′ v e j ih
-  at-body (within left prev ms o) at t n st′ v e j ih = body-within left prev ms o at t n st′ v e j ih
+  at-body : (st : Standing × Gathered) (at t n : ℕ) (st′ : Standing × Gathered) (v : List Flat) → field-at (narrowed-form .due st) s at ≡ body t n
+      → narrowed-form .judge st at (at + 3 + n) t (take n (drop (at + 3) s)) ≡ got st′ → Ahead s st′ (at + 3 + n) v → Ahead s st at v
+  at-body (Head, g) at t n st′ v e j ih = body-head g at t n st′ v e j ih
+  at-body (Between left, g) at t n st′ v e j ih = body-between left g at t n st′ v e j ih
+  at-body (Within left p q, g) at t n st′ v e j ih = body-within left p q g at t n st′ v e j ih
 
   back : (v : List Flat) → read narrowed-form s ≡ got v → Back s v
   unfolding read
-  back v e = accepted-ind narrowed-form s (Ahead s) at-end at-body (suc (length s)) head 0 v e refl
+  back v e = accepted-ind narrowed-form s (Ahead s) at-end at-body (suc (length s)) (Head, gathered [] [] 0 0 []) 0 v e refl refl
 
   -- what was read, written, is the file
   pub encode-read : (v : List Flat) → read narrowed-form s ≡ got v → encode v ≡ s

@@ -11,7 +11,9 @@ use Rattle.fields.specs.declared.File.the-variants as file
 use Rattle.fields.specs.declared.Due.{Due}
 use Rattle.symbols.specs.declared.Stack.{Stack}
 use Rattle.theory.specs.Result.{Result, got, refused, onward}
-use Rattle.fields.specs.Reading.{Form, word, eight}
+use Rattle.fields.specs.Reading.{tags-due, word, eight, Form, Format, form}
+use Rattle.narrowed_question.specs.declared.Standing.{Standing}
+use Rattle.narrowed_question.specs.declared.Standing.the-variants.{Head, Between, Within}
 use Rattle.symbols.specs.Symbols.{Numbered, order-code, symbol-in, arity, push, due-symbols}
 
 -- a member as its file has it: from set, to set, and its symbols in postfix order
@@ -33,57 +35,81 @@ set-numbers xs = map (λ x. x .set) xs
 abbrev pub order-codes : List Numbered → List ℕ
 order-codes xs = map (λ x. order-code (x .number)) xs
 
--- a member being read: the place of its 42, its sets, how its path stands, and its symbols so far
-pub record Open : Type 0 where
-  pub place : ℕ
-  pub from : ℕ
-  pub to : ℕ
-  pub stack : Stack
-  pub sofar : List Numbered
+-- what a field hands over: nothing; a member's number of symbols and its sets; a symbol; a member's last symbol, with the place of its 42
+pub data Item : Type 0 where
+  nothing : Item
+  opens : ℕ → ℕ → ℕ → Item
+  symbol : Numbered → Item
+  last : Numbered → ℕ → Item
 
-abbrev pub open-as : ℕ → ℕ → ℕ → Stack → List Numbered → Open
-open-as p f t q xs = record { place = p; from = f; to = t; stack = q; sofar = xs }
-
--- the head is due; or a member's 42 (left of them), after the members so far, the last of which has codes prev; or a member's symbols
-pub data State : Type 0 where
-  head : State
-  between : (left : ℕ) (prev : List ℕ) → List Flat → State
-  within : (left : ℕ) (prev : List ℕ) → List Flat → Open → State
-
-abbrev pub due : State → Due
-due head = record { file = file.Narrowed; lo = 0x41; hi = 0x41; complete = false; full = false }
-due (between left prev ms) = record { file = file.Narrowed; lo = 0x42; hi = 0x42; complete = eqb left 0; full = eqb left 0 }
-due (within left prev ms o) = due-symbols file.Narrowed (o .stack)
+-- 41 is due; or a 42 (left of them); or a member's symbols, with those left after it, the place of its 42 and how its path stands
+abbrev pub due : Standing → Due
+due Head = tags-due file.Narrowed (0x41 ∷ []) false false
+due (Between left) = tags-due file.Narrowed (0x42 ∷ []) (eqb left 0) (eqb left 0)
+due (Within left place q) = due-symbols file.Narrowed q
 
 -- 41: the number of members, 0 to 128; refusal 3
-abbrev pub head-of : ℕ → List ℕ → Result State
-head-of at b = cond (leb (word b 0) 128) (got (between (word b 0) [] [])) (refused 3 at)
+unfoldable pub count-of : ℕ → List ℕ → Result (Standing × Item)
+count-of at b = cond (leb (word b 0) 128) (got (Between (word b 0), nothing)) (refused 3 at)
+
+-- a path of n symbols, none of them read
+abbrev pub fresh : ℕ → Stack
+fresh n = record { left = n; depth = 0 }
 
 -- 42: the number of symbols, 1 to 48, and the two sets; refusal 3
-abbrev pub open-of : ℕ → List ℕ → Result Open
-open-of at b =
+unfoldable pub open-of : ℕ → ℕ → List ℕ → Result (Standing × Item)
+open-of left at b =
     cond (leb 1 (getD b 0 0) && leb (getD b 0 0) 48)
-    (got (open-as at (eight b 1) (eight b 9) (record { left = getD b 0 0; depth = 0 }) [])) (refused 3 at)
+    (got (Within (left - 1) at (fresh (getD b 0 0)), opens (getD b 0 0) (eight b 1) (eight b 9))) (refused 3 at)
 
--- a symbol of the member, that leaves its stack as q: the member is done if none is due; refusal 4
-abbrev pub grown : ℕ → List ℕ → List Flat → Open → Numbered → Stack → Result State
-grown left prev ms o x q =
-    cond (eqb (q .left) 0)
-    (cond (before? prev (order-codes (o .sofar ++ (x ∷ []))))
-    (got (between left (order-codes (o .sofar ++ (x ∷ []))) (ms ++ (flat (o .from) (o .to) (o .sofar ++ (x ∷ [])) ∷ []))))
-    (refused 4 (o .place)))
-    (got (within left prev ms (open-as (o .place) (o .from) (o .to) q (o .sofar ++ (x ∷ [])))))
+-- a symbol that leaves the member's stack as q: the member is done if none is due
+abbrev pub grown : ℕ → ℕ → Numbered → Stack → Standing × Item
+grown left place x q = cond (eqb (q .left) 0) (Between left, last x place) (Within left place q, symbol x)
 
-abbrev pub judge : State → ℕ → ℕ → ℕ → List ℕ → Result State
-judge head at next t b = head-of at b
-judge (between left prev ms) at next t b = onward (λ o. got (within (left - 1) prev ms o)) (open-of at b)
-judge (within left prev ms o) at next t b =
-    onward (λ x. onward (grown left prev ms o x) (push (o .stack) at next (arity (x .number)))) (symbol-in at t b)
+-- 43, 44 or 45; refusals 3 and 6
+unfoldable pub member-symbol : ℕ → ℕ → Stack → ℕ → ℕ → ℕ → List ℕ → Result (Standing × Item)
+member-symbol left place q at next t b = onward (λ x. onward (λ q′. got (grown left place x q′)) (push q at next (arity (x .number)))) (symbol-in at t b)
 
-abbrev pub value : State → List Flat
-value head = []
-value (between left prev ms) = ms
-value (within left prev ms o) = ms
+abbrev pub judge : Standing → ℕ → ℕ → ℕ → List ℕ → Result (Standing × Item)
+judge Head at next t b = count-of at b
+judge (Between left) at next t b = open-of left at b
+judge (Within left place q) at next t b = member-symbol left place q at next t b
+
+-- what is kept: the codes of the member before, the members so far, and of the open one its sets and its symbols so far
+pub record Gathered : Type 0 where
+  pub prev : List ℕ
+  pub members : List Flat
+  pub from : ℕ
+  pub to : ℕ
+  pub sofar : List Numbered
+
+abbrev pub gathered : List ℕ → List Flat → ℕ → ℕ → List Numbered → Gathered
+gathered prev ms f t xs = record { prev = prev; members = ms; from = f; to = t; sofar = xs }
+
+-- the open member has the symbols xs, and is done; refusal 4
+abbrev pub closed : Gathered → List Numbered → ℕ → Result Gathered
+closed g xs place =
+    cond (before? (g .prev) (order-codes xs)) (got (gathered (order-codes xs) (g .members ++ (flat (g .from) (g .to) xs ∷ [])) 0 0 [])) (refused 4 place)
+
+abbrev pub keep : Gathered → Item → Result Gathered
+keep g nothing = got g
+keep g (opens n f t) = got (gathered (g .prev) (g .members) f t [])
+keep g (symbol x) = got (gathered (g .prev) (g .members) (g .from) (g .to) (g .sofar ++ (x ∷ [])))
+keep g (last x place) = closed g (g .sofar ++ (x ∷ [])) place
+
+abbrev pub narrowed-format : Format
+narrowed-format = record {
+  Control = Standing;
+  Item = Item;
+  Kept = Gathered;
+  Value = List Flat;
+  start = Head;
+  empty = gathered [] [] 0 0 [];
+  due = due;
+  judge = judge;
+  keep = keep;
+  value = λ st g. g .members;
+}
 
 abbrev pub narrowed-form : Form
-narrowed-form = record { State = State; Value = List Flat; start = head; due = due; judge = judge; value = value }
+narrowed-form = form narrowed-format

@@ -13,10 +13,10 @@ ghost use lib.ListN.{length, set};
 ghost use Rattle.theory.specs.PathExpr.{before?};
 ghost use Rattle.fields.specs.Table.{tag-length};
 ghost use Rattle.fields.specs.Reading.{read as read-file, word};
-ghost use Rattle.symbols.specs.Symbols.{symbol-length};
-ghost use Rattle.narrowed_question.specs.Form.{narrowed-form};
+ghost use Rattle.symbols.specs.Symbols.{symbol-length, order-code};
+ghost use Rattle.narrowed_question.specs.Form.{narrowed-form, count-of, open-of, member-symbol, narrowed-format};
 ghost use Rattle.narrowed_question.specs.Contract.{ReadsNarrowed, Blank, ReadsInto, segment-codes, Packed, arrays};
-ghost use Rattle.narrowed_question.specs.Internal.{due-of, count-of, open-move, symbol-move, judged, BodyReady, turn-said, Able, turned, marked};
+ghost use Rattle.narrowed_question.specs.Internal.{BodyReady, goes-on, turn-said, Able, turned, marked};
 
 // The number of members, or why the file is refused.
 pub enum Outcome {
@@ -86,25 +86,13 @@ pub struct Marks {
 }
 
 fn due(st: Standing) -> Due
-    ensures { λ r. ⌜ r ≡ due-of st ⌝ }
+    ensures { λ r. ⌜ r ≡ narrowed-format .due st ⌝ }
 {
     match st {
-        Standing::Head => Due {
-            file: File::Narrowed,
-            lo: fields::NARROWED_TAG,
-            hi: fields::NARROWED_TAG,
-            complete: false,
-            full: false,
-        },
+        Standing::Head => fields::rows_due(File::Narrowed, fields::NARROWED_ROW, false, false),
         Standing::Between(l) => {
             let full = l == 0;
-            Due {
-                file: File::Narrowed,
-                lo: fields::MEMBER_TAG,
-                hi: fields::MEMBER_TAG,
-                complete: full,
-                full,
-            }
+            fields::rows_due(File::Narrowed, fields::MEMBER_ROW, full, full)
         }
         Standing::Within(_, _, q) => symbols::symbols_due(File::Narrowed, q),
     }
@@ -113,7 +101,7 @@ fn due(st: Standing) -> Due
 // 41: the number of members; refusal 3.
 fn count(at: usize, b: &[u8]) -> Turn
     requires { ⌜ length (now b) ≡ tag-length 0x41 ⌝ }
-    ensures { λ r. ⌜ turn-said r ≡ count-of at (now (b .entry)) ⌝ }
+    ensures { λ r. ⌜ turn-said r ≡ goes-on (count-of at (now (b .entry))) ⌝ }
 {
     let n = fields::two(b, MEMBERS_IN);
     if MOST_MEMBERS < n {
@@ -126,7 +114,7 @@ fn count(at: usize, b: &[u8]) -> Turn
 // 42: the number of symbols and the two sets; refusal 3.
 fn open_member(l: u8, at: usize, b: &[u8]) -> Turn
     requires { ⌜ (length (now b) ≡ tag-length 0x42) × (0 < l) ⌝ }
-    ensures { λ r. ⌜ turn-said r ≡ open-move l at (now (b .entry)) ⌝ }
+    ensures { λ r. ⌜ turn-said r ≡ goes-on (open-of l at (now (b .entry))) ⌝ }
 {
     let n = b[SIZE_IN];
     if n < 1 {
@@ -148,7 +136,7 @@ fn open_member(l: u8, at: usize, b: &[u8]) -> Turn
 // 43, 44 or 45: a symbol; refusals 3 and 6.
 fn grow(l: u8, p: usize, q: Stack, at: usize, next: usize, tag: u8, b: &[u8]) -> Turn
     requires { ⌜ (length (now b) ≡ symbol-length tag) × ((0 < q .left) × (q .depth < 255)) ⌝ }
-    ensures { λ r. ⌜ turn-said r ≡ symbol-move l p q at next tag (now (b .entry)) ⌝ }
+    ensures { λ r. ⌜ turn-said r ≡ goes-on (member-symbol l p q at next tag (now (b .entry))) ⌝ }
 {
     match symbols::symbol_in(at, tag, b) {
         Read::Refused(r) => Turn::Stop(r),
@@ -171,7 +159,7 @@ fn grow(l: u8, p: usize, q: Stack, at: usize, next: usize, tag: u8, b: &[u8]) ->
 
 fn judge(st: Standing, at: usize, next: usize, tag: u8, b: &[u8]) -> Turn
     requires { ⌜ BodyReady st tag (length (now b)) ⌝ }
-    ensures { λ r. ⌜ turn-said r ≡ judged st at next tag (now (b .entry)) ⌝ }
+    ensures { λ r. ⌜ turn-said r ≡ goes-on (narrowed-format .judge st at next tag (now (b .entry))) ⌝ }
 {
     match st {
         Standing::Head => count(at, b),

@@ -5,8 +5,8 @@ use mathlib.Core.List.{List, [], _∷_}
 use Prim.Native.Nat.{ℕ}
 use Rattle.fields.specs.Case.{Case, case, AllRead}
 use Rattle.theory.specs.Result.{got, refused}
-use Rattle.fields.specs.Table.{among, rows}
-use Rattle.fields.specs.Reading.{eight, read, walk, field-at, fitting}
+use Rattle.fields.specs.Table.{rows, rows-of}
+use Rattle.fields.specs.Reading.{eight, read, walk, field-at, fitting, due-rows, due-tag?}
 use Rattle.symbols.specs.Symbols.{symbol-numbered, step-of, operator-of, symbol-in, arity, push}
 use Rattle.question.specs.Form.{question-form, head-of}
 
@@ -46,5 +46,5 @@ cases =
     ∷ []
 
 pub all-read : AllRead question-form cases
-unfolding read walk field-at fitting among rows head-of eight step-of operator-of symbol-in arity symbol-numbered push
+unfolding read walk field-at due-rows due-tag? fitting rows-of rows head-of eight step-of operator-of symbol-in arity symbol-numbered push
 all-read = refl

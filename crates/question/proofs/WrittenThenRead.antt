@@ -1,7 +1,7 @@
 -- What is written of a question's path is read as its codes, which ask for that path.
 -- Assumes nothing.
 use mathlib.Core.Path.{_≡_, refl, sym, ap, ap₂, _∙_, subst}
-use mathlib.Core.Bool.{true}
+use mathlib.Core.Bool.{true, false}
 use mathlib.Core.Logic.{inl}
 use mathlib.Core.List.{List, [], _∷_, _++_, map, append-assoc, append-nil}
 use mathlib.Core.Option.{some}
@@ -19,8 +19,8 @@ use Rattle.theory.proofs.Members.{plain-sets}
 use Rattle.theory.proofs.Walks.{size-pos}
 use Rattle.fields.specs.declared.File.the-variants as file
 use Rattle.theory.specs.Result.{Result, got}
-use Rattle.fields.specs.Table.{among, rows}
-use Rattle.fields.specs.Reading.{fitting, read}
+use Rattle.fields.specs.Table.{rows, rows-of}
+use Rattle.fields.specs.Reading.{due-rows, tags-due, fitting, read}
 use Rattle.fields.proofs.ReaderLoop.{Going, going-start, going-ends, going-more}
 use Rattle.fields.proofs.Lies.{field-lies, ends-lie}
 use Rattle.symbols.specs.declared.Stack.{Stack}
@@ -30,7 +30,9 @@ use Rattle.symbols.proofs.Symbols.{push-got, push-anywhere}
 use Rattle.symbols.proofs.Numbers.{symbol-comes, held-postfix, numbered-symbols, length-codes}
 use Rattle.symbols.proofs.Bytes.{symbol-short, symbol-reads}
 use Rattle.symbols.proofs.Counting.{read-runs}
-use Rattle.question.specs.Form.{head, within, question-form, due, judge, head-of, fresh, question-symbols}
+use Rattle.question.specs.declared.Standing.{Standing}
+use Rattle.question.specs.declared.Standing.the-variants.{Head, Within}
+use Rattle.question.specs.Form.{question-form, due, head-of, fresh, question-symbols}
 use Rattle.question.specs.Writing.{numbered-codes, question-bytes}
 use Rattle.question.proofs.Paths.{Small, Asked, AllAsked, symbols-are}
 
@@ -69,11 +71,11 @@ asked-numbers (s ∷ ss) h =
     (ap₂ (λ (y : Numbered) (l : List Numbered). y ∷ l) (x .0) (r .0), (x .1, r .1))
 
 -- ---- their bytes are read as these codes
-code-fits : (q : Stack) (c : ℕ) → c < 134 → fitting (due-symbols file.Question q) (symbol-tag (numbered c 0)) (length (symbol-body (numbered c 0))) ≡ true
-unfolding fitting among rows
-code-fits q c h = go (symbol-numbered c 0) (symbol-comes (numbered c 0) (inl (h, refl)) .1)
+code-fits : (q : Stack) (c : ℕ) → 0 < q .left → c < 134 → fitting (due-symbols file.Question q) (symbol-tag (numbered c 0)) (length (symbol-body (numbered c 0))) ≡ true
+unfolding fitting due-rows rows-of rows
+code-fits q c l h = rw (ne-eqb (q .left) 0 (omega arith)) (go (symbol-numbered c 0) (symbol-comes (numbered c 0) (inl (h, refl)) .1))
   where
-    go : (s : Symbol) → number-symbol s ≡ numbered c 0 → fitting (due-symbols file.Question q) (tag-of s) (length (body-of c s)) ≡ true
+    go : (s : Symbol) → number-symbol s ≡ numbered c 0 → fitting (tags-due file.Question (0x43 ∷ 0x44 ∷ 0x45 ∷ []) false false) (tag-of s) (length (body-of c s)) ≡ true
     go (s-step d l) e = refl
     go (s-join any) e = refl
     go (s-join (through m)) e = let z : 255 ≡ c = ap (λ (x : Numbered). x .number) e in absurd (omega arith)
@@ -81,10 +83,10 @@ code-fits q c h = go (symbol-numbered c 0) (symbol-comes (numbered c 0) (inl (h,
     go s-closure e = refl
 
 module _ (s : List ℕ) (A : Result (List ℕ)) where
-  symbols-forth : (ys : List ℕ) (q : Stack) (cs : List ℕ) (at : ℕ) → Going question-form s A (within q cs) at → drop at s ≡ symbols-bytes (numbered-codes ys) → Runs q (numbered-codes ys) → Small ys
+  symbols-forth : (ys : List ℕ) (q : Stack) (cs : List ℕ) (at : ℕ) → Going question-form s A (Within q, cs) at → drop at s ≡ symbols-bytes (numbered-codes ys) → Runs q (numbered-codes ys) → Small ys
       → length ys ≡ q .left → A ≡ got (cs ++ ys)
   symbols-forth [] q cs at g e u small l =
-      going-ends question-form s A (within q cs) at g (ends-lie (due (within q cs)) s at e (eq-eqb (q .left) 0 (omega arith))) ∙ ap got (sym (append-nil cs))
+      going-ends question-form s A (Within q, cs) at g (ends-lie (due (Within q)) s at e (eq-eqb (q .left) 0 (omega arith))) ∙ ap got (sym (append-nil cs))
   symbols-forth (y ∷ ys) q cs at g e u small l =
       let x = numbered y 0 in
       let t = symbol-tag x in
@@ -92,15 +94,15 @@ module _ (s : List ℕ) (A : Result (List ℕ)) where
       let n = length b in
       let q′ = u .1 .0 in
       let hq = push-got q 0 0 (arity y) q′ (u .1 .1) .0 in
-      let f = field-lies (due-symbols file.Question q) s at t b (symbols-bytes (numbered-codes ys)) e (symbol-short x) (ne-eqb (q .left) 0 (λ z. omega arith)) (code-fits q y (small .0)) in
-      let st = within q′ (cs ++ (y ∷ [])) in
-      let j : judge (within q cs) at (at + 3 + n) t (take n (drop (at + 3) s)) ≡ got st =
+      let f = field-lies (due-symbols file.Question q) s at t b (symbols-bytes (numbered-codes ys)) e (symbol-short x) (code-fits q y (omega arith) (small .0)) in
+      let st : Standing × List ℕ = (Within q′, cs ++ (y ∷ [])) in
+      let j : question-form .judge (Within q, cs) at (at + 3 + n) t (take n (drop (at + 3) s)) ≡ got st =
       rw (f .inner, symbol-reads at x (u .0), push-anywhere q 0 0 at (at + 3 + n) (arity y) q′ (u .1 .1)) in
-      symbols-forth ys q′ (cs ++ (y ∷ [])) (at + 3 + n) (going-more question-form s A (within q cs) at g t n (f .seen) st j) (f .after) (u .1 .2) (small .1) (omega arith)
+      symbols-forth ys q′ (cs ++ (y ∷ [])) (at + 3 + n) (going-more question-form s A (Within q, cs) at g t n (f .seen) st j) (f .after) (u .1 .2) (small .1) (omega arith)
       ∙ ap got (append-assoc cs (y ∷ []) ys)
 
-head-fits : fitting (due head) 0x21 1 ≡ true
-unfolding fitting among rows
+head-fits : fitting (due Head) 0x21 1 ≡ true
+unfolding fitting due-rows rows-of rows
 head-fits = refl
 
 read-codes : (cs : List ℕ) → 1 ≤ length cs → length cs ≤ 32 → Runs (record { left = length cs; depth = 0 }) (numbered-codes cs) → Small cs → read question-form (question-bytes cs) ≡ got cs
@@ -109,9 +111,10 @@ read-codes cs any-code few runs small =
     let s = question-bytes cs in
     let A = read question-form s in
     let n = length cs in
-    let f = field-lies (due head) s 0 0x21 (n ∷ []) (symbols-bytes (numbered-codes cs)) refl (omega arith) refl head-fits in
-    let j : judge head 0 4 0x21 (take 1 (drop 3 s)) ≡ got (fresh n) = rw (le-leb 1 n any-code, le-leb n 32 few) in
-    symbols-forth s A cs (record { left = n; depth = 0 }) [] 4 (going-more question-form s A head 0 (going-start question-form s) 0x21 1 (f .seen) (fresh n) j) (f .after) runs small refl
+    let f = field-lies (due Head) s 0 0x21 (n ∷ []) (symbols-bytes (numbered-codes cs)) refl (omega arith) head-fits in
+    let j : question-form .judge (Head, []) 0 4 0x21 (take 1 (drop 3 s)) ≡ got (Within (fresh n), []) = rw (le-leb 1 n any-code, le-leb n 32 few) in
+    let g = going-more question-form s A (Head, []) 0 (going-start question-form s) 0x21 1 (f .seen) (Within (fresh n), []) j in
+    symbols-forth s A cs (fresh n) [] 4 g (f .after) runs small refl
 
 -- ---- of a question's path
 module _ (p : PathExpr) (g : T (plain? p)) (h : T (links? 64 p)) where

@@ -2,7 +2,8 @@
 -- SPECIFICATION, Questions, Refused questions.
 -- Assumes nothing.
 use mathlib.Core.Bool.{false, cond, _&&_}
-use mathlib.Core.List.{List, [], _∷_, _++_, map}
+use mathlib.Core.List.{List, [], _∷_, map}
+use mathlib.Core.Option.{Option, none, some}
 use Prim.Native.Nat.{ℕ}
 use lib.Dec.{leb}
 use lib.ListN.{getD}
@@ -11,43 +12,49 @@ use Rattle.fields.specs.declared.File.the-variants as file
 use Rattle.fields.specs.declared.Due.{Due}
 use Rattle.symbols.specs.declared.Stack.{Stack}
 use Rattle.theory.specs.Result.{Result, got, refused, onward}
-use Rattle.fields.specs.Reading.{Form}
+use Rattle.fields.specs.Reading.{tags-due, Form, Format, collected, form}
+use Rattle.question.specs.declared.Standing.{Standing}
+use Rattle.question.specs.declared.Standing.the-variants.{Head, Within}
 use Rattle.symbols.specs.Symbols.{Numbered, symbol-numbered, symbol-in, arity, push, due-symbols}
 
--- the head is due; or a path is being read, with the codes of its symbols so far
-pub data State : Type 0 where
-  head : State
-  within : Stack → List ℕ → State
-
-abbrev pub due-head : Due
-due-head = record { file = file.Question; lo = 0x21; hi = 0x21; complete = false; full = false }
-
-abbrev pub due : State → Due
-due head = due-head
-due (within q cs) = due-symbols file.Question q
+-- the head is due; or the symbols of a path are
+abbrev pub due : Standing → Due
+due Head = tags-due file.Question (0x21 ∷ []) false false
+due (Within q) = due-symbols file.Question q
 
 -- 21: the number of symbols, 1 to 32; refusal 3
 unfoldable pub head-of : ℕ → List ℕ → Result ℕ
 head-of at b = cond (leb 1 (getD b 0 0) && leb (getD b 0 0) 32) (got (getD b 0 0)) (refused 3 at)
 
 -- a path of n symbols, none of them read
-abbrev pub fresh : ℕ → State
-fresh n = within (record { left = n; depth = 0 }) []
+abbrev pub fresh : ℕ → Stack
+fresh n = record { left = n; depth = 0 }
 
--- one symbol more
-abbrev pub one-more : Stack → List ℕ → ℕ → ℕ → Numbered → Result State
-one-more q cs at next x = onward (λ q′. got (within q′ (cs ++ (x .number ∷ [])))) (push q at next (arity (x .number)))
+-- a symbol, handed over by its number
+abbrev pub one-more : Stack → ℕ → ℕ → Numbered → Result (Standing × Option ℕ)
+one-more q at next x = onward (λ q′. got (Within q′, some (x .number))) (push q at next (arity (x .number)))
 
-abbrev pub judge : State → ℕ → ℕ → ℕ → List ℕ → Result State
-judge head at next t b = onward (λ n. got (fresh n)) (head-of at b)
-judge (within q cs) at next t b = onward (one-more q cs at next) (symbol-in at t b)
+abbrev pub judge : Standing → ℕ → ℕ → ℕ → List ℕ → Result (Standing × Option ℕ)
+judge Head at next t b = onward (λ n. got (Within (fresh n), none)) (head-of at b)
+judge (Within q) at next t b = onward (one-more q at next) (symbol-in at t b)
 
-abbrev pub value : State → List ℕ
-value head = []
-value (within q cs) = cs
+-- the codes of the symbols
+abbrev pub question-format : Format
+question-format = record {
+  Control = Standing;
+  Item = Option ℕ;
+  Kept = List ℕ;
+  Value = List ℕ;
+  start = Head;
+  empty = [];
+  due = due;
+  judge = judge;
+  keep = collected;
+  value = λ st cs. cs;
+}
 
 abbrev pub question-form : Form
-question-form = record { State = State; Value = List ℕ; start = head; due = due; judge = judge; value = value }
+question-form = form question-format
 
 -- the symbols that the codes stand for
 abbrev pub question-symbols : List ℕ → List Symbol

@@ -10,9 +10,9 @@ ghost use mathlib.Core.Path.{_≡_};
 ghost use lib.ListN.{length, replicate};
 ghost use Rattle.fields.specs.Table.{tag-length};
 ghost use Rattle.fields.specs.Reading.{read as read-file};
-ghost use Rattle.question.specs.Form.{question-form};
+ghost use Rattle.question.specs.Form.{question-format, question-form};
 ghost use Rattle.question.specs.Contract.{ReadsQuestion};
-ghost use Rattle.question.specs.Internal.{due-of, judged, BodyReady, turn-said};
+ghost use Rattle.question.specs.Internal.{BodyReady, turn-said};
 
 // The most symbols that a question has: as its head's number, and as a length.
 const MOST: u8 = 32;
@@ -47,16 +47,10 @@ pub enum Turn {
 }
 
 fn due(st: Standing) -> Due
-    ensures { λ r. ⌜ r ≡ due-of st ⌝ }
+    ensures { λ r. ⌜ r ≡ question-format .due st ⌝ }
 {
     match st {
-        Standing::Head => Due {
-            file: File::Question,
-            lo: fields::QUESTION_TAG,
-            hi: fields::QUESTION_TAG,
-            complete: false,
-            full: false,
-        },
+        Standing::Head => fields::rows_due(File::Question, fields::QUESTION_ROW, false, false),
         Standing::Within(q) => symbols::symbols_due(File::Question, q),
     }
 }
@@ -64,7 +58,7 @@ fn due(st: Standing) -> Due
 // 21: the number of symbols; refusal 3.
 fn head(at: usize, b: &[u8]) -> Turn
     requires { ⌜ length (now b) ≡ tag-length 0x21 ⌝ }
-    ensures { λ r. ⌜ turn-said r ≡ judged Standing.Head at 0 0 (now (b .entry)) ⌝ }
+    ensures { λ r. ⌜ turn-said r ≡ question-format .judge Standing.Head at 0 0 (now (b .entry)) ⌝ }
 {
     let n = b[SYMBOLS_IN];
     if n < 1 {
@@ -80,7 +74,7 @@ fn head(at: usize, b: &[u8]) -> Turn
 // 43 or 44: a symbol; refusals 3 and 6.
 fn grow(q: Stack, at: usize, next: usize, tag: u8, b: &[u8]) -> Turn
     requires { ⌜ BodyReady (Standing.Within q) tag (length (now b)) ⌝ }
-    ensures { λ r. ⌜ turn-said r ≡ judged (Standing.Within q) at next tag (now (b .entry)) ⌝ }
+    ensures { λ r. ⌜ turn-said r ≡ question-format .judge (Standing.Within q) at next tag (now (b .entry)) ⌝ }
 {
     match symbols::symbol_in(at, tag, b) {
         Read::Refused(r) => Turn::Stop(r),
@@ -96,7 +90,7 @@ fn grow(q: Stack, at: usize, next: usize, tag: u8, b: &[u8]) -> Turn
 
 fn judge(st: Standing, at: usize, next: usize, tag: u8, b: &[u8]) -> Turn
     requires { ⌜ BodyReady st tag (length (now b)) ⌝ }
-    ensures { λ r. ⌜ turn-said r ≡ judged st at next tag (now (b .entry)) ⌝ }
+    ensures { λ r. ⌜ turn-said r ≡ question-format .judge st at next tag (now (b .entry)) ⌝ }
 {
     match st {
         Standing::Head => head(at, b),

@@ -3,11 +3,11 @@
 use mathlib.Core.Path.{_≡_, refl, sym, ap}
 use mathlib.Core.Bool.{true, _&&_, false≢true}
 use mathlib.Core.List.{List, [], _∷_, List·Memᴰ as In}
-use Prim.Native.Nat.{ℕ, zero, suc, _+_, _<_, _≤_}
+use Prim.Native.Nat.{ℕ, zero, suc, _<_, _≤_}
 use native.Mathlib.Omega.{arith}
 use borrow.Author.Tests.{eqb-true, ltb-true}
 use lib.Dec.{T, eqb, ltb}
-use lib.ListN.{length, getD, take, drop}
+use lib.ListN.{length, getD}
 use Rattle.theory.specs.Lists.{every?}
 use Rattle.theory.specs.Register.{Edge, Register, records, kind, well-formed?}
 use Rattle.theory.proofs.Tests.{of-true, to-true}
@@ -15,9 +15,11 @@ use Rattle.theory.proofs.Lists.{every-in}
 use Rattle.theory.specs.Result.{Result, got, refused}
 use Rattle.fields.specs.Reading.{read}
 use Rattle.fields.proofs.Bools.{and-left, and-right}
-use Rattle.fields.proofs.Fields.{found, ended}
+use Rattle.fields.proofs.Fields.{ended}
 use Rattle.fields.proofs.Accepted.{accepted-ind}
-use Rattle.register.specs.Form.{State, start, within, due, value, register-form, value-of, register-in, kind?, link?}
+use Rattle.register.specs.declared.Position.{Position}
+use Rattle.register.specs.declared.Position.the-variants.{Start, Within}
+use Rattle.register.specs.Form.{due, no-register, register-form, value-of, register-in, kind?, link?}
 use Rattle.register.specs.Contract.{sizes, sized}
 use Rattle.register.specs.LinksAhead.{Accepted}
 use Rattle.register.proofs.Sound.{SoundState, sound-more}
@@ -47,16 +49,17 @@ ends-linked n (e ∷ es) h =
 label-below : (n : ℕ) (e : Edge) → link? n e ≡ true → e .label < 64
 label-below n e h = ltb-true (e .label) 64 (and-right (ltb (e .from) n) _ (and-left _ (ltb (e .to) n) h))
 
-sound-limits : (st : State) → due st .complete ≡ true → SoundState st → Limits (value st)
+sound-limits : (st : Position) (r : Register) → due st .complete ≡ true → SoundState (st, r) → Limits r
 unfolding well-formed?
-sound-limits start e w = absurd (false≢true e)
-sound-limits (within q ks es) e w =
+sound-limits Start r e w = absurd (false≢true e)
+sound-limits (Within q) r e w =
     let a : q .kindless ≡ 0 = eqb-true (q .kindless) 0 (and-left _ (eqb (q .left) 0) e) in
     let b : q .left ≡ 0 = eqb-true (q .left) 0 (and-right (eqb (q .kindless) 0) _ e) in
+    let ks = r .kinds in
     let n : q .records ≡ length ks = omega (arith, w .records) in
-    let f : every? (link? (length ks)) es ≡ true = rw (← n) (w .edges) in
+    let f : every? (link? (length ks)) (r .links) ≡ true = rw (← n) (w .edges) in
     record {
-      formed = of-true _ (ends-linked (length ks) es f);
+      formed = of-true _ (ends-linked (length ks) (r .links) f);
       few-records = omega (arith, w .few-records);
       few-links = omega (arith, w .few-links, w .links);
       kinds = kinds-below ks (w .kinds);
@@ -67,9 +70,9 @@ pub accepted-register : (s : List ℕ) (r : Register) → read register-form s �
 unfolding read
 accepted-register s r e =
     accepted-ind register-form s (λ st at v. SoundState st → Limits v)
-    (λ st at f. sound-limits st (ended (due st) s at f .may))
-    (λ st at t n st′ v f j ih w. ih (sound-more st at (at + 3 + n) t (take n (drop (at + 3) s)) st′ (found (due st) s at t n f .more) j w))
-    (suc (length s)) start 0 r e tt
+    (λ st at f. sound-limits (st .0) (st .1) (ended (due (st .0)) s at f .may))
+    (λ st at t n st′ v f j ih w. ih (sound-more st s at t n st′ f j w))
+    (suc (length s)) (Start, no-register) 0 r e refl
 
 -- what the reader's answer says of the register in the file
 pub accepted-sizes : (s : List ℕ) (n l : ℕ) → got (sizes n l) ≡ sized (read register-form s)

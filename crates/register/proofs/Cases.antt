@@ -6,9 +6,9 @@ use Prim.Native.Nat.{ℕ}
 use Rattle.theory.specs.Register.{edge, Register}
 use Rattle.fields.specs.Case.{Case, case, AllRead}
 use Rattle.theory.specs.Result.{got, refused}
-use Rattle.fields.specs.Table.{among, rows}
-use Rattle.fields.specs.Reading.{read, walk, field-at, fitting}
-use Rattle.register.specs.Form.{register-form, head-of, kind-of, link-of, key}
+use Rattle.fields.specs.Table.{rows, rows-of}
+use Rattle.fields.specs.Reading.{read, walk, due-rows, due-tag?, fitting, field-at}
+use Rattle.register.specs.Form.{register-form, head-of, kind-of, link-of, entry-of, key}
 
 -- the fields, before what comes after them
 abbrev f31 : ℕ → ℕ → List ℕ → List ℕ
@@ -43,5 +43,5 @@ cases =
     ∷ []
 
 pub all-read : AllRead register-form cases
-unfolding read walk field-at fitting among rows head-of kind-of link-of key
+unfolding read walk field-at due-rows due-tag? fitting rows-of rows head-of kind-of link-of entry-of key
 all-read = refl

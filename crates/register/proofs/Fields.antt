@@ -2,32 +2,38 @@
 -- Assumes nothing.
 use mathlib.Core.Path.{_≡_, refl, _∙_}
 use mathlib.Core.Bool.{Bool, true, false, cond, _&&_}
-use mathlib.Core.List.{List}
+use mathlib.Core.List.{List, [], _∷_}
 use Prim.Native.Nat.{ℕ, _+_, _<_}
 use native.Mathlib.Omega.{arith}
 use borrow.Author.Tests.{eqb-false}
 use lib.Dec.{eqb}
 use lib.ListN.{length, take, drop}
-use Rattle.fields.specs.Table.{tag-length, rows}
-use Rattle.fields.specs.Reading.{body, field-at}
-use Rattle.fields.proofs.Fields.{found, body-length, one-due}
+use Rattle.fields.specs.Table.{tag-length, rows, rows-of}
+use Rattle.fields.specs.Reading.{body, field-at, due-rows, tags-due}
+use Rattle.fields.proofs.Rows.{OneOf}
+use Rattle.fields.proofs.Fields.{found, found-one, body-length}
+use Rattle.fields.specs.declared.File.the-variants as file
 use Rattle.register.specs.declared.Progress.{Progress}
 use Rattle.register.specs.declared.Position.{Position}
 use Rattle.register.specs.declared.Position.the-variants.{Start, Within}
-use Rattle.register.specs.Form.{due-head, due-entry, complete?}
-use Rattle.register.specs.Internal.{due-of, BodyReady}
+use Rattle.register.specs.Form.{due-tag, due, complete?}
+use Rattle.register.specs.Internal.{BodyReady}
 
-pub head-length : (s : List ℕ) (at t n : ℕ) → field-at due-head s at ≡ body t n → n ≡ 4
-unfolding tag-length rows
-head-length s at t n e = one-due due-head t n refl (found due-head s at t n e .fit) .1
+pub head-length : (s : List ℕ) (at t n : ℕ) → field-at (due Start) s at ≡ body t n → n ≡ 4
+unfolding due-rows rows-of rows
+head-length s at t n e = found-one file.Register (0x31 ∷ []) false false (found (due Start) s at t n e) .1 .1
 
-pub entry-length : (q : Progress) (s : List ℕ) (at t n : ℕ) → field-at (due-entry q) s at ≡ body t n → n ≡ cond (eqb (q .kindless) 0) 5 1
-unfolding tag-length rows
-entry-length q s at t n e = one-due (due-entry q) t n refl (found (due-entry q) s at t n e .fit) .1 ∙ by-kind (eqb (q .kindless) 0)
-  where
-    by-kind : (c : Bool) → tag-length (cond c 0x33 0x32) ≡ cond c 5 1
-    by-kind true = refl
-    by-kind false = refl
+module _ (q : Progress) (s : List ℕ) (at t n : ℕ) (e : field-at (due (Within q)) s at ≡ body t n) where
+  pub entry-due : complete? q ≡ false
+  entry-due = found-one file.Register (due-tag q ∷ []) (complete? q) (complete? q) (found (due (Within q)) s at t n e) .0
+
+  pub entry-length : n ≡ cond (eqb (q .kindless) 0) 5 1
+  unfolding due-rows rows-of rows
+  entry-length = by-kind (eqb (q .kindless) 0) (found-one file.Register (due-tag q ∷ []) (complete? q) (complete? q) (found (due (Within q)) s at t n e) .1)
+    where
+      by-kind : (c : Bool) → OneOf (due-rows (tags-due file.Register (cond c 0x33 0x32 ∷ []) (complete? q) false)) t n → n ≡ cond c 5 1
+      by-kind true o = o .1
+      by-kind false o = o .1
 
 -- where not both are 0, one is due
 pub some-due : (q : Progress) → complete? q ≡ false → 0 < q .kindless + q .left
@@ -38,8 +44,12 @@ some-due q e = by-tests (eqb (q .kindless) 0) (eqb (q .left) 0) refl refl e
     by-tests true false a b e = let h : q .left ≡ 0 → ⊥ = eqb-false (q .left) 0 b in omega arith
     by-tests false y a b e = let h : q .kindless ≡ 0 → ⊥ = eqb-false (q .kindless) 0 a in omega arith
 
-pub ready : (st : Position) (s : List ℕ) (at t n : ℕ) → field-at (due-of st) s at ≡ body t n → BodyReady st (length (take n (drop (at + 3) s)))
-ready Start s at t n e = let f = found due-head s at t n e in body-length f ∙ one-due due-head t n refl (f .fit) .1
+pub ready : (st : Position) (s : List ℕ) (at t n : ℕ) → field-at (due st) s at ≡ body t n → BodyReady st (length (take n (drop (at + 3) s)))
+unfolding tag-length rows
+ready Start s at t n e = body-length (found (due Start) s at t n e) ∙ head-length s at t n e
 ready (Within q) s at t n e =
-    let f = found (due-entry q) s at t n e in
-    (body-length f ∙ one-due (due-entry q) t n refl (f .fit) .1, some-due q (f .more))
+    (body-length (found (due (Within q)) s at t n e) ∙ entry-length q s at t n e ∙ by-kind (eqb (q .kindless) 0), some-due q (entry-due q s at t n e))
+  where
+    by-kind : (c : Bool) → cond c 5 1 ≡ tag-length (cond c 0x33 0x32)
+    by-kind true = refl
+    by-kind false = refl

@@ -2,30 +2,46 @@
 -- Assumes nothing.
 use mathlib.Core.Path.{_≡_, refl, subst, ap, _∙_}
 use mathlib.Core.Bool.{true, false}
-use mathlib.Core.List.{List}
+use mathlib.Core.List.{List, [], _∷_}
 use Prim.Native.Nat.{ℕ, _+_, _*_, _-_, _/_, _%_, _≤_, _<_}
 use native.Mathlib.Omega.{arith}
-use borrow.Author.Tests.{lt-ltb, lt-leb, le-ltb, le-leb, ne-eqb}
+use borrow.Author.Tests.{lt-ltb, lt-leb, le-ltb, le-leb, eq-eqb, ne-eqb}
 use lib.Dec.{eqb}
 use lib.ListN.{length, getD, take, drop}
 use Rattle.theory.specs.Result.{got}
+use Rattle.fields.specs.declared.File.the-variants as file
 use Rattle.fields.specs.declared.Due.{Due}
-use Rattle.fields.specs.Table.{among, rows, tag-length, field-size}
-use Rattle.fields.specs.Reading.{body, field-at, fitting, word, eight}
+use Rattle.fields.specs.Table.{rows, rows-of, tag-length, field-size}
+use Rattle.fields.specs.Reading.{body, field-at, due-rows, tags-due, fitting, word, eight}
+use Rattle.fields.proofs.Rows.{fits-within}
 use Rattle.fields.proofs.Fields.{found, body-get}
 use Rattle.register.specs.declared.Progress.{Progress}
 use Rattle.register.specs.declared.Position.the-variants.{Within}
-use Rattle.register.specs.Form.{due-entry, kind-of, link-of, after-link, key}
-use Rattle.register.specs.Contract.{entry-of}
+use Rattle.register.specs.Form.{due, kind-of, link-of, entry-of, after-link, key}
 use Rattle.register.specs.Passed.{KindAt, NumberAt, Passes, Passed, here, further}
 use Rattle.register.proofs.Loop.{Reading, reading-more}
 
 -- ---- a whole field with the tag that is due and its length is found
-field-there : (d : Due) (s : List ℕ) (at t n : ℕ) → d .full ≡ false → fitting d t n ≡ true → at + 3 + n ≤ length s → getD s at 0 ≡ t → word s (at + 1) ≡ n
+field-there : (d : Due) (s : List ℕ) (at t n : ℕ) → fitting d t n ≡ true → at + 3 + n ≤ length s → getD s at 0 ≡ t → word s (at + 1) ≡ n
     → field-at d s at ≡ body t n
 unfolding field-at
-field-there d s at t n o f h x y =
-    rw (x, y) (simp (lt-leb (length s) at (omega arith), o, le-ltb (length s) (at + 3) (omega arith), f, le-ltb (length s) (at + 3 + n) h))
+field-there d s at t n f h x y =
+    rw (x, y) (simp (lt-leb (length s) at (omega arith), fits-within d t n f, le-ltb (length s) (at + 3) (omega arith), f, le-ltb (length s) (at + 3 + n) h))
+
+-- a kind fits where one is due, and a link
+kind-row : fitting (tags-due file.Register (0x32 ∷ []) false false) 0x32 1 ≡ true
+unfolding fitting due-rows rows-of rows
+kind-row = refl
+
+link-row : fitting (tags-due file.Register (0x33 ∷ []) false false) 0x33 5 ≡ true
+unfolding fitting due-rows rows-of rows
+link-row = refl
+
+kind-fits : (q : Progress) → 0 < q .kindless → fitting (due (Within q)) 0x32 1 ≡ true
+kind-fits q h = rw (ne-eqb (q .kindless) 0 (omega arith)) kind-row
+
+link-fits : (q : Progress) → q .kindless ≡ 0 → 0 < q .left → fitting (due (Within q)) 0x33 5 ≡ true
+link-fits q z h = rw (eq-eqb (q .kindless) 0 z, ne-eqb (q .left) 0 (omega arith)) link-row
 
 -- ---- one field more was passed over
 module _ {s : List ℕ} {q : Progress} {at : ℕ} (k : KindAt s q at) where
@@ -39,11 +55,11 @@ module _ {s : List ℕ} {q : Progress} {at : ℕ} (k : KindAt s q at) where
 
 module _ {s : List ℕ} {q p : Progress} {at i : ℕ} (d : Passed s q at p i) (r : Progress) where
   pub past-kind : KindAt s p i → kind-of p i (take (i + 4 - (i + 3)) (drop (i + 3) s)) ≡ got r → Passed s q at r (i + 4)
-  unfolding fitting among rows entry-of
+  unfolding entry-of
   past-kind k e =
       let o : i + 4 - (i + 3) ≡ 1 = omega arith in
       let z : eqb (p .kindless) 0 ≡ false = ne-eqb (p .kindless) 0 (λ e. omega (arith, k .due)) in
-      let f = field-there (due-entry p) s i 0x32 1 (simp z) (simp z) (omega (arith, kind-room k)) (k .tag) (kind-length k) in
+      let f = field-there (due (Within p)) s i 0x32 1 (kind-fits p (k .due)) (omega (arith, kind-room k)) (k .tag) (kind-length k) in
       let w : i + 3 + 1 ≡ i + 4 = omega arith in
       subst (Passed s q at r) w (further p i 0x32 1 r d f (rw (z, ← o) e))
 
@@ -112,15 +128,14 @@ module _ {s : List ℕ} {q : Progress} {at i left floor v records : ℕ} (g : Li
   linked-room = number-there .room
 
   pub linked-more : ((k : ℕ) → getD s k 0 < 256) → records ≡ q .records → records < 65536 → (w : ℕ) → (0 < w → NumberAt s (i + 8) w) → Linked s q at (i + 8) (left - 1) (v + 1) w
-  unfolding fitting among rows entry-of key
+  unfolding entry-of key
   linked-more bytes er hr w n =
       let word-less : (k : ℕ) → word s k < 65536 = λ k. omega (arith, bytes k, bytes (k + 1)) in
       let low : 0x3300050000000000 ≤ v = omega (arith, g .base, p .low) in
       let k = link-number (getD s i 0) (word s (i + 1)) (word s (i + 3)) (getD s (i + 5) 0) (word s (i + 6)) v records
       (bytes i) (word-less (i + 1)) (word-less (i + 3)) (bytes (i + 5)) (word-less (i + 6)) hr (number-there .is ∙ eight-parts s i) low (p .high) in
       let b = take 5 (drop (i + 3) s) in
-      let y : eqb left 0 ≡ false = ne-eqb left 0 (λ e. omega (arith, p .due)) in
-      let f = field-there (due-entry (standing q left floor)) s i 0x33 5 (simp y) refl (omega (arith, linked-room)) (k .tag) (k .len) in
+      let f = field-there (due (Within (standing q left floor))) s i 0x33 5 (link-fits (standing q left floor) refl (p .due)) (omega (arith, linked-room)) (k .tag) (k .len) in
       let kb : key b + 0x3300050000000000 ≡ v = rw (body-from s i, body-label s i, body-to s i) (k .key) in
       let l = link-taken (standing q left floor) i b (rw (body-from s i, ← er) (k .from)) (rw (body-label s i) (omega (arith, k .label, p .label)))
       (rw (body-to s i, ← er) (omega (arith, k .to, p .to)))
@@ -147,7 +162,7 @@ pub passed-on : {s : List ℕ} {q : Progress} {at : ℕ} (p : Progress) (i : ℕ
 passed-on q at here h = (omega arith, h)
 passed-on p i (further q′ j t n p′ d e g) h =
     let r = passed-on q′ j d h in
-    let f = found (due-entry q′) _ j t n e .room in
+    let f = found (due (Within q′)) _ j t n e .room in
     (omega (arith, r .0), f)
 
 pub passed-both : {s : List ℕ} {q : Progress} {at : ℕ} {p : Progress} {i : ℕ} (r : Progress) (j : ℕ) → Passed s q at p i → Passed s p i r j → Passed s q at r j

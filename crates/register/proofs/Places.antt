@@ -16,9 +16,11 @@ use Rattle.fields.proofs.Bools.{and-left, and-right}
 use Rattle.fields.proofs.Fields.{found, ended, body-get}
 use Rattle.fields.proofs.Accepted.{accepted-ind}
 use Rattle.register.specs.declared.Progress.{Progress}
+use Rattle.register.specs.declared.Position.{Position}
+use Rattle.register.specs.declared.Position.the-variants.{Start, Within}
 use Rattle.register.specs.declared.Links as declared·Links
 use Rattle.register.specs.declared.NextLink.the-variants as next-link
-use Rattle.register.specs.Form.{State, start, within, due, due-head, due-entry, judge, value, register-form, value-of, register-in, edge-of, after-head}
+use Rattle.register.specs.Form.{due, with-kind, with-link, no-register, register-form, value-of, register-in, edge-of, after-head}
 use Rattle.register.specs.LinksAhead.{Accepted, cursor-at, OnLinks, to-come, handed}
 use Rattle.register.proofs.Fields.{head-length, entry-length}
 use Rattle.register.proofs.Walk.{to-come-length}
@@ -43,12 +45,12 @@ abbrev Lie : List ℕ → ℕ → List Edge → Type 0
 Lie s at [] = at ≡ length s
 Lie s at (e ∷ es) = (edge-at s at ≡ e) × Lie s (at + 8) es
 
--- the register v is the kinds ks and links es, and after them those that lie from a place on
-record Rest (s : List ℕ) (q : Progress) (ks : List ℕ) (es : List Edge) (at : ℕ) (v : Register) : Type 0 where
+-- the register v is the kinds and links of r, and after them those that lie from a place on
+record Rest (s : List ℕ) (q : Progress) (r : Register) (at : ℕ) (v : Register) : Type 0 where
   more-kinds : List ℕ
   more-links : List Edge
-  kinds : v .kinds ≡ ks ++ more-kinds
-  links : v .links ≡ es ++ more-links
+  kinds : v .kinds ≡ r .kinds ++ more-kinds
+  links : v .links ≡ r .links ++ more-links
   kindless : length more-kinds ≡ q .kindless
   left : length more-links ≡ q .left
   kinds-lie : KindsLie s at more-kinds
@@ -62,20 +64,20 @@ record Placed (s : List ℕ) (v : Register) : Type 0 where
   kinds-lie : KindsLie s 7 (v .kinds)
   links-lie : Lie s (7 + 4 * records v) (v .links)
 
-abbrev Ends : List ℕ → State → ℕ → Register → Type 0
-Ends s start at v = at ≡ 0 → Placed s v
-Ends s (within q ks es) at v = at ≤ length s → Rest s q ks es at v
+abbrev Ends : List ℕ → Position × Register → ℕ → Register → Type 0
+Ends s (Start, r) at v = r ≡ no-register → at ≡ 0 → Placed s v
+Ends s (Within q, r) at v = at ≤ length s → Rest s q r at v
 
 module _ (s : List ℕ) where
-  at-end : (st : State) (at : ℕ) → field-at (due st) s at ≡ ends → Ends s st at (value st)
-  at-end start at e = absurd (false≢true (ended due-head s at e .may))
-  at-end (within q ks es) at e = λ inside.
-      let x = ended (due-entry q) s at e in
+  at-end : (st : Position × Register) (at : ℕ) → field-at (register-form .due st) s at ≡ ends → Ends s st at (register-form .value st)
+  at-end (Start, r) at e = absurd (false≢true (ended (due Start) s at e .may))
+  at-end (Within q, r) at e = λ inside.
+      let x = ended (due (Within q)) s at e in
       record {
         more-kinds = [];
         more-links = [];
-        kinds = sym (append-nil ks);
-        links = sym (append-nil es);
+        kinds = sym (append-nil (r .kinds));
+        links = sym (append-nil (r .links));
         kindless = sym (eqb-true (q .kindless) 0 (and-left _ (eqb (q .left) 0) (x .may)));
         left = sym (eqb-true (q .left) 0 (and-right (eqb (q .kindless) 0) _ (x .may)));
         kinds-lie = tt;
@@ -87,7 +89,7 @@ module _ (s : List ℕ) where
   body-word at n i j h e =
       ap₂ (λ (x y : ℕ). x * 256 + y) (body-get s (at + 3) n i j (omega arith) e) (body-get s (at + 3) n (i + 1) (j + 1) h (omega arith))
 
-  after-31 : (at n : ℕ) (v : Register) → n ≡ 4 → at ≡ 0 → at + 3 + n ≤ length s → Rest s (after-head (take n (drop (at + 3) s))) [] [] (at + 3 + n) v → Placed s v
+  after-31 : (at n : ℕ) (v : Register) → n ≡ 4 → at ≡ 0 → at + 3 + n ≤ length s → Rest s (after-head (take n (drop (at + 3) s))) no-register (at + 3 + n) v → Placed s v
   after-31 at n v hn z room r =
       let p : at + 3 + n ≡ 7 = omega arith in
       let m : length (r .more-kinds) ≡ records v = sym (ap length (r .kinds)) in
@@ -100,15 +102,15 @@ module _ (s : List ℕ) where
             (subst (λ (a : ℕ). Lie s a (r .more-links)) (let h : at + 3 + n + 4 * length (r .more-kinds) ≡ 7 + 4 * records v = omega arith in h) (r .links-lie));
       }
 
-  after-32 : (q q′ : Progress) (ks : List ℕ) (es : List Edge) (at n : ℕ) (v : Register) → n ≡ 1 → at + 3 + n ≤ length s → q .kindless ≡ suc (q′ .kindless) → q .left ≡ q′ .left
-      → Rest s q′ (ks ++ (getD (take n (drop (at + 3) s)) 0 0 ∷ [])) es (at + 3 + n) v → Rest s q ks es at v
-  after-32 q q′ ks es at n v hn room hk hl r =
+  after-32 : (q q′ : Progress) (x : Register) (at n : ℕ) (v : Register) → n ≡ 1 → at + 3 + n ≤ length s → q .kindless ≡ suc (q′ .kindless) → q .left ≡ q′ .left
+      → Rest s q′ (with-kind x (getD (take n (drop (at + 3) s)) 0 0)) (at + 3 + n) v → Rest s q x at v
+  after-32 q q′ x at n v hn room hk hl r =
       let k = getD (take n (drop (at + 3) s)) 0 0 in
       let p : at + 3 + n ≡ at + 4 = omega arith in
       record {
         more-kinds = k ∷ r .more-kinds;
         more-links = r .more-links;
-        kinds = r .kinds ∙ append-assoc ks _ _;
+        kinds = r .kinds ∙ append-assoc (x .kinds) _ _;
         links = r .links;
         kindless = omega (arith, r .kindless);
         left = r .left ∙ sym hl;
@@ -123,16 +125,16 @@ module _ (s : List ℕ) where
       let c = body-word at n 3 (at + 3 + 3) (omega arith) (omega arith) in
       sym (λ i. record { from = a i; label = b i; to = c i })
 
-  after-33 : (q q′ : Progress) (ks : List ℕ) (es : List Edge) (at n : ℕ) (v : Register) → n ≡ 5 → at + 3 + n ≤ length s → q .kindless ≡ 0 → q′ .kindless ≡ 0 → q .left ≡ suc (q′ .left)
-      → Rest s q′ ks (es ++ (edge-of (take n (drop (at + 3) s)) ∷ [])) (at + 3 + n) v → Rest s q ks es at v
-  after-33 q q′ ks es at n v hn room hk hk′ hl r =
+  after-33 : (q q′ : Progress) (x : Register) (at n : ℕ) (v : Register) → n ≡ 5 → at + 3 + n ≤ length s → q .kindless ≡ 0 → q′ .kindless ≡ 0 → q .left ≡ suc (q′ .left)
+      → Rest s q′ (with-link x (edge-of (take n (drop (at + 3) s)))) (at + 3 + n) v → Rest s q x at v
+  after-33 q q′ x at n v hn room hk hk′ hl r =
       let e = edge-of (take n (drop (at + 3) s)) in
       let z : length (r .more-kinds) ≡ 0 = r .kindless ∙ hk′ in
       record {
         more-kinds = [];
         more-links = e ∷ r .more-links;
-        kinds = r .kinds ∙ ap (λ (l : List ℕ). ks ++ l) (no-length (r .more-kinds) z);
-        links = r .links ∙ append-assoc es _ _;
+        kinds = r .kinds ∙ ap (λ (l : List ℕ). x .kinds ++ l) (no-length (r .more-kinds) z);
+        links = r .links ∙ append-assoc (x .links) _ _;
         kindless = sym hk;
         left = omega (arith, r .left);
         kinds-lie = tt;
@@ -142,32 +144,33 @@ module _ (s : List ℕ) where
             (ap (edge-at s) o ∙ body-edge at n hn, subst (λ (a : ℕ). Lie s a (r .more-links)) h (r .links-lie));
       }
 
-  at-body : (st : State) (at t n : ℕ) (st′ : State) (v : Register) → field-at (due st) s at ≡ body t n
-      → judge st at (at + 3 + n) t (take n (drop (at + 3) s)) ≡ got st′ → Ends s st′ (at + 3 + n) v → Ends s st at v
-  at-body start at t n st′ v e j ih = λ z.
-      by-head (λ x. Ends s x (at + 3 + n) v → Placed s v) at (at + 3 + n) t (take n (drop (at + 3) s)) st′ j
+  at-body : (st : Position × Register) (at t n : ℕ) (st′ : Position × Register) (v : Register) → field-at (register-form .due st) s at ≡ body t n
+      → register-form .judge st at (at + 3 + n) t (take n (drop (at + 3) s)) ≡ got st′ → Ends s st′ (at + 3 + n) v → Ends s st at v
+  at-body (Start, x) at t n st′ v e j ih = λ w z.
+      by-head (λ y. Ends s y (at + 3 + n) v → Placed s v) x at (at + 3 + n) t (take n (drop (at + 3) s)) st′ j
       (λ q g r.
       let h = head-got at (take n (drop (at + 3) s)) q g .2 in
-      let room = found due-head s at t n e .room in
-      after-31 at n v (head-length s at t n e) z room (subst (λ (p : Progress). Rest s p [] [] (at + 3 + n) v) (sym h) (r room)))
+      let room = found (due Start) s at t n e .room in
+      let here = subst (λ (p : Progress). Rest s p x (at + 3 + n) v) (sym h) (r room) in
+      after-31 at n v (head-length s at t n e) z room (subst (λ (y : Register). Rest s (after-head (take n (drop (at + 3) s))) y (at + 3 + n) v) w here))
       ih
-  at-body (within q ks es) at t n st′ v e j ih = λ inside.
-      let f = found (due-entry q) s at t n e in
+  at-body (Within q, x) at t n st′ v e j ih = λ inside.
+      let f = found (due (Within q)) s at t n e in
       let b = take n (drop (at + 3) s) in
-      by-entry (λ x. Ends s x (at + 3 + n) v → Rest s q ks es at v) q ks es at (at + 3 + n) t b st′ (f .more) j
+      by-entry (λ y. Ends s y (at + 3 + n) v → Rest s q x at v) q x s at t n st′ e j
       (λ q′ k l g r.
       let h = link-got q at b q′ g .1 in
       let hn : n ≡ 5 = entry-length q s at t n e ∙ simp (eq-eqb _ _ k) in
-      after-33 q q′ ks es at n v hn (f .room) k (omega (arith, ap (λ (p : Progress). p .kindless) h)) (omega (arith, ap (λ (p : Progress). p .left) h)) (r (f .room)))
+      after-33 q q′ x at n v hn (f .room) k (omega (arith, ap (λ (p : Progress). p .kindless) h)) (omega (arith, ap (λ (p : Progress). p .left) h)) (r (f .room)))
       (λ q′ k g r.
       let h = kind-got q at b q′ g .1 in
       let hn : n ≡ 1 = entry-length q s at t n e ∙ simp (ne-eqb (q .kindless) 0 (omega arith)) in
-      after-32 q q′ ks es at n v hn (f .room) (omega (arith, ap (λ (p : Progress). p .kindless) h)) (ap (λ (p : Progress). p .left) h) (r (f .room)))
+      after-32 q q′ x at n v hn (f .room) (omega (arith, ap (λ (p : Progress). p .kindless) h)) (ap (λ (p : Progress). p .left) h) (r (f .room)))
       ih
 
   placed : (v : Register) → read register-form s ≡ got v → Placed s v
   unfolding read
-  placed v e = accepted-ind register-form s (Ends s) at-end at-body (suc (length s)) start 0 v e refl
+  placed v e = accepted-ind register-form s (Ends s) at-end at-body (suc (length s)) (Start, no-register) 0 v e refl refl
 
 -- ---- kind i
 kinds-at : (s : List ℕ) (at : ℕ) (ks : List ℕ) (i : ℕ) → KindsLie s at ks → i < length ks → (at + 4 * i + 3 < length s) × (getD s (at + 4 * i + 3) 0 ≡ getD ks i 0)

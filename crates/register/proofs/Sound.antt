@@ -1,21 +1,25 @@
 -- What holds of the kinds and links so far, at each field.
 -- Assumes nothing.
-use mathlib.Core.Path.{_≡_, refl, subst}
+use mathlib.Core.Path.{_≡_, refl, sym, ap, subst, _∙_}
 use mathlib.Core.Bool.{Bool, true, false, cond, _&&_}
 use mathlib.Core.List.{List, [], _∷_, _++_}
 use Prim.Native.Nat.{ℕ, _+_, _<_, _≤_}
 use native.Mathlib.Omega.{arith}
 use borrow.Author.Tests.{eqb-true, eqb-false, leb-true}
 use lib.Dec.{leb, eqb}
-use lib.ListN.{length, getD, length-append}
+use lib.ListN.{length, getD, take, drop, length-append}
 use Rattle.theory.specs.Lists.{every?}
-use Rattle.theory.specs.Register.{Edge}
-use Rattle.theory.specs.Result.{got, onward}
-use Rattle.fields.specs.Reading.{word}
-use Rattle.fields.proofs.Bools.{cond-then, and-left, and-right, not-got, onward-got}
+use Rattle.theory.specs.Register.{Register}
+use Rattle.theory.specs.Result.{got}
+use Rattle.fields.specs.Reading.{word, body, field-at}
+use Rattle.fields.proofs.Bools.{cond-then, and-left, and-right, not-got, onward-got, got-same, got-both}
+use Rattle.fields.proofs.Accepted.{taken}
 use Rattle.register.specs.declared.Progress.{Progress}
-use Rattle.register.specs.Form.{State, start, within, due, judge, head-of, kind-of, link-of, after-head, after-kind, after-link, kind?, link?, edge-of, key}
-use Rattle.register.proofs.Fields.{some-due}
+use Rattle.register.specs.declared.Position.{Position}
+use Rattle.register.specs.declared.Position.the-variants.{Start, Within}
+use Rattle.register.specs.Form.{due, head-of, kind-of, link-of, entry-of, after-head, after-kind, after-link, kind?, link?, edge-of, key}
+use Rattle.register.specs.Form.{no-entry, kind-entry, link-entry, handed-over, with-kind, with-link, keep, no-register, register-format, register-form}
+use Rattle.register.proofs.Fields.{entry-due, some-due}
 
 -- ---- a field that was taken: its numbers are in range, and how far the reading has come
 pub head-got : (at : ℕ) (b : List ℕ) (q : Progress) → head-of at b ≡ got q → (word b 0 ≤ 1024) × (word b 2 ≤ 4096) × (after-head b ≡ q)
@@ -41,75 +45,88 @@ link-got q at b q′ e =
     (a .0, h)
 
 -- a field within the file is a link or a kind, and there is one due
-pub by-entry : (P : State → Type 0) (q : Progress) (ks : List ℕ) (es : List Edge) (at next t : ℕ) (b : List ℕ) (st : State)
-    → due (within q ks es) .full ≡ false → judge (within q ks es) at next t b ≡ got st
-    → ((q′ : Progress) → q .kindless ≡ 0 → 0 < q .left → link-of q at b ≡ got q′ → P (within q′ ks (es ++ (edge-of b ∷ []))))
-    → ((q′ : Progress) → 0 < q .kindless → kind-of q at b ≡ got q′ → P (within q′ (ks ++ (getD b 0 0 ∷ [])) es))
-    → P st
-by-entry P q ks es at next t b st m j link kind = by-test (eqb (q .kindless) 0) refl j
-  where
-    by-test : (c : Bool) → eqb (q .kindless) 0 ≡ c
-        → cond c (onward (λ q′. got (within q′ ks (es ++ (edge-of b ∷ [])))) (link-of q at b)) (onward (λ q′. got (within q′ (ks ++ (getD b 0 0 ∷ [])) es)) (kind-of q at b)) ≡ got st
-        → P st
-    by-test true e j =
-        let (q′, g, w) = onward-got (λ q′. got (within q′ ks (es ++ (edge-of b ∷ [])))) (link-of q at b) st j in
-        let z : within q′ ks (es ++ (edge-of b ∷ [])) ≡ st = cc in
-        let k : q .kindless ≡ 0 = eqb-true (q .kindless) 0 e in
-        subst P z (link q′ k (omega (arith, some-due q m)) g)
-    by-test false e j =
-        let (q′, g, w) = onward-got (λ q′. got (within q′ (ks ++ (getD b 0 0 ∷ [])) es)) (kind-of q at b) st j in
-        let z : within q′ (ks ++ (getD b 0 0 ∷ [])) es ≡ st = cc in
-        let k : q .kindless ≡ 0 → ⊥ = eqb-false (q .kindless) 0 e in
-        subst P z (kind q′ (omega arith) g)
+module _ (P : Position × Register → Type 0) (q : Progress) (r : Register) (s : List ℕ) (at t n : ℕ) (st : Position × Register) (e : field-at (due (Within q)) s at ≡ body t n) where
+  abbrev B : List ℕ
+  B = take n (drop (at + 3) s)
 
-pub by-head : (P : State → Type 0) (at next t : ℕ) (b : List ℕ) (st : State) → judge start at next t b ≡ got st
-    → ((q : Progress) → head-of at b ≡ got q → P (within q [] [])) → P st
-by-head P at next t b st j head =
-    let (q, g, w) = onward-got (λ q. got (within q [] [])) (head-of at b) st j in
-    let z : within q [] [] ≡ st = cc in
-    subst P z (head q g)
+  abbrev Link : Type 0
+  Link = (q′ : Progress) → q .kindless ≡ 0 → 0 < q .left → link-of q at B ≡ got q′ → P (Within q′, with-link r (edge-of B))
+
+  abbrev Kind : Type 0
+  Kind = (q′ : Progress) → 0 < q .kindless → kind-of q at B ≡ got q′ → P (Within q′, with-kind r (getD B 0 0))
+
+  by-test : (c : Bool) → eqb (q .kindless) 0 ≡ c → (q′ : Progress) → cond c (link-of q at B) (kind-of q at B) ≡ got q′ → Within q′ ≡ st .0
+      → keep r (cond c (link-entry (edge-of B)) (kind-entry (getD B 0 0))) ≡ got (st .1) → Link → Kind → P st
+  by-test true z q′ g u k link kind =
+      let l : q .kindless ≡ 0 = eqb-true (q .kindless) 0 z in
+      subst P (λ i. (u i, got-same k i)) (link q′ l (omega (arith, some-due q (entry-due q s at t n e))) g)
+  by-test false z q′ g u k link kind =
+      let l : q .kindless ≡ 0 → ⊥ = eqb-false (q .kindless) 0 z in
+      subst P (λ i. (u i, got-same k i)) (kind q′ (omega arith) g)
+
+  pub by-entry : register-form .judge (Within q, r) at (at + 3 + n) t B ≡ got st → Link → Kind → P st
+  unfolding entry-of
+  by-entry j =
+      let x = taken register-format (Within q) r at (at + 3 + n) t B st j in
+      let (q′, g, w) = onward-got (λ q′. got (Within q′, handed-over (Within q) B)) (entry-of q at B) _ (x .judged) in
+      let v = got-both w in
+      by-test (eqb (q .kindless) 0) refl q′ g (v .0) (ap (keep r) (v .1) ∙ x .kept)
+
+pub by-head : (P : Position × Register → Type 0) (r : Register) (at next t : ℕ) (b : List ℕ) (st : Position × Register) → register-form .judge (Start, r) at next t b ≡ got st
+    → ((q : Progress) → head-of at b ≡ got q → P (Within q, r)) → P st
+by-head P r at next t b st j head =
+    let x = taken register-format Start r at next t b st j in
+    let (q, g, w) = onward-got (λ q. got (Within q, no-entry)) (head-of at b) _ (x .judged) in
+    let v = got-both w in
+    let k : keep r no-entry ≡ got (st .1) = ap (keep r) (v .1) ∙ x .kept in
+    subst P (λ i. (v .0 i, got-same k i)) (head q g)
 
 -- ---- those so far and those due add up to the numbers in the head, and all are in range
-pub record Sound (q : Progress) (ks : List ℕ) (es : List Edge) : Type 0 where
-  pub records : length ks + q .kindless ≡ q .records
-  pub links : length es + q .left ≡ q .links
+pub record Sound (q : Progress) (r : Register) : Type 0 where
+  pub records : length (r .kinds) + q .kindless ≡ q .records
+  pub links : length (r .links) + q .left ≡ q .links
   pub few-records : q .records ≤ 1024
   pub few-links : q .links ≤ 4096
-  pub kinds : every? kind? ks ≡ true
-  pub edges : every? (link? (q .records)) es ≡ true
+  pub kinds : every? kind? (r .kinds) ≡ true
+  pub edges : every? (link? (q .records)) (r .links) ≡ true
 
-abbrev pub SoundState : State → Type 0
-SoundState start = Unit {0}
-SoundState (within q ks es) = Sound q ks es
+abbrev pub SoundState : Position × Register → Type 0
+SoundState (Start, r) = r ≡ no-register
+SoundState (Within q, r) = Sound q r
 
 every-snoc : {A : Type 0} (f : A → Bool) (xs : List A) (x : A) → every? f xs ≡ true → f x ≡ true → every? f (xs ++ (x ∷ [])) ≡ true
 every-snoc f [] x e h = rw h
 every-snoc f (y ∷ ys) x e h = rw (and-left (f y) (every? f ys) e, every-snoc f ys x (and-right (f y) (every? f ys) e) h)
 
-pub sound-more : (st : State) (at next t : ℕ) (b : List ℕ) (st′ : State) → due st .full ≡ false → judge st at next t b ≡ got st′ → SoundState st → SoundState st′
-sound-more start at next t b st′ m j w =
-    by-head SoundState at next t b st′ j (λ q g.
-    let h = head-got at b q g in
-    subst (λ (p : Progress). Sound p [] []) (h .2) (record { records = omega arith; links = omega arith; few-records = h .0; few-links = h .1; kinds = refl; edges = refl }))
-sound-more (within q ks es) at next t b st′ m j w =
-    by-entry SoundState q ks es at next t b st′ m j
+pub sound-more : (st : Position × Register) (s : List ℕ) (at t n : ℕ) (st′ : Position × Register) → field-at (register-form .due st) s at ≡ body t n
+    → register-form .judge st at (at + 3 + n) t (take n (drop (at + 3) s)) ≡ got st′ → SoundState st → SoundState st′
+sound-more (Start, r) s at t n st′ e j w =
+    by-head SoundState r at (at + 3 + n) t (take n (drop (at + 3) s)) st′ j (λ q g.
+    let h = head-got at (take n (drop (at + 3) s)) q g in
+    subst (λ (p : Progress). Sound p r) (h .2)
+    (subst (λ (x : Register). Sound (after-head (take n (drop (at + 3) s))) x) (sym w)
+    (record { records = omega arith; links = omega arith; few-records = h .0; few-links = h .1; kinds = refl; edges = refl })))
+sound-more (Within q, r) s at t n st′ e j w =
+    by-entry SoundState q r s at t n st′ e j
     (λ q′ k l g.
+    let b = take n (drop (at + 3) s) in
     let h = link-got q at b q′ g in
-    subst (λ (p : Progress). Sound p ks (es ++ (edge-of b ∷ []))) (h .1) (record {
+    subst (λ (p : Progress). Sound p (with-link r (edge-of b))) (h .1) (record {
       records = w .records;
-      links = omega (arith, w .links, length-append es (edge-of b ∷ []));
+      links = omega (arith, w .links, length-append (r .links) (edge-of b ∷ []));
       few-records = w .few-records;
       few-links = w .few-links;
       kinds = w .kinds;
-      edges = every-snoc (link? (q .records)) es (edge-of b) (w .edges) (h .0);
+      edges = every-snoc (link? (q .records)) (r .links) (edge-of b) (w .edges) (h .0);
     }))
     (λ q′ k g.
+    let b = take n (drop (at + 3) s) in
     let h = kind-got q at b q′ g in
-    subst (λ (p : Progress). Sound p (ks ++ (getD b 0 0 ∷ [])) es) (h .1) (record {
-      records = omega (arith, w .records, length-append ks (getD b 0 0 ∷ []));
+    subst (λ (p : Progress). Sound p (with-kind r (getD b 0 0))) (h .1) (record {
+      records = omega (arith, w .records, length-append (r .kinds) (getD b 0 0 ∷ []));
       links = w .links;
       few-records = w .few-records;
       few-links = w .few-links;
-      kinds = every-snoc kind? ks (getD b 0 0) (w .kinds) (h .0);
+      kinds = every-snoc kind? (r .kinds) (getD b 0 0) (w .kinds) (h .0);
       edges = w .edges;
     }))

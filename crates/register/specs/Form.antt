@@ -10,27 +10,22 @@ use Rattle.theory.specs.Register.{Edge, edge, Register}
 use Rattle.fields.specs.declared.File.the-variants as file
 use Rattle.fields.specs.declared.Due.{Due}
 use Rattle.theory.specs.Result.{Result, got, refused, onward}
-use Rattle.fields.specs.Reading.{Form, word, read}
+use Rattle.fields.specs.Reading.{word, tags-due, Form, Format, form, read}
 use Rattle.register.specs.declared.Progress.{Progress}
+use Rattle.register.specs.declared.Position.{Position}
+use Rattle.register.specs.declared.Position.the-variants.{Start, Within}
 
--- 31 is due; or a 32 or 33, with the kinds and links so far. `Progress` has the numbers of records and links, of records whose kind is due, of
--- links left, and `floor`, the least key that is above the link before
-pub data State : Type 0 where
-  start : State
-  within : Progress → List ℕ → List Edge → State
-
-abbrev pub due-head : Due
-due-head = record { file = file.Register; lo = 0x31; hi = 0x31; complete = false; full = false }
-
--- the kinds first
+-- 31 is due; or a 32, the kinds first, or a 33. `Progress` has the numbers of records and links, of records whose kind is due, of links
+-- left, and `floor`, the least key that is above the link before
 abbrev pub due-tag : Progress → ℕ
 due-tag q = cond (eqb (q .kindless) 0) 0x33 0x32
 
 abbrev pub complete? : Progress → Bool
 complete? q = eqb (q .kindless) 0 && eqb (q .left) 0
 
-abbrev pub due-entry : Progress → Due
-due-entry q = record { file = file.Register; lo = due-tag q; hi = due-tag q; complete = complete? q; full = complete? q }
+abbrev pub due : Position → Due
+due Start = tags-due file.Register (0x31 ∷ []) false false
+due (Within q) = tags-due file.Register (due-tag q ∷ []) (complete? q) (complete? q)
 
 -- 31: the numbers of records and links; refusal 3
 abbrev pub after-head : List ℕ → Progress
@@ -67,26 +62,55 @@ unfoldable pub link-of : Progress → ℕ → List ℕ → Result Progress
 link-of q at b =
     cond (link? (q .records) (edge-of b)) (cond (leb (q .floor) (key b)) (got (after-link q b)) (refused 4 at)) (refused 3 at)
 
-abbrev pub due : State → Due
-due start = due-head
-due (within q ks es) = due-entry q
+unfoldable pub entry-of : Progress → ℕ → List ℕ → Result Progress
+entry-of q at b = cond (eqb (q .kindless) 0) (link-of q at b) (kind-of q at b)
 
-abbrev pub judge : State → ℕ → ℕ → ℕ → List ℕ → Result State
-judge start at next t b = onward (λ q. got (within q [] [])) (head-of at b)
-judge (within q ks es) at next t b =
-    cond (eqb (q .kindless) 0)
-    (onward (λ q′. got (within q′ ks (es ++ (edge-of b ∷ [])))) (link-of q at b))
-    (onward (λ q′. got (within q′ (ks ++ (getD b 0 0 ∷ [])) es)) (kind-of q at b))
+-- how far the reading comes by a field
+abbrev pub advance : Position → ℕ → List ℕ → Result Progress
+advance Start at b = head-of at b
+advance (Within q) at b = entry-of q at b
+
+-- what it hands over: nothing, the kind of a record, or a link
+pub data Entry : Type 0 where
+  no-entry : Entry
+  kind-entry : ℕ → Entry
+  link-entry : Edge → Entry
+
+abbrev pub handed-over : Position → List ℕ → Entry
+handed-over Start b = no-entry
+handed-over (Within q) b = cond (eqb (q .kindless) 0) (link-entry (edge-of b)) (kind-entry (getD b 0 0))
+
+-- the register so far
+abbrev pub with-kind : Register → ℕ → Register
+with-kind r k = record { kinds = r .kinds ++ (k ∷ []); links = r .links }
+
+abbrev pub with-link : Register → Edge → Register
+with-link r e = record { kinds = r .kinds; links = r .links ++ (e ∷ []) }
+
+abbrev pub keep : Register → Entry → Result Register
+keep r no-entry = got r
+keep r (kind-entry k) = got (with-kind r k)
+keep r (link-entry e) = got (with-link r e)
 
 abbrev pub no-register : Register
 no-register = record { kinds = []; links = [] }
 
-abbrev pub value : State → Register
-value start = no-register
-value (within q ks es) = record { kinds = ks; links = es }
+abbrev pub register-format : Format
+register-format = record {
+  Control = Position;
+  Item = Entry;
+  Kept = Register;
+  Value = Register;
+  start = Start;
+  empty = no-register;
+  due = due;
+  judge = λ st at next t b. onward (λ q. got (Within q, handed-over st b)) (advance st at b);
+  keep = keep;
+  value = λ st r. r;
+}
 
 abbrev pub register-form : Form
-register-form = record { State = State; Value = Register; start = start; due = due; judge = judge; value = value }
+register-form = form register-format
 
 -- the register in a file; one with no records where the file is refused
 abbrev pub value-of : Result Register → Register

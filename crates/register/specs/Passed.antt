@@ -8,8 +8,8 @@ use Rattle.fields.specs.Table.{tag-length, field-size}
 use Rattle.theory.specs.Result.{got}
 use Rattle.fields.specs.Reading.{word, eight, body, field-at}
 use Rattle.register.specs.declared.Progress.{Progress}
-use Rattle.register.specs.Form.{due-entry}
-use Rattle.register.specs.Contract.{entry-of}
+use Rattle.register.specs.declared.Position.the-variants.{Within}
+use Rattle.register.specs.Form.{due, entry-of}
 
 -- a kind is due at a place, and a whole field with its tag and length lies there
 pub record KindAt (s : List ℕ) (q : Progress) (at : ℕ) : Type 0 where
@@ -34,5 +34,5 @@ pub record Passes (v left floor top records : ℕ) : Type 0 where
 -- from a place and a progress to another: none, or one field more
 pub data Passed (s : List ℕ) (q : Progress) (at : ℕ) : Progress → ℕ → Type 0 where
   here : Passed s q at q at
-  further : (p : Progress) (i t n : ℕ) (r : Progress) → Passed s q at p i → field-at (due-entry p) s i ≡ body t n → entry-of p i (take n (drop (i + 3) s)) ≡ got r
+  further : (p : Progress) (i t n : ℕ) (r : Progress) → Passed s q at p i → field-at (due (Within p)) s i ≡ body t n → entry-of p i (take n (drop (i + 3) s)) ≡ got r
       → Passed s q at r (i + 3 + n)

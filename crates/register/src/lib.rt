@@ -15,9 +15,9 @@ ghost use lib.ListN.{length};
 ghost use Rattle.fields.specs.Table.{tag-length};
 ghost use Rattle.fields.specs.Reading.{read};
 ghost use Rattle.theory.specs.Register.{records, kind};
-ghost use Rattle.register.specs.Form.{head-of, kind-of, link-of, key, register-form, register-in};
-ghost use Rattle.register.specs.Contract.{entry-of, outcome-said, sized};
-ghost use Rattle.register.specs.Internal.{due-of, judged, BodyReady, turn-said, sizes-of};
+ghost use Rattle.register.specs.Form.{head-of, kind-of, link-of, entry-of, advance, key, register-format, register-form, register-in};
+ghost use Rattle.register.specs.Contract.{outcome-said, sized};
+ghost use Rattle.register.specs.Internal.{BodyReady, turn-said, sizes-of};
 ghost use Rattle.register.specs.Passed.{KindAt, NumberAt, Passes, Passed};
 ghost use Rattle.register.specs.LinksAhead.{Accepted, cursor-at, OnLinks, to-come, handed};
 
@@ -179,7 +179,7 @@ fn judge_entry(q: Progress, at: usize, b: &[u8]) -> Turn
 
 fn judge(st: Position, at: usize, b: &[u8]) -> Turn
     requires { ⌜ BodyReady st (length (now b)) ⌝ }
-    ensures { λ r. ⌜ turn-said r ≡ judged st at (now (b .entry)) ⌝ }
+    ensures { λ r. ⌜ turn-said r ≡ advance st at (now (b .entry)) ⌝ }
 {
     match st {
         Position::Start => judge_head(at, b),
@@ -188,34 +188,16 @@ fn judge(st: Position, at: usize, b: &[u8]) -> Turn
 }
 
 fn due_at(st: Position) -> Due
-    ensures { λ r. ⌜ r ≡ due-of st ⌝ }
+    ensures { λ r. ⌜ r ≡ register-format .due st ⌝ }
 {
     match st {
-        Position::Start => Due {
-            file: File::Register,
-            lo: fields::REGISTER_TAG,
-            hi: fields::REGISTER_TAG,
-            complete: false,
-            full: false,
-        },
+        Position::Start => fields::rows_due(File::Register, fields::REGISTER_ROW, false, false),
         Position::Within(q) => {
             if q.kindless == 0 {
                 let full = q.left == 0;
-                return Due {
-                    file: File::Register,
-                    lo: fields::LINK_TAG,
-                    hi: fields::LINK_TAG,
-                    complete: full,
-                    full,
-                };
+                return fields::rows_due(File::Register, fields::LINK_ROW, full, full);
             }
-            Due {
-                file: File::Register,
-                lo: fields::KIND_TAG,
-                hi: fields::KIND_TAG,
-                complete: false,
-                full: false,
-            }
+            fields::rows_due(File::Register, fields::KIND_ROW, false, false)
         }
     }
 }

@@ -8,8 +8,8 @@ use Rattle.theory.specs.Sheet.{Sheet}
 use Rattle.theory.specs.Register.{edge}
 use Rattle.theory.specs.Result.{got, refused}
 use Rattle.fields.specs.Case.{Case, case, AllRead}
-use Rattle.fields.specs.Reading.{read, walk, field-at, fitting}
-use Rattle.fields.specs.Table.{among, rows}
+use Rattle.fields.specs.Reading.{read, walk, due-rows, due-tag?, fitting, field-at}
+use Rattle.fields.specs.Table.{rows, rows-of}
 use Rattle.sheet.specs.Form.{sheet-form, head-of, next}
 
 abbrev head : ℕ → ℕ → List ℕ
@@ -38,5 +38,5 @@ cases =
     ∷ []
 
 pub all-read : AllRead sheet-form cases
-unfolding read walk field-at fitting among rows head-of next
+unfolding read walk field-at due-rows due-tag? fitting rows-of rows head-of next
 all-read = refl

@@ -1,45 +1,38 @@
 -- The loop over a sheet's fields, which fills the table: what holds at its head, and a law for each way out.
 -- Assumes nothing.
 use mathlib.Core.Path.{_≡_, refl, ap, sym, subst, _∙_}
-use mathlib.Core.Bool.{false≢true}
+use mathlib.Core.Bool.{true, false, false≢true}
 use mathlib.Core.List.{List, [], _∷_, _++_}
+use mathlib.Core.Option.{none, some}
 use Prim.Native.Nat.{ℕ, _+_, _≤_, _<_}
 use native.Mathlib.Omega.{arith}
-use lib.Dec.{T, ltb→lt}
+use lib.Dec.{T, eqb, ltb→lt}
 use lib.ListN.{length, take, drop, replicate}
 use borrow.Author.Tests.{eqb-false}
 use Rattle.theory.specs.Register.{Edge}
 use Rattle.theory.specs.Sheet.{Sheet, sheet?}
 use Rattle.theory.proofs.Tests.{tests}
 use Rattle.theory.proofs.Sheet.{kinds-fit, names-fit}
+use Rattle.fields.specs.declared.File.the-variants as file
 use Rattle.fields.specs.declared.Refusal.{Refusal}
-use Rattle.theory.specs.Result.{Result, got, refused, onward}
-use Rattle.fields.specs.Reading.{ends, wrong, body, field-at, read}
-use Rattle.fields.specs.Table.{tag-length, rows}
+use Rattle.theory.specs.Result.{Result, got, refused}
+use Rattle.fields.specs.Reading.{ends, wrong, body, field-at, due-rows, kept, read}
+use Rattle.fields.specs.Table.{tag-length, rows, rows-of}
 use Rattle.fields.specs.Contract.{refusal-said}
-use Rattle.fields.proofs.Bools.{onward-got, refused-too, not-refused}
-use Rattle.fields.proofs.Fields.{found, body-length, one-due, ended}
+use Rattle.fields.proofs.Bools.{onward-got, got-both}
+use Rattle.fields.proofs.Fields.{found, found-one, body-length, ended}
 use Rattle.fields.proofs.ReaderLoop.{Going, going-start, going-ends, going-wrong, going-refused, going-more}
 use Rattle.sheet.specs.declared.Outcome.{Outcome}
 use Rattle.sheet.specs.declared.Outcome.the-variants as outcome
 use Rattle.sheet.specs.declared.Triples.{Triples}
 use Rattle.sheet.specs.declared.Standing.{Standing}
 use Rattle.sheet.specs.declared.Standing.the-variants.{Head, Within}
-use Rattle.sheet.specs.Form.{State, head, within, due-head, due-triple, due, head-of, edge-of, next, judge, sheet-form}
+use Rattle.sheet.specs.Form.{due, head-of, edge-of, next, judge, sheet-format, sheet-form}
 use Rattle.sheet.specs.Table.{permit, table-of, table-in}
 use Rattle.sheet.specs.Contract.{outcome-said, sizes, ReadsSheet}
-use Rattle.sheet.specs.Internal.{sizes-at, due-of, go, more, judged, BodyReady}
+use Rattle.sheet.specs.Internal.{sizes-at, BodyReady}
 use Rattle.sheet.proofs.Ranges.{so-far, head-got, next-got, sheet-more}
 use Rattle.sheet.proofs.Tables.{table-more}
-
--- where the code stands, with the triples so far
-abbrev state-of : Standing → List Edge → State
-state-of Head es = head
-state-of (Within q) es = within q es
-
-due-is : (st : Standing) (es : List Edge) → due (state-of st es) ≡ due-of st
-due-is Head es = refl
-due-is (Within q) es = refl
 
 abbrev Holds : Standing → List Edge → Type 0
 Holds Head es = es ≡ []
@@ -47,7 +40,7 @@ Holds (Within q) es = T (sheet? (so-far q es)) × (q .count ≤ 512)
 
 pub record Progress (s : List ℕ) (st : Standing) (at : ℕ) (table : List ℕ) : Type 0 where
   pub es : List Edge
-  pub going : Going sheet-form s (read sheet-form s) (state-of st es) at
+  pub going : Going sheet-form s (read sheet-form s) (st, es) at
   pub holds : Holds st es
   pub filled : table ≡ table-of es
 
@@ -60,62 +53,60 @@ pub reads-refused : (a : Result Sheet) (r : Refusal) (o : Outcome) (t : List ℕ
 reads-refused a r o t e h = record { outcome = ap outcome-said (h .0) ∙ ap sizes (sym e); table = h .1 ∙ ap table-in (sym e) }
 
 module _ (s : List ℕ) (at : ℕ) (table : List ℕ) where
-  pub progress-ends : (st : Standing) → Progress s st at table → field-at (due-of st) s at ≡ ends → (o : Outcome) → outcome-said o ≡ sizes-at st → ReadsSheet (read sheet-form s) o table
-  progress-ends Head p e o h = absurd (false≢true (ended due-head s at e .may))
+  pub progress-ends : (st : Standing) → Progress s st at table → field-at (due st) s at ≡ ends → (o : Outcome) → outcome-said o ≡ sizes-at st → ReadsSheet (read sheet-form s) o table
+  progress-ends Head p e o h = absurd (false≢true (ended (due Head) s at e .may))
   progress-ends (Within q) p e o h =
       let a = going-ends sheet-form s _ _ at (p .going) e in
       record { outcome = h ∙ ap sizes (sym a); table = p .filled ∙ ap table-in (sym a) }
 
-  pub progress-wrong : (st : Standing) → Progress s st at table → (i j : ℕ) → field-at (due-of st) s at ≡ wrong i j → read sheet-form s ≡ refused i j
-  progress-wrong st p i j e = going-wrong sheet-form s _ _ at (p .going) i j (rw due-is e)
+  pub progress-wrong : (st : Standing) → Progress s st at table → (i j : ℕ) → field-at (due st) s at ≡ wrong i j → read sheet-form s ≡ refused i j
+  progress-wrong st p i j e = going-wrong sheet-form s _ _ at (p .going) i j e
 
   module _ (t n : ℕ) where
-    pub progress-ready : (st : Standing) → Progress s st at table → field-at (due-of st) s at ≡ body t n → BodyReady st (length (take n (drop (at + 3) s)))
-    unfolding tag-length rows
-    progress-ready Head p e = let f = found due-head s at t n e in body-length f ∙ one-due due-head t n refl (f .fit) .1
+    pub progress-ready : (st : Standing) → Progress s st at table → field-at (due st) s at ≡ body t n → BodyReady st (length (take n (drop (at + 3) s)))
+    unfolding due-rows rows-of rows tag-length
+    progress-ready Head p e = let f = found (due Head) s at t n e in body-length f ∙ found-one file.Sheet (0x11 ∷ []) false false f .1 .1
     progress-ready (Within q) p e =
-        let f = found (due-triple q) s at t n e in
-        let h : q .count ≡ 512 → ⊥ = eqb-false (q .count) 512 (f .more) in
-        (body-length f ∙ one-due (due-triple q) t n refl (f .fit) .1, omega (arith, p .holds .1))
+        let f = found (due (Within q)) s at t n e in
+        let o = found-one file.Sheet (0x12 ∷ []) true (eqb (q .count) 512) f in
+        let h : q .count ≡ 512 → ⊥ = eqb-false (q .count) 512 (o .0) in
+        (body-length f ∙ o .1 .1, omega (arith, p .holds .1))
 
-    stops : (st : Standing) (es : List Edge) (i j : ℕ) (b : List ℕ) → judged st at b ≡ refused i j → judge (state-of st es) at (at + 3 + n) t b ≡ refused i j
-    stops Head es i j b h = refused-too (λ q. got (go q)) (λ q. got (within q [])) i j (head-of at b) (λ q. not-refused (go q) i j) h
-    stops (Within q) es i j b h = refused-too (λ q′. got (more (edge-of b) q′)) (λ q′. got (within q′ (es ++ (edge-of b ∷ [])))) i j (next q at b) (λ q′. not-refused (more (edge-of b) q′) i j) h
-
-    pub progress-stop : (st : Standing) → Progress s st at table → field-at (due-of st) s at ≡ body t n → (i j : ℕ) → judged st at (take n (drop (at + 3) s)) ≡ refused i j
+    pub progress-stop : (st : Standing) → Progress s st at table → field-at (due st) s at ≡ body t n → (i j : ℕ) → judge st at (take n (drop (at + 3) s)) ≡ refused i j
         → read sheet-form s ≡ refused i j
-    progress-stop st p e i j h = going-refused sheet-form s _ _ at (p .going) t n (rw due-is e) i j (stops st (p .es) i j _ h)
+    progress-stop st p e i j h = going-refused sheet-form s _ _ at (p .going) t n e i j (ap (kept sheet-format (p .es)) h)
 
     -- a head
-    pub progress-go : (st : Standing) → Progress s st at table → field-at (due-of st) s at ≡ body t n → (q : Triples) → judged st at (take n (drop (at + 3) s)) ≡ got (go q)
+    pub progress-go : (st : Standing) → Progress s st at table → field-at (due st) s at ≡ body t n → (q : Triples) → judge st at (take n (drop (at + 3) s)) ≡ got (Within q, none)
         → Progress s (Within q) (at + 3 + n) table
     progress-go Head p e q h =
         let b = take n (drop (at + 3) s) in
-        let (q′, g, w) = onward-got (λ q. got (go q)) (head-of at b) (go q) h in
-        let w′ : q′ ≡ q = cc w in
+        let (q′, g, w) = onward-got (λ q. got (Within q, none)) (head-of at b) (Within q, none) h in
+        let w′ : q′ ≡ q = cc (got-both w .0) in
         let r = head-got at b q (g ∙ ap got w′) in
         record {
-          es = [];
-          going = going-more sheet-form s _ _ at (p .going) t n e (within q []) (ap (onward (λ q. got (within q []))) (g ∙ ap got w′));
-          holds = (r .0, omega (arith, r .1));
-          filled = p .filled ∙ ap table-of (p .holds);
+          es = p .es;
+          going = going-more sheet-form s _ _ at (p .going) t n e (Within q, p .es) (ap (kept sheet-format (p .es)) h);
+          holds = subst (λ (es : List Edge). T (sheet? (so-far q es)) × (q .count ≤ 512)) (sym (p .holds)) (r .0, omega (arith, r .1));
+          filled = p .filled;
         }
     progress-go (Within p′) p e q h =
-        let (q′, g, w) = onward-got (λ q′. got (more (edge-of (take n (drop (at + 3) s))) q′)) (next p′ at (take n (drop (at + 3) s))) (go q) h in
-        let z : _≡_ {A = ℕ} 0 1 = cc w in absurd (omega arith)
+        let b = take n (drop (at + 3) s) in
+        let (q′, g, w) = onward-got (λ q′. got (Within q′, some (edge-of b))) (next p′ at b) (Within q, none) h in
+        let z : _≡_ {A = ℕ} 0 1 = cc (got-both w .1) in absurd (omega arith)
 
     -- a triple
-    pub progress-more : (st : Standing) → Progress s st at table → field-at (due-of st) s at ≡ body t n → (x : Edge) (q : Triples)
-        → judged st at (take n (drop (at + 3) s)) ≡ got (more x q)
+    pub progress-more : (st : Standing) → Progress s st at table → field-at (due st) s at ≡ body t n → (x : Edge) (q : Triples)
+        → judge st at (take n (drop (at + 3) s)) ≡ got (Within q, some x)
         → ((x .from < 64) × (x .label < 64) × (x .to < 64)) × Progress s (Within q) (at + 3 + n) (permit table x)
     progress-more Head p e x q h =
-        let (q′, g, w) = onward-got (λ q. got (go q)) (head-of at (take n (drop (at + 3) s))) (more x q) h in
-        let z : _≡_ {A = ℕ} 0 1 = cc w in absurd (omega arith)
+        let (q′, g, w) = onward-got (λ q. got (Within q, none)) (head-of at (take n (drop (at + 3) s))) (Within q, some x) h in
+        let z : _≡_ {A = ℕ} 0 1 = cc (got-both w .1) in absurd (omega arith)
     progress-more (Within p′) p e x q h =
         let b = take n (drop (at + 3) s) in
-        let (q′, g, w) = onward-got (λ q′. got (more (edge-of b) q′)) (next p′ at b) (more x q) h in
-        let wq : q′ ≡ q = cc w in
-        let wx : edge-of b ≡ x = cc w in
+        let (q′, g, w) = onward-got (λ q′. got (Within q′, some (edge-of b))) (next p′ at b) (Within q, some x) h in
+        let wq : q′ ≡ q = cc (got-both w .0) in
+        let wx : edge-of b ≡ x = cc (got-both w .1) in
         let m = next-got p′ at b q (g ∙ ap got wq) in
         let ok = p .holds .0 in
         let few = progress-ready (Within p′) p e .1 in
@@ -124,14 +115,12 @@ module _ (s : List ℕ) (at : ℕ) (table : List ℕ) where
         let r = m .range in
         let hf : edge-of b .from < p′ .kinds = search (tests, ltb→lt) in
         let hl : edge-of b .label < p′ .links = search (tests, ltb→lt) in
-        let ht : edge-of b .to < p′ .kinds = search (tests, ltb→lt) in
-        subst (λ (y : Edge). ((y .from < 64) × (y .label < 64) × (y .to < 64)) × Progress s (Within q) (at + 3 + n) (permit table y)) wx (
-          (omega arith, omega arith, omega arith),
+        let ht : edge-of b .to < p′ .kinds = search (tests, ltb→lt) in (
+          (omega (arith, ap (λ (y : Edge). y .from) wx), omega (arith, ap (λ (y : Edge). y .label) wx), omega (arith, ap (λ (y : Edge). y .to) wx)),
           record {
-            es = p .es ++ (edge-of b ∷ []);
-            going = going-more sheet-form s _ _ at (p .going) t n e (within q (p .es ++ (edge-of b ∷ [])))
-                (ap (onward (λ q′. got (within q′ (p .es ++ (edge-of b ∷ []))))) (g ∙ ap got wq));
-            holds = (sheet-more p′ (p .es) b q ok m, omega (arith, few, m .count));
-            filled = ap (λ u. permit u (edge-of b)) (p .filled) ∙ sym (table-more (p .es) (edge-of b));
+            es = p .es ++ (x ∷ []);
+            going = going-more sheet-form s _ _ at (p .going) t n e (Within q, p .es ++ (x ∷ [])) (ap (kept sheet-format (p .es)) h);
+            holds = (subst (λ (y : Edge). T (sheet? (so-far q (p .es ++ (y ∷ []))))) wx (sheet-more p′ (p .es) b q ok m), omega (arith, few, m .count));
+            filled = ap (λ u. permit u x) (p .filled) ∙ sym (table-more (p .es) x);
           },
         )

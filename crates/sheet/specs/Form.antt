@@ -2,7 +2,8 @@
 -- SPECIFICATION, Sheets, Limits, Refused sheets.
 -- Assumes nothing.
 use mathlib.Core.Bool.{true, false, cond, _&&_}
-use mathlib.Core.List.{List, [], _∷_, _++_}
+use mathlib.Core.List.{List, [], _∷_}
+use mathlib.Core.Option.{Option, none, some}
 use Prim.Native.Nat.{ℕ, _+_, _*_}
 use lib.Dec.{leb, ltb, eqb}
 use lib.ListN.{getD}
@@ -11,24 +12,16 @@ use Rattle.theory.specs.Sheet.{Sheet}
 use Rattle.fields.specs.declared.File.the-variants as file
 use Rattle.fields.specs.declared.Due.{Due}
 use Rattle.theory.specs.Result.{Result, got, refused, onward}
-use Rattle.fields.specs.Reading.{Form}
+use Rattle.fields.specs.Reading.{tags-due, Form, Format, collected, form}
 use Rattle.sheet.specs.declared.Triples.{Triples}
+use Rattle.sheet.specs.declared.Standing.{Standing}
+use Rattle.sheet.specs.declared.Standing.the-variants.{Head, Within}
 
--- the head is due; or triples are, with those so far. `Triples` has the numbers of kinds, of links, of triples so far, and
--- `floor`, the least key that is above the triple before
-pub data State : Type 0 where
-  head : State
-  within : Triples → List Edge → State
-
-abbrev pub due-head : Due
-due-head = record { file = file.Sheet; lo = 0x11; hi = 0x11; complete = false; full = false }
-
-abbrev pub due-triple : Triples → Due
-due-triple q = record { file = file.Sheet; lo = 0x12; hi = 0x12; complete = true; full = eqb (q .count) 512 }
-
-abbrev pub due : State → Due
-due head = due-head
-due (within q es) = due-triple q
+-- the head is due; or triples are. `Triples` has the numbers of kinds, of links, of triples so far, and `floor`, the least key that is
+-- above the triple before
+abbrev pub due : Standing → Due
+due Head = tags-due file.Sheet (0x11 ∷ []) false false
+due (Within q) = tags-due file.Sheet (0x12 ∷ []) true (eqb (q .count) 512)
 
 -- K kinds and E links, and no triple yet
 abbrev pub fresh : ℕ → ℕ → Triples
@@ -56,14 +49,29 @@ next q at b =
     (cond (leb (q .floor) (key b)) (got (record { kinds = q .kinds; links = q .links; count = q .count + 1; floor = key b + 1 })) (refused 4 at))
     (refused 3 at)
 
-abbrev pub judge : State → ℕ → ℕ → ℕ → List ℕ → Result State
-judge head at after t b = onward (λ q. got (within q [])) (head-of at b)
-judge (within q es) at after t b = onward (λ q′. got (within q′ (es ++ (edge-of b ∷ [])))) (next q at b)
+-- a triple is handed over
+abbrev pub judge : Standing → ℕ → List ℕ → Result (Standing × Option Edge)
+judge Head at b = onward (λ q. got (Within q, none)) (head-of at b)
+judge (Within q) at b = onward (λ q′. got (Within q′, some (edge-of b))) (next q at b)
 
--- a file never ends at `head`
-abbrev pub value : State → Sheet
-value head = record { kinds = 0; link-names = 0; permitted = [] }
-value (within q es) = record { kinds = q .kinds; link-names = q .links; permitted = es }
+-- a file never ends at its head
+abbrev pub value : Standing → List Edge → Sheet
+value Head es = record { kinds = 0; link-names = 0; permitted = [] }
+value (Within q) es = record { kinds = q .kinds; link-names = q .links; permitted = es }
+
+abbrev pub sheet-format : Format
+sheet-format = record {
+  Control = Standing;
+  Item = Option Edge;
+  Kept = List Edge;
+  Value = Sheet;
+  start = Head;
+  empty = [];
+  due = due;
+  judge = λ st at next t b. judge st at b;
+  keep = collected;
+  value = value;
+}
 
 abbrev pub sheet-form : Form
-sheet-form = record { State = State; Value = Sheet; start = head; due = due; judge = judge; value = value }
+sheet-form = form sheet-format

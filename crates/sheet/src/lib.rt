@@ -11,10 +11,10 @@ ghost use Prim.Native.Nat.{_<_};
 ghost use lib.ListN.{length, replicate};
 ghost use Rattle.fields.specs.Table.{tag-length};
 ghost use Rattle.fields.specs.Reading.{read as read-file};
-ghost use Rattle.sheet.specs.Form.{sheet-form, key};
+ghost use Rattle.sheet.specs.Form.{sheet-format, sheet-form, key};
 ghost use Rattle.sheet.specs.Table.{cell, tabled?};
 ghost use Rattle.sheet.specs.Contract.{ReadsSheet, outcome-said};
-ghost use Rattle.sheet.specs.Internal.{due-of, judged, BodyReady, turn-said, sizes-at};
+ghost use Rattle.sheet.specs.Internal.{BodyReady, turn-said, sizes-at};
 
 // The numbers of kinds and of links, or why the file is refused.
 pub enum Outcome {
@@ -79,30 +79,25 @@ pub enum Turn {
 }
 
 fn due(st: Standing) -> Due
-    ensures { λ r. ⌜ r ≡ due-of st ⌝ }
+    ensures { λ r. ⌜ r ≡ sheet-format .due st ⌝ }
 {
     match st {
-        Standing::Head => Due {
-            file: File::Sheet,
-            lo: fields::SHEET_TAG,
-            hi: fields::SHEET_TAG,
-            complete: false,
-            full: false,
-        },
-        Standing::Within(q) => Due {
-            file: File::Sheet,
-            lo: fields::TRIPLE_TAG,
-            hi: fields::TRIPLE_TAG,
-            complete: true,
-            full: q.count == MOST_TRIPLES,
-        },
+        Standing::Head => fields::rows_due(File::Sheet, fields::SHEET_ROW, false, false),
+        Standing::Within(q) => {
+            fields::rows_due(
+                File::Sheet,
+                fields::TRIPLE_ROW,
+                true,
+                q.count == MOST_TRIPLES,
+            )
+        }
     }
 }
 
 // 11: the numbers of kinds and of links; refusal 3.
 fn head(at: usize, b: &[u8]) -> Turn
     requires { ⌜ length (now b) ≡ tag-length 0x11 ⌝ }
-    ensures { λ r. ⌜ turn-said r ≡ judged Standing.Head at (now (b .entry)) ⌝ }
+    ensures { λ r. ⌜ turn-said r ≡ sheet-format .judge Standing.Head at 0 0 (now (b .entry)) ⌝ }
 {
     let k = b[KINDS_IN];
     let e = b[LINKS_IN];
@@ -137,7 +132,7 @@ fn key_of(b: &[u8]) -> u64
 // 12: a triple; refusals 3 and 4.
 fn grow(q: Triples, at: usize, b: &[u8]) -> Turn
     requires { ⌜ BodyReady (Standing.Within q) (length (now b)) ⌝ }
-    ensures { λ r. ⌜ turn-said r ≡ judged (Standing.Within q) at (now (b .entry)) ⌝ }
+    ensures { λ r. ⌜ turn-said r ≡ sheet-format .judge (Standing.Within q) at 0 0 (now (b .entry)) ⌝ }
 {
     if q.kinds <= b[FROM_IN] {
         return Turn::Stop(Refusal::OutOfRange(at));
@@ -168,7 +163,7 @@ fn grow(q: Triples, at: usize, b: &[u8]) -> Turn
 
 fn judge(st: Standing, at: usize, b: &[u8]) -> Turn
     requires { ⌜ BodyReady st (length (now b)) ⌝ }
-    ensures { λ r. ⌜ turn-said r ≡ judged st at (now (b .entry)) ⌝ }
+    ensures { λ r. ⌜ turn-said r ≡ sheet-format .judge st at 0 0 (now (b .entry)) ⌝ }
 {
     match st {
         Standing::Head => head(at, b),

@@ -8,9 +8,9 @@ use mathlib.Core.List.{List, [], _∷_}
 use lib.ListN.{length, getD}
 use lib.Dec.{leb, ltb, eqb, ltb→lt, lt→ltb}
 use native.Mathlib.Omega.{arith}
-use borrow.Author.Tests.{eqb-true, eqb-false, ltb-true, leb-true, lt-ltb, le-leb, lt-leb}
+use borrow.Author.Tests.{eqb-true, eqb-false, ltb-true, leb-true, lt-ltb, le-leb, lt-leb, ne-eqb}
 use Rattle.theory.specs.Result.{got, refused}
-use Rattle.fields.specs.Reading.{eight, fitting}
+use Rattle.fields.specs.Reading.{eight, fitting, due-rows, tags-due}
 use Rattle.theory.specs.PathExpr.{forward, reverse, named, any, through, union, conjunction, branch-right, branch-left, Symbol, s-step, s-join, s-op, s-closure}
 use Rattle.symbols.specs.Symbols.{Numbered, numbered, symbol-of, symbol-numbered, operator-numbered, number-symbol, direction-numbered, symbol-given, step-of, operator-of, symbol-in, symbol-length, due-symbols}
 use Rattle.fields.proofs.Bools.{cond-then, not-got, and-left, and-right}
@@ -19,7 +19,7 @@ use Rattle.symbols.specs.Writing.{direction-number, tag-of, body-of, sym
 use Rattle.symbols.specs.Symbols.{Fine}
 use Rattle.fields.specs.declared.File.the-variants as file
 use Rattle.symbols.specs.declared.Stack.{Stack}
-use Rattle.fields.specs.Table.{among, rows, tag-length, field-size}
+use Rattle.fields.specs.Table.{rows, tag-length, field-size, rows-of}
 use Rattle.symbols.proofs.Numbers.{Held, number-of, symbol-comes, operator-number, given-symbol}
 use Rattle.fields.proofs.Bytes.{listed, eight-of, eight-set, eight-back}
 
@@ -89,11 +89,11 @@ symbol-split at t b x h low high l e = by-tag (eqb t 0x43) (eqb t 0x44) refl ref
         subst (λ (u : ℕ). Split u b x) w (subst (λ (u : Numbered). Split 0x45 b u) v (ap (field-bytes 0x45) (listed 8 b l ∙ sym (eight-of b h 0)), inr (refl, eight-set b h 0)))
 
 -- ---- a symbol's bytes are read as it
-pub symbol-fits : (q : Stack) (x : Numbered) → fitting (due-symbols file.Narrowed q) (symbol-tag x) (length (symbol-body x)) ≡ true
-unfolding fitting among rows
-symbol-fits q x = go (symbol-of x)
+pub symbol-fits : (q : Stack) (x : Numbered) → 0 < q .left → fitting (due-symbols file.Narrowed q) (symbol-tag x) (length (symbol-body x)) ≡ true
+unfolding fitting due-rows rows-of rows
+symbol-fits q x h = rw (ne-eqb (q .left) 0 (omega arith)) (go (symbol-of x))
   where
-    go : (s : Symbol) → fitting (due-symbols file.Narrowed q) (tag-of s) (length (body-of (x .number) s)) ≡ true
+    go : (s : Symbol) → fitting (tags-due file.Narrowed (0x43 ∷ 0x44 ∷ 0x45 ∷ []) false false) (tag-of s) (length (body-of (x .number) s)) ≡ true
     go (s-step d l) = refl
     go (s-join any) = refl
     go (s-join (through m)) = refl

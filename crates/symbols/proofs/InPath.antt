@@ -1,46 +1,47 @@
 -- What is known where a symbol's field was found.
 -- Assumes nothing.
 use Prim.Native.Nat.{ℕ, _+_, _<_, _≤_}
-use mathlib.Core.Path.{_≡_, refl, ap, _∙_}
-use mathlib.Core.Bool.{Bool, true, false, cond, _&&_}
-use mathlib.Core.List.{List}
+use mathlib.Core.Path.{_≡_, refl, ap, sym, _∙_}
+use mathlib.Core.Logic.{inl, inr}
+use mathlib.Core.Bool.{false}
+use mathlib.Core.List.{List, [], _∷_}
 use lib.ListN.{length, take, drop}
-use lib.Dec.{leb, eqb}
+use lib.Dec.{eqb}
 use native.Mathlib.Omega.{arith}
-use borrow.Author.Tests.{leb-true, eqb-true, eqb-false}
+use borrow.Author.Tests.{eqb-false}
 use Rattle.fields.specs.declared.File.{File}
-use Rattle.fields.specs.Table.{among, rows, tag-length}
-use Rattle.fields.specs.Reading.{body, field-at, fitting}
-use Rattle.fields.proofs.Rows.{own-length}
-use Rattle.fields.proofs.Bools.{and-left, and-right}
-use Rattle.fields.proofs.Fields.{found, body-length}
+use Rattle.fields.specs.declared.File.the-variants.{Sheet, Question, Register, Narrowed}
+use Rattle.fields.specs.Table.{rows, rows-of, tag-length}
+use Rattle.fields.specs.Reading.{body, field-at, due-rows, tags-due}
+use Rattle.fields.proofs.Rows.{OneOf}
+use Rattle.fields.proofs.Fields.{Found, found, found-one, body-length}
 use Rattle.symbols.specs.declared.Stack.{Stack}
 use Rattle.symbols.specs.Symbols.{due-symbols, symbol-length}
 
--- within a path, a field that fits has a symbol's tag
-pub symbol-range : (f : File) (q : Stack) (t n : ℕ) → fitting (due-symbols f q) t n ≡ true → (0x43 ≤ t) × (t ≤ 0x45)
-unfolding fitting
-symbol-range f q t n e =
-    let h = and-left _ (among rows f t n) e in
-    (leb-true 0x43 t (and-left _ (leb t 0x45) h), leb-true t 0x45 (and-right (leb 0x43 t) _ h))
+-- within a path, a field that fits has a symbol's tag and its length, and a symbol is due
+record SymbolDue (q : Stack) (t n : ℕ) : Type 0 where
+  some : q .left ≡ 0 → ⊥
+  low : 0x43 ≤ t
+  high : t ≤ 0x45
+  len : n ≡ symbol-length t
 
--- and its length
-pub symbol-len : (f : File) (q : Stack) (t n : ℕ) → fitting (due-symbols f q) t n ≡ true → n ≡ symbol-length t
-unfolding fitting
-symbol-len f q t n e = by-tag (eqb t 0x43) (eqb t 0x44) refl refl
+symbol-due : (f : File) (q : Stack) (s : List ℕ) (at t n : ℕ) → Found (due-symbols f q) s at t n → SymbolDue q t n
+unfolding due-rows rows-of rows tag-length
+symbol-due f q s at t n r =
+    let (b, o) = found-one f (0x43 ∷ 0x44 ∷ 0x45 ∷ []) (eqb (q .left) 0) (eqb (q .left) 0) r in
+    by-file f (eqb-false (q .left) 0 b) o
   where
-    own : n ≡ tag-length t
-    own = own-length f t n (and-right (leb 0x43 t && leb t 0x45) _ e)
+    is : (u m : ℕ) → (q .left ≡ 0 → ⊥) → 0x43 ≤ u → u ≤ 0x45 → m ≡ symbol-length u → (t ≡ u) × (n ≡ m) → SymbolDue q t n
+    is u m some low high e h = record { some = some; low = omega (arith, h .0); high = omega (arith, h .0); len = h .1 ∙ e ∙ ap symbol-length (sym (h .0)) }
 
-    by-tag : (a b : Bool) → eqb t 0x43 ≡ a → eqb t 0x44 ≡ b → n ≡ cond a (tag-length 0x43) (cond b (tag-length 0x44) (tag-length 0x45))
-    by-tag true b p r = own ∙ ap tag-length (eqb-true t 0x43 p)
-    by-tag false true p r = own ∙ ap tag-length (eqb-true t 0x44 r)
-    by-tag false false p r =
-        let x : t ≡ 0x43 → ⊥ = eqb-false t 0x43 p in
-        let y : t ≡ 0x44 → ⊥ = eqb-false t 0x44 r in
-        let g = symbol-range f q t n e in
-        let z : t ≡ 0x45 = omega (arith, g .0, g .1) in
-        own ∙ ap tag-length z
+    by-file : (f : File) → (q .left ≡ 0 → ⊥) → OneOf (due-rows (tags-due f (0x43 ∷ 0x44 ∷ 0x45 ∷ []) false false)) t n → SymbolDue q t n
+    by-file Sheet some o = absurd o
+    by-file Register some o = absurd o
+    by-file Question some (inl h) = is 0x43 2 some (omega arith) (omega arith) refl h
+    by-file Question some (inr h) = is 0x44 1 some (omega arith) (omega arith) refl h
+    by-file Narrowed some (inl h) = is 0x43 2 some (omega arith) (omega arith) refl h
+    by-file Narrowed some (inr (inl h)) = is 0x44 1 some (omega arith) (omega arith) refl h
+    by-file Narrowed some (inr (inr h)) = is 0x45 8 some (omega arith) (omega arith) refl h
 
 -- what is known where a symbol's field was found
 pub record InPath (q : Stack) (s : List ℕ) (at t n : ℕ) : Type 0 where
@@ -53,6 +54,5 @@ pub record InPath (q : Stack) (s : List ℕ) (at t n : ℕ) : Type 0 where
 pub in-path : (f : File) (q : Stack) (s : List ℕ) (at t n : ℕ) → field-at (due-symbols f q) s at ≡ body t n → InPath q s at t n
 in-path f q s at t n e =
     let r = found (due-symbols f q) s at t n e in
-    let h : q .left ≡ 0 → ⊥ = eqb-false (q .left) 0 (r .more) in
-    let g = symbol-range f q t n (r .fit) in
-    record { room = r .room; long = body-length r ∙ symbol-len f q t n (r .fit); low = g .0; high = g .1; some = omega arith }
+    let g = symbol-due f q s at t n r in
+    record { room = r .room; long = body-length r ∙ g .len; low = g .low; high = g .high; some = omega (arith, g .some) }

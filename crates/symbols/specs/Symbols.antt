@@ -16,7 +16,7 @@ use Rattle.symbols.specs.declared.Stack.{Stack}
 use Rattle.symbols.specs.declared.Numbered as declared·Numbered
 use Rattle.fields.specs.Table.{tag-length}
 use Rattle.theory.specs.Result.{Result, got, refused}
-use Rattle.fields.specs.Reading.{eight}
+use Rattle.fields.specs.Reading.{eight, tags-due}
 
 -- ---- a symbol as a number: its code, and 255 for a join through the set beside it
 abbrev pub operator-numbered : ℕ → Symbol
@@ -105,7 +105,9 @@ push q at next k =
 
 -- what is due within a path: its symbols, and nothing after them
 abbrev pub due-symbols : File → Stack → Due
-due-symbols f q = record { file = f; lo = 0x43; hi = 0x45; complete = eqb (q .left) 0; full = eqb (q .left) 0 }
+due-symbols f q =
+    let full = eqb (q .left) 0 in
+    tags-due f (0x43 ∷ 0x44 ∷ 0x45 ∷ []) full full
 
 -- ---- symbols in two arrays: their numbers, and their sets
 -- a symbol; only a join through a set has one

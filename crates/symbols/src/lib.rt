@@ -299,11 +299,5 @@ pub fn symbols_due(file: File, q: Stack) -> Due
     ensures { λ r. ⌜ r ≡ due-symbols file q ⌝ }
 {
     let full = q.left == 0;
-    Due {
-        file,
-        lo: fields::STEP_TAG,
-        hi: fields::THROUGH_TAG,
-        complete: full,
-        full,
-    }
+    fields::rows_due(file, fields::SYMBOL_ROWS, full, full)
 }

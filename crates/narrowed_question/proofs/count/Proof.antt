@@ -2,7 +2,7 @@
 -- Assumes nothing.
 use Rattle.fields.specs.Table.{rows, tag-length}
 use borrow.Author.Tests.{lt-leb, le-leb}
-use Rattle.narrowed_question.specs.Internal.{count-of}
+use Rattle.narrowed_question.specs.Form.{count-of}
 use borrow.Author.Needs.{needs}
 use Rattle.narrowed_question.proofs.count.Statement.{statement}
 use Rattle.narrowed_question.proofs.count.Tie as tie

@@ -1,7 +1,7 @@
 -- `narrowed_question::grow` meets its contract: the symbol is read and its operands are counted, and the first refusal of the two is the field's; it is the last where no symbol is left.
 -- Assumes nothing.
 use borrow.Author.Tests.{eq-eqb, ne-eqb}
-use Rattle.narrowed_question.specs.Internal.{symbol-move}
+use Rattle.narrowed_question.specs.Form.{member-symbol}
 use borrow.Author.Needs.{needs}
 use Rattle.narrowed_question.proofs.grow.Statement.{statement}
 use Rattle.narrowed_question.proofs.grow.Tie as tie
@@ -28,7 +28,7 @@ enum-known-t : tie.Need-enum-known-t
 enum-known-t c = search needs
 
 returns : tie.Need-returns
-unfolding symbol-move
+unfolding member-symbol
 returns c =
     let c3 = c .before .before .before in
     let c5 = c3 .before .before in
@@ -38,11 +38,11 @@ returns c =
     simp (eq-eqb _ _ (c .if1 .taken), c3 .t .given .1, ← c5 .push-symbol .ensures, ← c6 .operands .ensures, c8 .x .given .1, ← c10 .symbol-in .ensures)
 
 returns-2 : tie.Need-returns-2
-unfolding symbol-move
+unfolding member-symbol
 returns-2 c = simp (c .before .r .given .1, ← c .before .before .before .symbol-in .ensures)
 
 returns-3 : tie.Need-returns-3
-unfolding symbol-move
+unfolding member-symbol
 returns-3 c =
     let c3 = c .before .before .before in
     let c4 = c3 .before in
@@ -51,7 +51,7 @@ returns-3 c =
     simp (c .before .r2 .given .1, ← c3 .push-symbol .ensures, ← c4 .operands .ensures, c6 .x .given .1, ← c8 .symbol-in .ensures)
 
 returns-4 : tie.Need-returns-4
-unfolding symbol-move
+unfolding member-symbol
 returns-4 c =
     let c3 = c .before .before .before in
     let c5 = c3 .before .before in

@@ -6,7 +6,8 @@ use Prim.Native.Nat.{_+_}
 use Rattle.fields.specs.Reading.{body, field-at}
 use Rattle.fields.proofs.Raws.{body-found}
 use Rattle.fields.proofs.Fields.{seen-at}
-use Rattle.narrowed_question.specs.Internal.{due-of, judged, turned, turned-by}
+use Rattle.narrowed_question.specs.Form.{due, judge}
+use Rattle.narrowed_question.specs.Internal.{goes-on, turned, turned-by}
 use Rattle.narrowed_question.proofs.Tracks.{field-ready}
 use borrow.Author.Needs.{needs}
 use Rattle.narrowed_question.proofs.look.Statement.{statement}
@@ -42,7 +43,7 @@ body-at-requires c κs = search needs
 judge-requires : tie.Need-judge-requires
 judge-requires c κs =
     let a = c .before .before .before .before .before .before .before in
-    let e : field-at (due-of (a .args .st)) (now (a .args .s)) (a .args .at) ≡ body (c .before .before .tag .given .0 .0) (c .before .before .tag .given .0 .1 .0) =
+    let e : field-at (due (a .args .st)) (now (a .args .s)) (a .args .at) ≡ body (c .before .before .tag .given .0 .0) (c .before .before .tag .given .0 .1 .0) =
     seen-at _ _ (c .before .before .before .before .before .due .ensures) (c .before .before .before .before .field .ensures) (c .before .before .tag .given .1) in
     rw (c .body-at .ensures ∙ body-found _ _ _ _ _ e) (field-ready _ _ _ _ (a .args .st) (a .pre .0) e)
 
@@ -63,10 +64,10 @@ unfolding turned
 returns-3 c =
     let a = c .before .before .before .before .before .before .before .before .args in
     let t = c .before .before .before .tag .given in
-    let e : field-at (due-of (a .st)) (now (a .s)) (a .at) ≡ body (t .0 .0) (t .0 .1 .0) =
+    let e : field-at (due (a .st)) (now (a .s)) (a .at) ≡ body (t .0 .0) (t .0 .1 .0) =
     seen-at _ _ (c .before .before .before .before .before .before .due .ensures) (c .before .before .before .before .before .field .ensures) (t .1) in
     c .judge .ensures
-    ∙ ap (λ b. judged (a .st) (a .at) (a .at + 3 + t .0 .1 .0) (t .0 .0) b) (c .before .body-at .ensures ∙ body-found _ _ _ _ _ e)
+    ∙ ap (λ b. goes-on (judge (a .st) (a .at) (a .at + 3 + t .0 .1 .0) (t .0 .0) b)) (c .before .body-at .ensures ∙ body-found _ _ _ _ _ e)
     ∙ ap (turned-by (a .st) (a .at) (now (a .s))) (sym e)
 
 pub look-spec : {M : Type 1} → statement M

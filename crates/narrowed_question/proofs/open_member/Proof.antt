@@ -2,7 +2,7 @@
 -- Assumes nothing.
 use Rattle.fields.specs.Table.{rows, tag-length}
 use borrow.Author.Tests.{lt-leb, le-leb}
-use Rattle.narrowed_question.specs.Internal.{open-move}
+use Rattle.narrowed_question.specs.Form.{open-of}
 use borrow.Author.Needs.{needs}
 use Rattle.narrowed_question.proofs.open_member.Statement.{statement}
 use Rattle.narrowed_question.proofs.open_member.Tie as tie
@@ -12,11 +12,11 @@ unfolding tag-length rows
 shared-slice-read-n c = search needs
 
 returns : tie.Need-returns
-unfolding open-move
+unfolding open-of
 returns c = simp (lt-leb _ _ (c .if1 .taken))
 
 returns-2 : tie.Need-returns-2
-unfolding open-move
+unfolding open-of
 returns-2 c = simp (lt-leb _ _ (c .if2 .taken), le-leb _ _ (c .before .if1 .left))
 
 sub-t8 : tie.Need-sub-t8
@@ -31,7 +31,7 @@ unfolding tag-length rows
 eight-at-requires-2 c κs = search needs
 
 returns-3 : tie.Need-returns-3
-unfolding open-move
+unfolding open-of
 returns-3 c = simp (← c .eight-at2 .ensures, ← c .before .eight-at .ensures, le-leb _ _ (c .before .before .if2 .left), le-leb _ _ (c .before .before .before .if1 .left))
 
 pub open-member-spec : {M : Type 1} → statement M

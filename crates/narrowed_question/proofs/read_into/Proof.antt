@@ -4,7 +4,7 @@ use mathlib.Core.Path.{_∙_, ap, sym, subst}
 use lib.ListN.{length}
 use Rattle.narrowed_question.specs.declared.Marks.{Marks}
 use Rattle.narrowed_question.specs.Internal.{turn-said}
-use Rattle.narrowed_question.proofs.Loop.{At, at-start, blank-long, reading-able, into-refused, turn-ends, turn-stop, turn-room, go-moves, open-moves, more-moves, last-moves}
+use Rattle.narrowed_question.proofs.Loop.{At, at-start, blank-long, reading-able, into-refused, turn-ends, turn-stop, turn-room}
 use Rattle.narrowed_question.proofs.Loop.{turn-go, turn-open, turn-more, turn-last, turn-order, at-open, at-more, at-close}
 use borrow.Author.Needs.{needs}
 use Prim.Native.Nat.{_-_}
@@ -115,7 +115,7 @@ next-at-requires : tie.Need-next-at-requires Inv-loop μ-loop
 next-at-requires c κs =
     let c1 = c .before in
     let c3 = c1 .before .before in
-    turn-room _ _ _ _ (go-moves _) (sym (c3 .look .ensures) ∙ ap turn-said (c1 .w .given .1))
+    turn-room _ _ _ _ (sym (c3 .look .ensures) ∙ ap turn-said (c1 .w .given .1))
 
 past-requires : tie.Need-past-requires Inv-loop μ-loop
 past-requires c κs = search needs
@@ -127,7 +127,7 @@ loop-less c =
     let c5 = c3 .before .before in
     let p = ap (λ (k : Marks). k .at) (c .past .ensures) in
     let q = c1 .next-at .ensures in
-    let h = turn-room _ _ _ _ (go-moves _) (sym (c5 .look .ensures) ∙ ap turn-said (c3 .w .given .1)) in
+    let h = turn-room _ _ _ _ (sym (c5 .look .ensures) ∙ ap turn-said (c3 .w .given .1)) in
     omega arith
 
 loop-again : tie.Need-loop-again Inv-loop μ-loop
@@ -155,7 +155,7 @@ next-at-requires-2 : tie.Need-next-at-requires-2 Inv-loop μ-loop
 next-at-requires-2 c κs =
     let c11 = c .before .before .before .before .before .before .before .before .before .before .before in
     let c13 = c11 .before .before in
-    turn-room _ _ _ _ (open-moves _ _ _ _) (sym (c13 .look .ensures) ∙ ap turn-said (c11 .n .given .1))
+    turn-room _ _ _ _ (sym (c13 .look .ensures) ∙ ap turn-said (c11 .n .given .1))
 
 past-requires-2 : tie.Need-past-requires-2 Inv-loop μ-loop
 past-requires-2 c κs = search needs
@@ -167,7 +167,7 @@ loop-less-2 c =
     let c15 = c13 .before .before in
     let p = ap (λ (k : Marks). k .at) (c .past2 .ensures) in
     let q = c1 .next-at2 .ensures in
-    let h = turn-room _ _ _ _ (open-moves _ _ _ _) (sym (c15 .look .ensures) ∙ ap turn-said (c13 .n .given .1)) in
+    let h = turn-room _ _ _ _ (sym (c15 .look .ensures) ∙ ap turn-said (c13 .n .given .1)) in
     omega arith
 
 loop-again-2 : tie.Need-loop-again-2 Inv-loop μ-loop
@@ -198,7 +198,7 @@ next-at-requires-3 : tie.Need-next-at-requires-3 Inv-loop μ-loop
 next-at-requires-3 c κs =
     let c8 = c .before .before .before .before .before .before .before .before in
     let c10 = c8 .before .before in
-    turn-room _ _ _ _ (more-moves _ _ _) (sym (c10 .look .ensures) ∙ ap turn-said (c8 .c .given .1))
+    turn-room _ _ _ _ (sym (c10 .look .ensures) ∙ ap turn-said (c8 .c .given .1))
 
 one-more-requires : tie.Need-one-more-requires Inv-loop μ-loop
 one-more-requires c κs =
@@ -214,7 +214,7 @@ loop-less-3 c =
     let c12 = c10 .before .before in
     let p = ap (λ (k : Marks). k .at) (c .one-more .ensures) in
     let q = c1 .next-at3 .ensures in
-    let h = turn-room _ _ _ _ (more-moves _ _ _) (sym (c12 .look .ensures) ∙ ap turn-said (c10 .c .given .1)) in
+    let h = turn-room _ _ _ _ (sym (c12 .look .ensures) ∙ ap turn-said (c10 .c .given .1)) in
     omega arith
 
 loop-again-3 : tie.Need-loop-again-3 Inv-loop μ-loop
@@ -262,7 +262,7 @@ next-at-requires-4 : tie.Need-next-at-requires-4 Inv-loop μ-loop
 next-at-requires-4 c κs =
     let c12 = c .before .before .before .before .before .before .before .before .before .before .before .before in
     let c14 = c12 .before .before in
-    turn-room _ _ _ _ (last-moves _ _ _ _) (sym (c14 .look .ensures) ∙ ap turn-said (c12 .c2 .given .1))
+    turn-room _ _ _ _ (sym (c14 .look .ensures) ∙ ap turn-said (c12 .c2 .given .1))
 
 closed-requires : tie.Need-closed-requires Inv-loop μ-loop
 closed-requires c κs =
@@ -279,7 +279,7 @@ loop-less-4 c =
     let c16 = c14 .before .before in
     let p = ap (λ (k : Marks). k .at) (c .closed .ensures) in
     let q = c1 .next-at4 .ensures in
-    let h = turn-room _ _ _ _ (last-moves _ _ _ _) (sym (c16 .look .ensures) ∙ ap turn-said (c14 .c2 .given .1)) in
+    let h = turn-room _ _ _ _ (sym (c16 .look .ensures) ∙ ap turn-said (c14 .c2 .given .1)) in
     omega arith
 
 loop-again-4 : tie.Need-loop-again-4 Inv-loop μ-loop

@@ -7,7 +7,8 @@ use Rattle.fields.specs.Reading.{body, field-at}
 use Rattle.fields.proofs.Fields.{found, seen-at}
 use Rattle.fields.proofs.Raws.{body-found}
 use Rattle.question.specs.Contract.{counted, codes-in, outcome-said}
-use Rattle.question.specs.Internal.{due-of, judged, turn-said}
+use Rattle.question.specs.Form.{due, judge}
+use Rattle.question.specs.Internal.{turn-said}
 use Rattle.question.proofs.Loop.{Reading, reading-start, reading-ends, reading-wrong, reading-ready, reading-stop, reading-go, reading-more}
 use borrow.Author.Needs.{needs}
 use Prim.Native.Nat.{_+_, _-_, _≤_}
@@ -25,7 +26,7 @@ abbrev μ-loop : tie.MeasureT-loop
 at-body : (c : tie.After-known-told2 Inv-loop μ-loop) →
     let l = c .before .before .before .before .before .loop in
     let v = c .before .tag .given .0 in
-    field-at (due-of (l .st)) (now (c .before .before .before .before .before .before .before .args .s)) (l .at) ≡ body (v .0) (v .1 .0)
+    field-at (due (l .st)) (now (c .before .before .before .before .before .before .before .args .s)) (l .at) ≡ body (v .0) (v .1 .0)
 at-body c = seen-at _ _ (c .before .before .before .before .due .ensures) (c .before .before .before .field .ensures) (c .before .tag .given .1)
 
 room : (c : tie.After-known-told2 Inv-loop μ-loop) → c .before .before .before .before .before .loop .at + 3 + c .before .tag .given .0 .1 .0 ≤ length
@@ -33,7 +34,7 @@ room : (c : tie.After-known-told2 Inv-loop μ-loop) → c .before .before .befor
 room c =
     let c5 = c .before .before .before .before .before in
     let c7 = c5 .before .before in
-    found (due-of (c5 .loop .st)) (now (c7 .args .s)) _ _ _ (at-body c) .room
+    found (due (c5 .loop .st)) (now (c7 .args .s)) _ _ _ (at-body c) .room
 
 -- the part handed out is that field's body
 is-body : (c : tie.After-body-at Inv-loop μ-loop) →
@@ -46,7 +47,7 @@ is-body c =
 is-judged : (c : tie.After-judge Inv-loop μ-loop) →
     let l = c .before .before .before .before .before .before .before .loop in
     let v = c .before .before .before .tag .given .0 in
-    judged (l .st) (l .at) (l .at + 3 + v .1 .0) (v .0) (take (v .1 .0) (drop (l .at + 3) (now (c .before .before .before .before .before .before .before .before .before .args .s)))) ≡ turn-said
+    judge (l .st) (l .at) (l .at + 3 + v .1 .0) (v .0) (take (v .1 .0) (drop (l .at + 3) (now (c .before .before .before .before .before .before .before .before .before .args .s)))) ≡ turn-said
     (c .judge .result)
 is-judged c =
     rw (← is-body (c .before)) (sym (c .judge .ensures))

@@ -1,6 +1,6 @@
 -- `register::judge_entry` meets its contract: a kind is due while a record has none, and a link after that.
 -- Assumes nothing.
-use Rattle.register.specs.Contract.{entry-of}
+use Rattle.register.specs.Form.{entry-of}
 use mathlib.Core.Path.{_∙_}
 use native.Mathlib.Omega.{arith}
 use borrow.Author.Tests.{eq-eqb, ne-eqb}

@@ -4,7 +4,8 @@ use Rattle.register.proofs.Passing.{reading-passed, passed-on}
 use Rattle.register.proofs.Loop.{Reading, reading-start, reading-ends, reading-wrong, reading-room, reading-ready, reading-refused, reading-more}
 use Rattle.fields.proofs.Raws.{body-found}
 use Rattle.fields.proofs.Fields.{seen-at}
-use Rattle.register.specs.Internal.{due-of, judged, turn-said}
+use Rattle.register.specs.Form.{due, advance}
+use Rattle.register.specs.Internal.{turn-said}
 use Rattle.fields.specs.Reading.{body, field-at}
 use denote.Ref.{now}
 use lib.ListN.{length, take, drop}
@@ -25,7 +26,7 @@ abbrev μ-loop : tie.MeasureT-loop
 at-body : (c : tie.After-known-told2 Inv-loop μ-loop) →
     let l = c .before .before .before .before .before .loop in
     let v = c .before .len .given .0 in
-    field-at (due-of (l .st)) (now (c .before .before .before .before .before .before .before .args .s)) (l .at) ≡ body (v .0) (v .1 .0)
+    field-at (due (l .st)) (now (c .before .before .before .before .before .before .before .args .s)) (l .at) ≡ body (v .0) (v .1 .0)
 at-body c = seen-at _ _ (c .before .before .before .before .due-at .ensures) (c .before .before .before .field .ensures) (c .before .len .given .1)
 
 -- the code's body is the definition's
@@ -37,7 +38,7 @@ at-part c =
 
 is-judged : (c : tie.After-judge Inv-loop μ-loop) →
     let l = c .before .before .before .before .before .before .before .loop in
-    judged (l .st) (l .at) (take (c .before .before .before .len .given .0 .1 .0) (drop (l .at + 3) (now (c .before .before .before .before .before .before .before .before .before .args .s))))
+    advance (l .st) (l .at) (take (c .before .before .before .len .given .0 .1 .0) (drop (l .at + 3) (now (c .before .before .before .before .before .before .before .before .before .args .s))))
     ≡ turn-said (c .judge .result)
 is-judged c =
     rw (← at-part (c .before)) (sym (c .judge .ensures))

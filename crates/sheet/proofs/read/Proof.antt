@@ -9,7 +9,8 @@ use borrow.Author.Needs.{needs}
 use Rattle.fields.specs.Reading.{body, field-at}
 use Rattle.fields.proofs.Raws.{body-found}
 use Rattle.fields.proofs.Fields.{found, seen-at}
-use Rattle.sheet.specs.Internal.{due-of, judged, edge-said, turn-said}
+use Rattle.sheet.specs.Form.{due, judge}
+use Rattle.sheet.specs.Internal.{edge-said, turn-said}
 use Rattle.sheet.specs.Table.{permit}
 use Rattle.sheet.specs.declared.Standing.the-variants.{Within}
 use Rattle.sheet.proofs.Loop.{Progress, progress-start, reads-refused, progress-ends, progress-wrong, progress-ready, progress-stop, progress-go, progress-more}
@@ -26,7 +27,7 @@ abbrev μ-loop : tie.MeasureT-loop
 at-body : (c : tie.After-known-told2 Inv-loop μ-loop) →
     let l = c .before .before .before .before .before .loop in
     let v = c .before .len .given .0 in
-    field-at (due-of (l .st)) (now (c .before .before .before .before .before .before .before .args .s)) (l .at) ≡ body (v .0) (v .1 .0)
+    field-at (due (l .st)) (now (c .before .before .before .before .before .before .before .args .s)) (l .at) ≡ body (v .0) (v .1 .0)
 at-body c = seen-at _ _ (c .before .before .before .before .due .ensures) (c .before .before .before .field .ensures) (c .before .len .given .1)
 
 room : (c : tie.After-known-told2 Inv-loop μ-loop) → c .before .before .before .before .before .loop .at + 3 + c .before .len .given .0 .1 .0 ≤ length
@@ -34,12 +35,12 @@ room : (c : tie.After-known-told2 Inv-loop μ-loop) → c .before .before .befor
 room c =
     let c5 = c .before .before .before .before .before in
     let c7 = c5 .before .before in
-    found (due-of (c5 .loop .st)) (now (c7 .args .s)) _ _ _ (at-body c) .room
+    found (due (c5 .loop .st)) (now (c7 .args .s)) _ _ _ (at-body c) .room
 
 -- where it is judged
 is-judged : (c : tie.After-judge Inv-loop μ-loop) →
     let l = c .before .before .before .before .before .before .before .loop in
-    judged (l .st) (l .at) (take (c .before .before .before .len .given .0 .1 .0) (drop (l .at + 3) (now (c .before .before .before .before .before .before .before .before .before .args .s))))
+    judge (l .st) (l .at) (take (c .before .before .before .len .given .0 .1 .0) (drop (l .at + 3) (now (c .before .before .before .before .before .before .before .before .before .args .s))))
     ≡ turn-said (c .judge .result)
 is-judged c =
     let c2 = c .before .before in

@@ -1,6 +1,6 @@
 -- The walks over a part's triples, made by joining each triple of the part, as it grows, with each of those it began with.
 -- Assumes nothing.
-use mathlib.Core.Path.{_≡_, refl, sym, ap, _∙_, subst}
+use mathlib.Core.Path.{_≡_, sym, ap, _∙_, subst}
 use mathlib.Core.Bool.{true}
 use mathlib.Core.Logic.{⊎-elim}
 use mathlib.Core.List.{List, [], _∷_, List·Memᴰ as In, List·Memᴰ·eq-of-singleton as in-one, Memᴰ·append-left as in-left}
@@ -9,7 +9,7 @@ use native.Mathlib.Omega.{arith}
 use lib.Dec.{leb→le}
 use lib.ListN.{length}
 use Rattle.theory.specs.Lists.{adjoin-all}
-use Rattle.theory.specs.PathExpr.{any, size}
+use Rattle.theory.specs.PathExpr.{size}
 use Rattle.theory.specs.Inference.{Triple, triple?, distinct, end-to-end?, joined, of-join, walks}
 use Rattle.theory.specs.Narrowing.{short?}
 use Rattle.algorithms.specs.Growth.{grown, grow}
@@ -19,12 +19,12 @@ use Rattle.theory.proofs.Distinct.{in-adjoin-all, adjoin-all-longer}
 use Rattle.theory.proofs.Triples.{in-pairs, pairs-in}
 use Rattle.theory.proofs.Walks.{level, in-walks, all-walks}
 use Rattle.algorithms.proofs.Growth.{grow-over, grow-turn, grow-longer, few-grown, many-grown}
-use Rattle.symbols.specs.Symbols.{symbol-numbered}
 use Rattle.rows.specs.Kept.{Kept}
 use Rattle.rows.proofs.Words.{kept-refl, kept-trans}
 use Rattle.triples.specs.Paths.{triple-of, Sound}
 use Rattle.triples.specs.Parts.{part-of, span}
 use Rattle.triples.proofs.Growing.{length-part, part-kept}
+use Rattle.rules.specs.declared.PairOperator.the-variants.{Join}
 use Rattle.rules.specs.Outcome.{Done, Adds}
 use Rattle.rules.specs.Requirements.{part, row-of, AddRow}
 use Rattle.rules.proofs.Short.{short-path?}
@@ -99,26 +99,24 @@ module _ {qs ws₀ : List ℕ} {s f : ℕ} (h : GrowWalks qs ws₀ s f) where
       at-i = let z : s + (i - s) ≡ i = omega (arith, g .from) in subst (λ (k : ℕ). In (triple-of qs ws k) (part-of qs ws s count)) z
           (tabulate-in (triple-of qs ws) s count (i - s) (omega (arith, g .from)))
 
-      row : row-of qs ws 128 i s (s + f) ≡ of-join (triple-of qs ws i ∷ []) fs
-      unfolding symbol-numbered
-      row = two-join 128 any (triple-of qs ws i ∷ []) (part qs ws s (s + f)) refl ∙ ap (of-join (triple-of qs ws i ∷ [])) same
+      row : row-of qs ws Join i s (s + f) ≡ of-join (triple-of qs ws i ∷ []) fs
+      row = two-join (triple-of qs ws i ∷ []) (part qs ws s (s + f)) ∙ ap (of-join (triple-of qs ws i ∷ [])) same
 
-      row-walk : (t : Triple) → In t (row-of qs ws 128 i s (s + f)) → In t (walks 24 fs fs)
+      row-walk : (t : Triple) → In t (row-of qs ws Join i s (s + f)) → In t (walks 24 fs fs)
       row-walk t m = longer-walk fs (h .short) (g .walk (triple-of qs ws i) at-i) (subst (λ (ys : List Triple). In t ys) row m)
 
-      pub walks-asks : AddRow qs ws 128 s count i (span s (s + f))
+      pub walks-asks : AddRow qs ws Join s count i (span s (s + f))
       walks-asks =
           record {
-            paired = record { least = omega arith; most = omega arith; no-union = λ e. absurd (omega arith) };
             room = record { room = omega (arith, h .room .room, g .kept .len); numbers = h .room .numbers; sound = g .sound; few = g .few };
             i-below = l;
             lies = record { ordered = omega arith; below = omega (arith, g .more) };
-            short = to-true (short? (row-of qs ws 128 i s (s + f)))
-                (in-every short-path? (row-of qs ws 128 i s (s + f)) (λ t m. every-in short-path? (of-true (short? (walks 24 fs fs)) (h .short)) (row-walk t m)));
+            short = to-true (short? (row-of qs ws Join i s (s + f)))
+                (in-every short-path? (row-of qs ws Join i s (s + f)) (λ t m. every-in short-path? (of-true (short? (walks 24 fs fs)) (h .short)) (row-walk t m)));
           }
 
-      module _ {ws′ : List ℕ} {r : ℕ} (d : Adds qs ws ws′ s count r (row-of qs ws 128 i s (s + f))) where
-        turned : adjoin-all triple? ts (row-of qs ws 128 i s (s + f)) ≡ grown fs ts (i - s)
+      module _ {ws′ : List ℕ} {r : ℕ} (d : Adds qs ws ws′ s count r (row-of qs ws Join i s (s + f))) where
+        turned : adjoin-all triple? ts (row-of qs ws Join i s (s + f)) ≡ grown fs ts (i - s)
         turned = row-grown qs ws s count i s (s + f) (g .from) l ∙ ap (λ (ys : List Triple). grown ys ts (i - s)) same
 
         -- one turn of the growth
@@ -135,7 +133,7 @@ module _ {qs ws₀ : List ℕ} {s f : ℕ} (h : GrowWalks qs ws₀ s f) where
         pub walks-turn : r ≤ 128 → WalksGrowing qs ws₀ ws′ s f r (i + 1)
         walks-turn m =
             let p = d .few m in
-            let n : count ≤ r = omega (arith, ap length p, length-part qs ws s count, length-part qs ws′ s r, adjoin-all-longer triple? ts (row-of qs ws 128 i s (s + f))) in
+            let n : count ≤ r = omega (arith, ap length p, length-part qs ws s count, length-part qs ws′ s r, adjoin-all-longer triple? ts (row-of qs ws Join i s (s + f))) in
             record {
               kept = kept-both;
               sound = d .sound;
@@ -144,7 +142,7 @@ module _ {qs ws₀ : List ℕ} {s f : ℕ} (h : GrowWalks qs ws₀ s f) where
               few = m;
               more = omega (arith, g .more);
               left = rw (p, turned) onward;
-              walk = λ t k. ⊎-elim (g .walk t) (row-walk t) (in-adjoin-all triple? ts (row-of qs ws 128 i s (s + f)) (subst (λ (ys : List Triple). In t ys) p k));
+              walk = λ t k. ⊎-elim (g .walk t) (row-walk t) (in-adjoin-all triple? ts (row-of qs ws Join i s (s + f)) (subst (λ (ys : List Triple). In t ys) p k));
             }
 
         pub walks-many : 128 < r → Done qs ws₀ ws′ (s + f) s r (distinct (walks 24 (part-of qs ws₀ s f) (part-of qs ws₀ s f)))

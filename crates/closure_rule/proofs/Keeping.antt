@@ -7,10 +7,9 @@ use native.Mathlib.Omega.{arith}
 use lib.ListN.{length, length-take, length-drop}
 use Rattle.theory.specs.PathExpr.{closure, codes, size}
 use Rattle.theory.specs.Inference.{Triple, reach, meets-cyclic?, kept-closures}
-use Rattle.algorithms.specs.Growth.{no-triple}
+use Rattle.symbols.specs.Symbols.{symbol-numbered}
 use Rattle.symbols.proofs.Numbers.{length-codes}
-use Rattle.triples.specs.Paths.{original, built, Copied}
-use Rattle.triples.proofs.Codes.{closure-numbered}
+use Rattle.triples.specs.Paths.{original, Copied}
 use Rattle.rules.specs.EdgeTriples.{edges-of, leaf-path, Leaf}
 use Rattle.rules.proofs.Edges.{edges-are}
 use Rattle.kind_graph.specs.Kinds.{KindGraph}
@@ -23,16 +22,17 @@ copied-size {qs} {o} {n} c =
 
 -- the path of the node, whatever its kinds
 kept-path : (qs : List ℕ) (o n : ℕ) → leaf-path qs (kept-node o n) ≡ closure (original qs o n)
-unfolding leaf-path
-kept-path qs o n = ap (built qs (kept-node o n) no-triple no-triple) (closure-numbered 133 refl)
+unfolding leaf-path symbol-numbered
+kept-path qs o n = refl
 
 pub kept-leaf : {qs : List ℕ} {o n : ℕ} → Copied qs o n → o < 4096 → n ≤ 47 → Leaf qs (kept-node o n)
+unfolding symbol-numbered
 kept-leaf {qs} {o} {n} c l m =
     record {
-      known = omega arith;
-      alone = λ k j. omega arith;
-      kept = λ k. c;
+      known = record { is = refl };
+      alone = c;
       sized = ap size (kept-path qs o n) ∙ omega (arith, copied-size c);
+      made-fits = omega arith;
       left-fits = l;
       right-fits = omega arith;
       size-fits = omega arith;

@@ -6,6 +6,7 @@ use mathlib.Core.Bool.{true}
 use mathlib.Core.List.{List}
 use Prim.Native.Nat.{ℕ, _+_, _<_, _≤_}
 use Rattle.theory.specs.Lists.{NoRepeat}
+use Rattle.theory.specs.PathExpr.{s-closure, code}
 use Rattle.theory.specs.Inference.{Triple, of-closure}
 use Rattle.theory.specs.Narrowing.{short?}
 use Rattle.triples.specs.declared.Node.{Node}
@@ -45,4 +46,4 @@ closed-in qs ws xs o n = of-closure 64 (original qs o n) (triples-in qs ws xs)
 
 -- the node of a kept closure of n symbols of the question from o on; its kinds are still to come
 abbrev pub kept-node : ℕ → ℕ → Node
-kept-node o n = record { made = 133; left = o; right = n; size = n + 1; from = record { 0 = 0 }; to = record { 0 = 0 } }
+kept-node o n = record { made = code s-closure; left = o; right = n; size = n + 1; from = record { 0 = 0 }; to = record { 0 = 0 } }

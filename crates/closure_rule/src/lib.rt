@@ -1,5 +1,6 @@
 // The rule of inference of a closure over the table of nodes: walks that meet no cyclic kind, and closures that are kept.
 use fields::Kind;
+use rules::PairOperator;
 use rules::Part;
 use triples::Node;
 use triples::Span;
@@ -42,7 +43,7 @@ fn grow_walks(words: &mut [u64], question: &[u8], s: usize, f: usize) -> usize
     let mut count = f;
     let mut i = s;
     while i < s + count {
-        count = rules::add_row(words, question, triples::JOIN, s, count, i, first);
+        count = rules::add_row(words, question, PairOperator::Join, s, count, i, first);
         if triples::MOST < count {
             return count;
         }
@@ -59,7 +60,7 @@ fn kept_node(o: usize, n: usize) -> Node
     ensures { λ r. ⌜ r ≡ kept-node o n ⌝ }
 {
     Node {
-        made: triples::CLOSURE,
+        made: symbols::CLOSURE,
         left: o,
         right: n,
         size: n + 1,

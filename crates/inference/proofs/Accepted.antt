@@ -11,6 +11,7 @@ use Rattle.theory.specs.Result.{got}
 use Rattle.fields.specs.Padded.{padded}
 use Rattle.fields.specs.Reading.{read}
 use Rattle.fields.proofs.Padded.{pad-length}
+use Rattle.symbols.proofs.Numbers.{code-number}
 use Rattle.question.specs.Form.{question-form, question-symbols}
 use Rattle.question.proofs.Paths.{accepted-question}
 use Rattle.inference.specs.Questions.{Asking}
@@ -31,7 +32,7 @@ asks s cs e ws K room kinds =
     record {
       long = pad-length 32 cs few;
       few = few;
-      known = λ k l. rw (code-at 32 cs k l) (a .known k l);
+      known = λ k l. rw (code-at 32 cs k l) (record { is = code-number (getD cs k 0) (a .known k l) });
       path = p;
       is = ap (λ (xs : List ℕ). path-of (question-symbols xs)) (taken-codes 32 cs) ∙ a .path;
       room = room;

@@ -1,7 +1,6 @@
 -- The part on top of the stack, read back from the question's codes.
 -- Assumes nothing.
-use mathlib.Core.Path.{_≡_, refl, sym, ap, ap₂, _∙_}
-use mathlib.Core.Logic.{inl}
+use mathlib.Core.Path.{_≡_, refl, sym, ap, ap₂, _∙_, subst}
 use mathlib.Core.List.{List, [], _∷_, _++_, map, map-append}
 use Prim.Native.Nat.{ℕ, suc, _+_, _-_, _<_, _≤_}
 use native.Mathlib.Omega.{arith}
@@ -11,28 +10,36 @@ use Rattle.theory.specs.PathExpr.{any, through, PathExpr, Symbol, s-step, s-joi
 use Rattle.theory.specs.Postfix.{Stack}
 use Rattle.theory.specs.JoinSets.{set-of, sets-of}
 use Rattle.theory.proofs.Postfix.{path-of-postfix, symbols}
-use Rattle.symbols.specs.Symbols.{Numbered, numbered, symbol-numbered, number-symbol}
-use Rattle.symbols.proofs.Numbers.{symbol-comes}
+use Rattle.symbols.specs.Symbols.{symbol-numbered}
 use Rattle.question.specs.Form.{question-symbols}
-use Rattle.question.proofs.Paths.{Known, known-codes}
-use Rattle.triples.specs.Paths.{original, Copied}
+use Rattle.triples.specs.Paths.{original, Coded, Copied}
 use Rattle.inference.specs.Questions.{symbols-of}
 
 pub symbols-length : (qs : List ℕ) (i : ℕ) → i ≤ length qs → length (symbols-of qs i) ≡ i
 symbols-length qs i h = length-map (take i qs) (λ c. _) ∙ length-take-le i qs h
 
-set-number : (s : Symbol) → set-of s ≡ number-symbol s .set
-set-number (s-step d l) = refl
-set-number (s-join any) = refl
-set-number (s-join (through m)) = refl
-set-number (s-op o) = refl
-set-number s-closure = refl
+-- ---- the codes of symbols: they come back, and no symbol has a set
+abbrev pub AllCoded : List ℕ → Type 0
+AllCoded cs = (k : ℕ) → k < length cs → Coded (getD cs k 0)
 
-no-sets : (cs : List ℕ) → Known cs → map set-of (question-symbols cs) ≡ replicate (length cs) 0
+back-codes : (cs : List ℕ) → AllCoded cs → map code (question-symbols cs) ≡ cs
+back-codes [] h = refl
+back-codes (c ∷ cs) h = ap₂ (λ (x : ℕ) (l : List ℕ). x ∷ l) (h 0 (omega arith) .is) (back-codes cs (λ k l. h (suc k) (omega arith)))
+
+no-set : (c : ℕ) → Coded c → set-of (symbol-numbered c 0) ≡ 0
+unfolding symbol-numbered
+no-set c h = go (symbol-numbered c 0) refl (h .is)
+  where
+    go : (s : Symbol) → symbol-numbered c 0 ≡ s → code s ≡ c → set-of s ≡ 0
+    go (s-step d l) e k = refl
+    go (s-join any) e k = refl
+    go (s-join (through m)) e k = sym (ap set-of (subst (λ (n : ℕ). symbol-numbered n 0 ≡ s-join (through m)) (sym k) e))
+    go (s-op o) e k = refl
+    go s-closure e k = refl
+
+no-sets : (cs : List ℕ) → AllCoded cs → map set-of (question-symbols cs) ≡ replicate (length cs) 0
 no-sets [] h = refl
-no-sets (c ∷ cs) h =
-    ap₂ (λ (x : ℕ) (l : List ℕ). x ∷ l) (set-number (symbol-numbered c 0) ∙ ap (λ (x : Numbered). x .set) (symbol-comes (numbered c 0) (inl (h 0 (omega arith), refl)) .1))
-    (no-sets cs (λ k l. h (suc k) (omega arith)))
+no-sets (c ∷ cs) h = ap₂ (λ (x : ℕ) (l : List ℕ). x ∷ l) (no-set c (h 0 (omega arith))) (no-sets cs (λ k l. h (suc k) (omega arith)))
 
 -- the first i symbols are those of a stack, and those of its top start at o
 module _ (qs : List ℕ) (p : PathExpr) (st : Stack) (o i : ℕ) (h : i ≤ length qs) (is : symbols (p ∷ st) ≡ symbols-of qs i) (at : o ≡ length (symbols st)) where
@@ -60,17 +67,17 @@ module _ (qs : List ℕ) (p : PathExpr) (st : Stack) (o i : ℕ) (h : i ≤ leng
   unfolding original
   top-original = rw (← top-symbols, path-of-postfix p)
 
-  pub top-copied : ((k : ℕ) → k < i → getD qs k 0 < 134) → Copied qs o (i - o)
+  pub top-copied : ((k : ℕ) → k < i → Coded (getD qs k 0)) → Copied qs o (i - o)
   top-copied known =
       record {
         inside = omega (arith, top-back);
-        same-codes = ap (λ (r : PathExpr). map code (postfix r)) top-original ∙ ap (map code) top-symbols ∙ known-codes cs known-cs;
+        same-codes = ap (λ (r : PathExpr). map code (postfix r)) top-original ∙ ap (map code) top-symbols ∙ back-codes cs known-cs;
         no-sets =
             ap (λ (r : PathExpr). sets-of r) top-original ∙ ap (map set-of) top-symbols ∙ no-sets cs known-cs
             ∙ ap (λ (n : ℕ). replicate n 0) cs-length;
       }
     where
-      known-cs : Known cs
+      known-cs : AllCoded cs
       known-cs k l =
           let m : k < i - o = omega (arith, cs-length, l) in
           rw (getD-take (i - o) (drop o qs) k 0 m, getD-drop o qs k 0) (known (o + k) (omega (arith, top-back)))

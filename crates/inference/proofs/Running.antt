@@ -1,6 +1,6 @@
 -- All symbols of a question, one after the other: how the loop starts, goes on and ends.
 -- Assumes nothing.
-use mathlib.Core.Path.{_≡_, refl, sym, ap, _∙_, subst}
+use mathlib.Core.Path.{_≡_, refl, sym, ap, ap₂, _∙_, subst}
 use mathlib.Core.List.{List, [], _∷_, _++_}
 use mathlib.Core.Option.{Option}
 use Prim.Native.Nat.{ℕ, suc, _+_, _-_, _<_, _≤_}
@@ -30,7 +30,7 @@ use Rattle.rules.specs.Outcome.{outcome, fault-of, Ruled}
 use Rattle.rules.proofs.RuleOutcome.{outcome-fault}
 use Rattle.inference.specs.declared.Operand.{Operand}
 use Rattle.inference.specs.declared.Inferred.the-variants.{Triples, Refused}
-use Rattle.inference.specs.Turns.{of-code, made-of, origin-of}
+use Rattle.inference.specs.Turns.{of-symbol, made-of, origin-of}
 use Rattle.inference.specs.Questions.{symbols-of, Asking, Sheeted, Nodes, Infers}
 use Rattle.inference.proofs.Stacks.{Standing, standing-new, no-operand, Stacked, bottom, above, stacked-kept, stacked-set}
 use Rattle.inference.proofs.Turning.{symbols-from, from-next, of-next, Running, Turn, turn-at}
@@ -53,26 +53,26 @@ running-start {qs} {ws} {t} {count} h =
     }
 
 module _ {qs ws₀ ws t : List ℕ} {count K depth used i : ℕ} {xs : List Operand} (h : Asking qs ws₀ count K) (g : Running qs ws₀ ws t count K (h .path) xs depth used i) where
-  -- ---- a symbol, which takes k operands
-  module _ (l : i < count) {k : ℕ} (takes : k ≡ arity (getD qs i 0)) {ws′ : List ℕ} {r : Part}
-      (f : Ruled qs ws ws′ used (made-of qs ws t K (getD qs i 0) i (getD xs (depth - k) no-operand) (getD xs (depth - k + 1) no-operand)) r) where
+  -- ---- a symbol, which takes n operands
+  module _ (l : i < count) {k : Symbol} (is : k ≡ symbol-numbered (getD qs i 0) 0) {n : ℕ} (takes : n ≡ arity (getD qs i 0)) {ws′ : List ℕ} {r : Part}
+      (f : Ruled qs ws ws′ used (made-of qs ws t K k i (getD xs (depth - n) no-operand) (getD xs (depth - n + 1) no-operand)) r) where
     abbrev b : ℕ
-    b = depth - k
+    b = depth - n
 
-    abbrev u : Turn qs ws t K xs (g .stack) (getD qs i 0) depth used i b
-    u = turn-at h g l takes
+    abbrev u : Turn qs ws t K xs (g .stack) k depth used i b
+    u = turn-at h g l is takes
 
     abbrev x : Operand
     x = getD xs b no-operand
 
     abbrev given : List Triple
-    given = of-code t K (getD qs i 0) (original qs (x .from) (i - x .from)) (triples-in qs ws (x .nodes)) (triples-in qs ws (getD xs (b + 1) no-operand .nodes))
+    given = of-symbol t K k (original qs (x .from) (i - x .from)) (triples-in qs ws (x .nodes)) (triples-in qs ws (getD xs (b + 1) no-operand .nodes))
 
     abbrev ss : List Symbol
     ss = symbols-from qs count (i + 1)
 
-    next : symbols-from qs count i ≡ symbol-numbered (getD qs i 0) 0 ∷ ss
-    next = from-next qs count i l (omega (arith, h .long, h .few))
+    next : symbols-from qs count i ≡ k ∷ ss
+    next = from-next qs count i l (omega (arith, h .long, h .few)) ∙ ap (λ (y : Symbol). y ∷ ss) (sym is)
 
     abbrev st : Stack
     st = u .top ∷ u .below
@@ -86,14 +86,14 @@ module _ {qs ws₀ ws t : List ℕ} {count K depth used i : ℕ} {xs : List Oper
     -- the refusals, by the rule's outcome
     by-outcome : (S : Sheet) → Sheeted t K S → (o : Narrowing)
         → refuse (part-fault S) 0 (ended (symbols-of qs count) []) o ≡ unless (fault-of r) i (refuse (part-fault S) (i + 1) (ended ss st) o)
-    by-outcome S k o =
-        sym (g .left S k o)
+    by-outcome S a o =
+        sym (g .left S a o)
         ∙ ap (λ (ps : List PathExpr). refuse (part-fault S) i ps o) part-ended
         ∙ ap (λ (n : ℕ). unless n i (refuse (part-fault S) (suc i) (ended ss st) o)) fault
         ∙ ap (λ (n : ℕ). unless (fault-of r) i (refuse (part-fault S) n (ended ss st) o)) (sym (add-one i))
       where
         fault : part-fault S (u .top) ≡ fault-of r
-        fault = sym (outcome-fault S (u .top)) ∙ ap (λ (ts : List Triple). fault-of (outcome ts)) (sym (u .is S k)) ∙ ap fault-of (sym (f .is))
+        fault = sym (outcome-fault S (u .top)) ∙ ap (λ (ts : List Triple). fault-of (outcome ts)) (sym (u .is S a)) ∙ ap fault-of (sym (f .is))
 
     refuses : (x : Refusal) → ((o : Narrowing) → unless (fault-of r) i o ≡ refused (number-of x) (place-of x)) → Infers qs ws₀ ws′ t count K (Refused x)
     refuses x e =
@@ -109,32 +109,32 @@ module _ {qs ws₀ ws t : List ℕ} {count K depth used i : ℕ} {xs : List Oper
     pub running-long : r ≡ Long → Infers qs ws₀ ws′ t count K (Refused (TooLong i))
     running-long e = refuses (TooLong i) (λ o. ap (λ (a : Part). unless (fault-of a) i o) e)
 
-    pub running-more : {n o : ℕ} → r ≡ Made n → o ≡ origin-of (getD qs i 0) i (getD xs b no-operand)
-        → Running qs ws₀ ws′ t count K (h .path) (set xs b (record { nodes = span used (used + n); from = o })) (b + 1) (used + n) (i + 1)
-    running-more {n} {o} e at =
+    pub running-more : {m o : ℕ} → r ≡ Made m → o ≡ origin-of k i (getD xs b no-operand)
+        → Running qs ws₀ ws′ t count K (h .path) (set xs b (record { nodes = span used (used + m); from = o })) (b + 1) (used + m) (i + 1)
+    running-more {m} {o} e at =
         record {
           kept = kept-more;
           stack = st;
           deep = omega (arith, u .deep);
           stacked = above
-              (subst (λ (y : Operand). Standing qs ws′ t K (used + n) y (u .top)) placed (standing-new given f e (u .is)))
+              (subst (λ (y : Operand). Standing qs ws′ t K (used + m) y (u .top)) placed (standing-new given f e (u .is)))
               (ap (λ (y : Operand). y .from) (sym placed) ∙ at ∙ u .origin)
               (stacked-set b new (omega (arith, u .deep)) (stacked-kept (f .kept) (omega arith) (u .stacked)));
-          sound = f .sound n e;
-          small = omega (arith, g .small, f .few n e);
+          sound = f .sound m e;
+          small = omega (arith, g .small, f .few m e);
           here = omega arith;
           fewer = omega (arith, g .fewer, u .takes);
           long = length-set xs b new ∙ g .long;
           so-far =
-              push-symbols (symbol-numbered (getD qs i 0) 0) (g .stack) st (u .pushes)
-              ∙ ap (λ (ks : List Symbol). ks ++ (symbol-numbered (getD qs i 0) 0 ∷ [])) (g .so-far)
+              push-symbols k (g .stack) st (u .pushes)
+              ∙ ap₂ (λ (ks : List Symbol) (y : Symbol). ks ++ (y ∷ [])) (g .so-far) is
               ∙ sym (of-next qs i (omega (arith, h .long, h .few)));
           ahead = sym (ap (λ (ks : List Symbol). read ks (g .stack)) next ∙ ap (λ (a : Option Stack). go-on a (read ss)) (u .pushes)) ∙ g .ahead;
-          left = λ S k a. sym (by-outcome S k a ∙ ap (λ (p : Part). unless (fault-of p) i (refuse (part-fault S) (i + 1) (ended ss st) a)) e);
+          left = λ S c a. sym (by-outcome S c a ∙ ap (λ (p : Part). unless (fault-of p) i (refuse (part-fault S) (i + 1) (ended ss st) a)) e);
         }
       where
         new : Operand
-        new = record { nodes = span used (used + n); from = o }
+        new = record { nodes = span used (used + m); from = o }
 
         placed : new ≡ getD (set xs b new) (length (u .below)) no-operand
         placed = sym (ap (λ (k : ℕ). getD (set xs b new) k no-operand) (sym (u .deep)) ∙ getD-set-same xs b new no-operand (omega (arith, g .long, g .fewer, u .takes, h .few)))

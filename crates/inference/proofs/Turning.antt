@@ -1,32 +1,30 @@
 -- The next symbol of a question: it finds its operands' parts on the stack, its rule's demands are met, and the rule's triples are those of the path that it makes.
 -- Assumes nothing.
-use mathlib.Core.Path.{_≡_, sym, ap, ap₂, _∙_, subst}
-use mathlib.Core.Logic.{⊎-elim}
+use mathlib.Core.Path.{_≡_, refl, sym, ap, ap₂, _∙_, subst}
 use mathlib.Core.List.{List, [], _∷_, _++_, map-append}
 use mathlib.Core.Option.{some}
 use Prim.Native.Nat.{ℕ, _+_, _-_, _*_, _<_, _≤_}
 use native.Mathlib.Numerals.{add-one}
 use native.Mathlib.Omega.{arith}
+use lib.Dec.{ltb→lt}
 use lib.ListN.{length, getD, take, drop}
 use lib.Seq.{take-suc, slice-cons}
-use Rattle.theory.specs.PathExpr.{PathExpr, step, closure, Symbol}
+use Rattle.theory.specs.PathExpr.{Direction, named, PathExpr, step, closure, Symbol, s-step, s-join, s-op, s-closure}
 use Rattle.theory.specs.Postfix.{Stack, two-operands, push, read, ended}
 use Rattle.theory.specs.Sheet.{Sheet}
 use Rattle.theory.specs.Inference.{Triple, distinct, of-closure, triples}
 use Rattle.theory.specs.Narrowing.{Narrowing, refuse, part-fault}
 use Rattle.theory.proofs.Postfix.{symbols, Step, read-step}
-use Rattle.symbols.specs.Symbols.{symbol-numbered, arity}
+use Rattle.symbols.specs.Symbols.{symbol-numbered, operands, arity}
+use Rattle.symbols.proofs.Numbers.{step-below}
 use Rattle.question.specs.Form.{question-symbols}
 use Rattle.rows.specs.Kept.{Kept}
-use Rattle.rows.proofs.Words.{le-or-lt}
-use Rattle.triples.specs.Paths.{Sound}
-use Rattle.triples.proofs.Codes.{step-numbered, closure-numbered}
-use Rattle.rules.specs.PairRules.{of-two}
+use Rattle.triples.specs.Paths.{original, Sound}
 use Rattle.rules.specs.Requirements.{Room}
 use Rattle.inference.specs.declared.Operand.{Operand}
-use Rattle.inference.specs.Turns.{made-of, origin-of, TurnAsks}
+use Rattle.inference.specs.Turns.{of-symbol, made-of, origin-of, TurnAsks}
 use Rattle.inference.specs.Questions.{symbols-of, Asking, Sheeted}
-use Rattle.inference.proofs.Codes.{arity-step, arity-closure, arity-two, origin-step, origin-operator, of-step-code, of-closure-code, of-two-code, binary, step-triples, closure-triples}
+use Rattle.inference.proofs.Codes.{Binary, join-binary, op-binary, step-triples, closure-triples}
 use Rattle.inference.proofs.Originals.{symbols-length, top-back, top-original, top-copied}
 use Rattle.inference.proofs.Stacks.{Standing, no-operand, Stacked, above, one-found, two-found}
 
@@ -56,17 +54,17 @@ pub record Running (qs ws₀ ws t : List ℕ) (count K : ℕ) (path : PathExpr) 
   pub ahead : read (symbols-from qs count i) stack ≡ some (path ∷ [])
   pub left : (S : Sheet) → Sheeted t K S → (o : Narrowing) → refuse (part-fault S) i (ended (symbols-from qs count i) stack) o ≡ refuse (part-fault S) 0 (ended (symbols-of qs count) []) o
 
--- ---- the symbol with code c takes the parts from b on, which leaves the stack `below`, and makes the path `top`
-pub record Turn (qs ws t : List ℕ) (K : ℕ) (xs : List Operand) (st : Stack) (c depth used i b : ℕ) : Type 0 where
+-- ---- symbol k takes the parts from b on, which leaves the stack `below`, and makes the path `top`
+pub record Turn (qs ws t : List ℕ) (K : ℕ) (xs : List Operand) (st : Stack) (k : Symbol) (depth used i b : ℕ) : Type 0 where
   pub below : Stack
   pub top : PathExpr
-  pub pushes : push (symbol-numbered c 0) st ≡ some (top ∷ below)
-  pub takes : depth ≡ b + arity c
+  pub pushes : push k st ≡ some (top ∷ below)
+  pub takes : depth ≡ b + operands k
   pub deep : b ≡ length below
   pub stacked : Stacked qs ws t K used xs below
-  pub origin : origin-of c i (getD xs b no-operand) ≡ length (symbols below)
-  pub asks : TurnAsks qs ws K c used i (getD xs b no-operand) (getD xs (b + 1) no-operand)
-  pub is : (S : Sheet) → Sheeted t K S → made-of qs ws t K c i (getD xs b no-operand) (getD xs (b + 1) no-operand) ≡ triples S top
+  pub origin : origin-of k i (getD xs b no-operand) ≡ length (symbols below)
+  pub asks : TurnAsks qs ws K k used i (getD xs b no-operand) (getD xs (b + 1) no-operand)
+  pub is : (S : Sheet) → Sheeted t K S → made-of qs ws t K k i (getD xs b no-operand) (getD xs (b + 1) no-operand) ≡ triples S top
 
 module _ {qs ws₀ ws t : List ℕ} {count K depth used i : ℕ} {xs : List Operand} (h : Asking qs ws₀ count K) (g : Running qs ws₀ ws t count K (h .path) xs depth used i) (l : i < count) where
   abbrev c : ℕ
@@ -93,112 +91,106 @@ module _ {qs ws₀ ws t : List ℕ} {count K depth used i : ℕ} {xs : List Oper
   in-array : i ≤ length qs
   in-array = omega (arith, h .long, h .few)
 
-  abbrev T : ℕ → Type 0
-  T b = Turn qs ws t K xs (g .stack) c depth used i b
+  abbrev T : Symbol → ℕ → Type 0
+  T k b = Turn qs ws t K xs (g .stack) k depth used i b
 
-  step-turn : c < 128 → T (depth - arity c)
-  step-turn m =
-      let (d, k, s) = step-numbered c m in
-      let e : length (g .stack) ≡ depth - arity c = omega (arith, arity-step c m, g .deep) in
-      subst T e (record {
+  step-turn : (d : Direction) (j : ℕ) → x ≡ s-step d (named j) → T (s-step d (named j)) depth
+  step-turn d j s =
+      subst (T (s-step d (named j))) (sym (g .deep)) (record {
         below = g .stack;
-        top = step d k;
-        pushes = ap (λ (y : Symbol). push y (g .stack)) s;
-        takes = omega (arith, arity-step c m, g .deep);
-        deep = omega arith;
+        top = step d (named j);
+        pushes = refl;
+        takes = omega (arith, g .deep);
+        deep = refl;
         stacked = g .stacked;
-        origin = origin-step c i _ m ∙ sym (ap length (g .so-far) ∙ symbols-length qs i in-array);
-        asks = record {
-          code = h .known i l;
-          kinds = h .kinds;
-          room = room;
-          back = λ q. absurd (omega arith);
-          closing = λ q. absurd (omega arith);
-          two = λ n. absurd (omega arith);
-        };
-        is = λ S r. ap distinct (of-step-code t K c _ _ _ m) ∙ step-triples r c d k m s;
+        origin = sym (ap length (g .so-far) ∙ symbols-length qs i in-array);
+        asks = record { kinds = h .kinds; room = room; parts = ltb→lt j 64 (step-below c 0 d (named j) s) };
+        is = λ S r. step-triples r d j;
       })
 
-  closure-over : c ≡ 133 → (p : PathExpr) (rest : Stack) → g .stack ≡ p ∷ rest → Stacked qs ws t K used xs (p ∷ rest) → T (depth - arity c)
-  closure-over q p rest e (above w f below) =
+  closure-over : (p : PathExpr) (rest : Stack) → g .stack ≡ p ∷ rest → Stacked qs ws t K used xs (p ∷ rest) → T s-closure (depth - 1)
+  closure-over p rest e (above w f below) =
       let o = getD xs (length rest) no-operand .from in
       let so-far : symbols (p ∷ rest) ≡ symbols-of qs i = ap symbols (sym e) ∙ g .so-far in
       let back : o ≤ i = top-back qs p rest o i in-array so-far f in
-      let d : length rest ≡ depth - arity c = omega (arith, arity-closure c q, g .deep, ap length e) in
-      subst T d (record {
+      let d : length rest ≡ depth - 1 = omega (arith, g .deep, ap length e) in
+      subst (T s-closure) d (record {
         below = rest;
         top = closure p;
-        pushes = ap₂ push (closure-numbered c q) e;
-        takes = omega (arith, arity-closure c q, g .deep, ap length e);
-        deep = omega arith;
+        pushes = ap (push s-closure) e;
+        takes = omega (arith, g .deep, ap length e);
+        deep = refl;
         stacked = below;
-        origin = origin-operator c i _ (omega arith) ∙ f;
+        origin = f;
         asks = record {
-          code = h .known i l;
           kinds = h .kinds;
           room = room;
-          back = λ z. back;
-          closing = λ z. record {
-            room = room;
-            lies = w .lies;
-            few = w .few;
-            norepeat = w .norepeat;
-            copied = top-copied qs p rest o i in-array so-far f (λ k m. h .known k (omega arith));
-            place = omega (arith, back, h .few);
-            symbols = omega (arith, h .few);
-          };
-          two = λ m n. absurd (omega arith);
+          parts = (
+            back,
+            record {
+              room = room;
+              lies = w .lies;
+              few = w .few;
+              norepeat = w .norepeat;
+              copied = top-copied qs p rest o i in-array so-far f (λ k m. h .known k (omega arith));
+              place = omega (arith, back, h .few);
+              symbols = omega (arith, h .few);
+            },
+          );
         };
         is = λ S r.
-            ap distinct (of-closure-code t K c _ _ _ q)
-            ∙ ap₂ (λ (p : PathExpr) (ts : List Triple). distinct (of-closure 64 p ts)) (top-original qs p rest o i in-array so-far f) (w .is S r)
+            ap₂ (λ (p : PathExpr) (ts : List Triple). distinct (of-closure 64 p ts)) (top-original qs p rest o i in-array so-far f) (w .is S r)
             ∙ closure-triples r p;
       })
 
-  closure-turn : c ≡ 133 → T (depth - arity c)
-  closure-turn q =
-      let (p, rest, e) = one-found closure (g .stack) (one .next) (ap (λ (y : Symbol). push y (g .stack)) (sym (closure-numbered c q)) ∙ one .pushes) in
-      closure-over q p rest e (subst (Stacked qs ws t K used xs) e (g .stacked))
+  closure-turn : x ≡ s-closure → T s-closure (depth - 1)
+  closure-turn s =
+      let (p, rest, e) = one-found closure (g .stack) (one .next) (ap (λ (y : Symbol). push y (g .stack)) (sym s) ∙ one .pushes) in
+      closure-over p rest e (subst (Stacked qs ws t K used xs) e (g .stacked))
 
-  two-over : (m : 128 ≤ c) (n : c < 133) (q p : PathExpr) (rest : Stack) → g .stack ≡ q ∷ p ∷ rest → Stacked qs ws t K used xs (q ∷ p ∷ rest) → T (depth - arity c)
-  two-over m n q p rest e (above v₀ f₀ (above w f below)) =
-      let v = subst (λ (k : ℕ). Standing qs ws t K used (getD xs k no-operand) q) (sym (add-one (length rest))) v₀ in
-      let d : length rest ≡ depth - arity c = omega (arith, arity-two c m n, g .deep, ap length e) in
-      subst T d (record {
+  two-over : (k : Symbol) (b : Binary k) (q p : PathExpr) (rest : Stack) → g .stack ≡ q ∷ p ∷ rest → Stacked qs ws t K used xs (q ∷ p ∷ rest) → T k (depth - operands k)
+  two-over k b q p rest e (above v₀ f₀ (above w f below)) =
+      let v = subst (λ (n : ℕ). Standing qs ws t K used (getD xs n no-operand) q) (sym (add-one (length rest))) v₀ in
+      let o = getD xs (length rest) no-operand .from in
+      let first = original qs o (i - o) in
+      let d : length rest ≡ depth - operands k = omega (arith, b .takes, g .deep, ap length e) in
+      subst (T k) d (record {
         below = rest;
-        top = binary c m n .make p q;
-        pushes = binary c m n .pushes (g .stack) ∙ ap (two-operands (binary c m n .make)) e;
-        takes = omega (arith, arity-two c m n, g .deep, ap length e);
-        deep = omega arith;
+        top = b .make p q;
+        pushes = b .pushes (g .stack) ∙ ap (two-operands (b .make)) e;
+        takes = omega (arith, b .takes, g .deep, ap length e);
+        deep = refl;
         stacked = below;
-        origin = origin-operator c i _ m ∙ f;
+        origin = b .starts i (getD xs (length rest) no-operand) ∙ f;
         asks = record {
-          code = h .known i l;
           kinds = h .kinds;
           room = room;
-          back = λ z. absurd (omega arith);
-          closing = λ z. absurd (omega arith);
-          two = λ m n. record { two = record { room = room; left = w .lies; right = v .lies }; left-short = w .short; right-short = v .short };
+          parts = b .asks qs ws used i _ _ (record { two = record { room = room; left = w .lies; right = v .lies }; left-short = w .short; right-short = v .short });
         };
         is = λ S r.
-            ap distinct (of-two-code t K c _ _ _ m (λ z. omega arith))
-            ∙ ap₂ (λ (us vs : List Triple). distinct (of-two c us vs)) (w .is S r) (v .is S r)
-            ∙ binary c m n .gives S p q;
+            ap₂ (λ (us vs : List Triple). distinct (of-symbol t K k first us vs)) (w .is S r) (v .is S r)
+            ∙ b .gives t K S first p q;
       })
 
-  two-turn : 128 ≤ c → c < 133 → T (depth - arity c)
-  two-turn m n =
-      let (q, p, rest, e) = two-found (binary c m n .make) (g .stack) (one .next) (sym (binary c m n .pushes (g .stack)) ∙ one .pushes) in
-      two-over m n q p rest e (subst (Stacked qs ws t K used xs) e (g .stacked))
+  two-turn : (k : Symbol) → Binary k → x ≡ k → T k (depth - operands k)
+  two-turn k b s =
+      let (q, p, rest, e) = two-found (b .make) (g .stack) (one .next) (sym (b .pushes (g .stack)) ∙ ap (λ (y : Symbol). push y (g .stack)) (sym s) ∙ one .pushes) in
+      two-over k b q p rest e (subst (Stacked qs ws t K used xs) e (g .stacked))
 
-  turn : T (depth - arity c)
-  turn =
-      ⊎-elim (λ (m : 128 ≤ c). ⊎-elim (λ (n : 133 ≤ c). closure-turn (omega (arith, h .known i l))) (λ (n : c < 133). two-turn m n) (le-or-lt 133 c))
-      (λ (m : c < 128). step-turn m) (le-or-lt 128 c)
+  turn : (k : Symbol) → x ≡ k → T k (depth - operands k)
+  turn (s-step d (named j)) s = let z : depth ≡ depth - 0 = omega arith in subst (T (s-step d (named j))) z (step-turn d j s)
+  turn (s-join v) s = two-turn (s-join v) (join-binary v) s
+  turn (s-op o) s = two-turn (s-op o) (op-binary o) s
+  turn s-closure s = closure-turn s
 
-  -- the code's number of operands
-  pub enough : {k : ℕ} → k ≡ arity c → k ≤ depth
-  enough e = omega (arith, turn .takes)
+  -- what the code knows: the symbol, and how many operands it takes
+  module _ {k : Symbol} (is : k ≡ symbol-numbered (getD qs i 0) 0) {n : ℕ} (takes : n ≡ arity (getD qs i 0)) where
+    counted : n ≡ operands k
+    unfolding arity
+    counted = takes ∙ ap operands (sym is)
 
-  pub turn-at : {k : ℕ} → k ≡ arity c → T (depth - k)
-  turn-at e = subst (λ (k : ℕ). T (depth - k)) (sym e) turn
+    pub enough : n ≤ depth
+    enough = omega (arith, turn k (sym is) .takes, counted)
+
+    pub turn-at : Turn qs ws t K xs (g .stack) k depth used i (depth - n)
+    turn-at = subst (λ (m : ℕ). T k (depth - m)) (sym counted) (turn k (sym is))

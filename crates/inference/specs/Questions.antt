@@ -16,7 +16,7 @@ use Rattle.theory.specs.Result.{refused}
 use Rattle.fields.specs.Contract.{number-of, place-of}
 use Rattle.question.specs.Form.{question-symbols}
 use Rattle.rows.specs.Kept.{Kept}
-use Rattle.triples.specs.Paths.{Sound}
+use Rattle.triples.specs.Paths.{Coded, Sound}
 use Rattle.rules.specs.Requirements.{part}
 use Rattle.rules.specs.StepTriples.{Tabled}
 use Rattle.inference.specs.declared.Inferred.{Inferred}
@@ -30,7 +30,7 @@ symbols-of qs count = question-symbols (take count qs)
 pub record Asking (qs ws : List ℕ) (count K : ℕ) : Type 0 where
   pub long : length qs ≡ 32
   pub few : count ≤ 32
-  pub known : (k : ℕ) → k < count → getD qs k 0 < 134
+  pub known : (k : ℕ) → k < count → Coded (getD qs k 0)
   pub path : PathExpr
   pub is : path-of (symbols-of qs count) ≡ some path
   pub room : 4097 ≤ length ws

@@ -1,10 +1,12 @@
 // The triples of a question, symbol by symbol, over the table of nodes.
 use fields::Refusal;
+use rules::PairOperator;
 use rules::Part;
+use symbols::Symbol;
 use triples::Span;
 ghost use mathlib.Core.Path.{_≡_};
-ghost use Rattle.rules.specs.Outcome.{Ruled};
-ghost use Rattle.inference.specs.Turns.{TurnAsks, origin-of, made-of};
+ghost use Rattle.symbols.specs.Contract.{symbol-said};
+ghost use Rattle.inference.specs.Turns.{TurnAsks, TurnMakes, origin-of};
 ghost use Rattle.inference.specs.Questions.{Asking, Infers};
 
 // The triples of the question, as nodes from the one number up to the other; or 12 or 13 at the first symbol that has
@@ -29,41 +31,45 @@ const NONE: Operand = Operand {
     from: 0,
 };
 
-// The rule of symbol i, of code c, on the parts x and y (a closure: x alone); its part's nodes start at `used`.
+// The rule of symbol i, which is k, on the parts x and y (a closure: x alone); its part's nodes start at `used`.
 fn rule(
     words: &mut [u64],
     question: &[u8],
     table: &[u64; sheet::TABLE],
     kinds: usize,
-    c: u8,
+    k: Symbol,
     used: usize,
     i: usize,
     x: Operand,
     y: Operand,
 ) -> Part
-    requires { ⌜ TurnAsks (now question) (now words) kinds c used i x y ⌝ }
-    ensures { λ r. ⌜ Ruled (now (question .entry)) (now (words .entry)) (now (words .exit)) used (made-of (now (question .entry)) (now (words .entry)) (now (table .entry)) kinds c i x y) r ⌝ }
+    requires { ⌜ TurnAsks (now question) (now words) kinds (symbol-said k) used i x y ⌝ }
+    ensures { λ r. ⌜ TurnMakes (now (question .entry)) (now (words .entry)) (now (words .exit)) (now (table .entry)) kinds (symbol-said k) used i x y r ⌝ }
 {
-    if c < symbols::STEPS {
-        return rules::step_rule(words, question, table, kinds, c as usize, used);
+    match k {
+        Symbol::Step(direction, link) => {
+            rules::step_rule(words, question, table, kinds, direction, link, used)
+        }
+        Symbol::Join(_) => {
+            rules::pair_rule(words, question, PairOperator::Join, used, x.nodes, y.nodes)
+        }
+        Symbol::Op(o) => rules::op_rule(words, question, o, used, x.nodes, y.nodes),
+        Symbol::Closure => {
+            closure_rule::closure_rule(words, question, used, x.nodes, x.from, i - x.from)
+        }
     }
-    if c == symbols::CLOSURE {
-        return closure_rule::closure_rule(words, question, used, x.nodes, x.from, i - x.from);
-    }
-    if c == symbols::UNION {
-        return rules::union_rule(words, question, used, x.nodes, y.nodes);
-    }
-    rules::pair_rule(words, question, c as usize, used, x.nodes, y.nodes)
 }
 
 // Where the symbols of the new part start: a step's here, an operator's where those of its first operand do.
-fn origin(c: u8, i: usize, x: Operand) -> usize
-    ensures { λ r. ⌜ r ≡ origin-of c i x ⌝ }
+fn origin(k: Symbol, i: usize, x: Operand) -> usize
+    ensures { λ r. ⌜ r ≡ origin-of (symbol-said k) i x ⌝ }
 {
-    if c < symbols::STEPS {
-        return i;
+    match k {
+        Symbol::Step(_, _) => i,
+        Symbol::Join(_) => x.from,
+        Symbol::Op(_) => x.from,
+        Symbol::Closure => x.from,
     }
-    x.from
 }
 
 // The triples of a question of `count` symbols, by a sheet's table of `kinds` kinds.
@@ -83,9 +89,10 @@ pub fn infer(
     let mut used: usize = 0;
     for i in 0..count {
         let c = question[i];
+        let k = symbols::decode(c, 0);
         let b = depth - symbols::operands(c) as usize;
         let x = parts[b];
-        match rule(words, question, table, kinds, c, used, i, x, parts[b + 1]) {
+        match rule(words, question, table, kinds, k, used, i, x, parts[b + 1]) {
             Part::Long => {
                 return Inferred::Refused(Refusal::TooLong(i));
             }
@@ -99,7 +106,7 @@ pub fn infer(
                 };
                 parts[b] = Operand {
                     nodes,
-                    from: origin(c, i, x),
+                    from: origin(k, i, x),
                 };
                 depth = b + 1;
                 used += n;

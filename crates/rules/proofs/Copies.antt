@@ -1,24 +1,22 @@
 -- A copy of a node at the end has the node's triple; a run of copies adds a part.
 -- Assumes nothing.
-use mathlib.Core.Path.{_≡_, sym, ap, _∙_}
-use mathlib.Core.Logic.{⊎-elim}
+use mathlib.Core.Path.{_≡_, refl, sym, ap, _∙_, subst}
 use mathlib.Core.List.{List, [], _∷_}
 use Prim.Native.Nat.{ℕ, _+_, _<_, _≤_}
-use native.Mathlib.Nat.{eq-or-lt-of-le}
 use native.Mathlib.Omega.{arith}
 use lib.ListN.{length, set}
-use Rattle.theory.specs.PathExpr.{closure}
+use Rattle.theory.specs.PathExpr.{closure, Symbol, s-step, s-join, s-op, s-closure}
 use Rattle.theory.specs.Inference.{Triple}
+use Rattle.symbols.specs.Symbols.{symbol-numbered}
 use Rattle.rows.specs.Kept.{Kept}
-use Rattle.rows.proofs.Words.{le-or-lt, kept-set}
+use Rattle.rows.proofs.Words.{kept-set}
 use Rattle.triples.specs.declared.Node.{Node}
 use Rattle.triples.specs.Table.{word-of, InRange, Loaded, node-at}
-use Rattle.triples.specs.Paths.{original, triple-of, Good, Has}
+use Rattle.triples.specs.Paths.{original, triple-of, Two, Founded, Good, Has}
 use Rattle.triples.specs.Parts.{Candidate, Added, span}
 use Rattle.triples.proofs.Words.{node-new}
 use Rattle.triples.proofs.Triples.{triple-two, triple-from, triple-to, triple-kept, path-step, path-kept}
-use Rattle.triples.proofs.Codes.{step-numbered, closure-numbered}
-use Rattle.triples.proofs.Nodes.{known, step-path, kept-path, left-less, right-less}
+use Rattle.triples.proofs.Nodes.{founded, step-path, kept-path}
 use Rattle.triples.proofs.Growing.{part-next, part-over}
 use Rattle.rules.specs.Outcome.{Adds, with-new}
 use Rattle.rules.specs.Requirements.{Room, part, AddCopies}
@@ -41,7 +39,7 @@ module _ {qs ws : List ℕ} {s count i : ℕ} {n : Node} (h : Room qs ws s count
   in-range : InRange n
   in-range =
       record {
-        made-fits = omega (arith, known has n (l .is));
+        made-fits = l .made-small;
         left-fits = l .left-small;
         right-fits = l .right-small;
         size-fits = l .size-small;
@@ -62,28 +60,30 @@ module _ {qs ws : List ℕ} {s count i : ℕ} {n : Node} (h : Room qs ws s count
       let b : triple-of qs ws′ u .to ≡ triple-of qs ws i .to = triple-to qs ws′ u ∙ ap (λ (m : Node). m .to .0) (new ∙ l .is) ∙ sym (triple-to qs ws i) in
       λ j. record { from = a j; path = p j; to = b j }
 
-  two-same : 128 ≤ n .made → ¬ (n .made ≡ 133) → triple-of qs ws′ u ≡ triple-of qs ws i
-  two-same k m =
+  two-same : Two i n → triple-of qs ws′ u ≡ triple-of qs ws i
+  two-same t =
       let e = l .is in
-      let a : n .left < i = left-less has n e k m in
-      let c : n .right < i = right-less has n e k m in
+      let a = t .left-below in
+      let c = t .right-below in
       triple-two qs ws′ u (rw new (omega (arith, b))) (rw new (omega (arith, b)))
       ∙ rw (new, triple-kept kept qs (n .left) (omega (arith, b)), triple-kept kept qs (n .right) (omega (arith, b))) (rw e (sym (triple-two qs ws i (rw e at a) (rw e at c))))
 
-  step-same : n .made < 128 → triple-of qs ws′ u ≡ triple-of qs ws i
-  step-same k =
-      let d = step-numbered (n .made) k in
-      whole (path-step qs ws′ u (d .0) (d .1) (rw new (d .2)) ∙ sym (step-path has n (l .is) (d .0) (d .1) (d .2)))
-
-  kept-same : n .made ≡ 133 → triple-of qs ws′ u ≡ triple-of qs ws i
-  kept-same m = whole (path-kept qs ws′ u (rw new (closure-numbered (n .made) m)) ∙ ap (λ (x : Node). closure (original qs (x .left) (x .right))) new ∙ sym (kept-path has n (l .is) m))
+  -- by the last symbol
+  copy-as : (k : Symbol) → symbol-numbered (n .made) 0 ≡ k → Founded qs i n k → triple-of qs ws′ u ≡ triple-of qs ws i
+  copy-as (s-step d j) m f = whole (path-step qs ws′ u d j (rw new m) ∙ sym (step-path has n (l .is) d j m))
+  copy-as (s-join v) m f = two-same f
+  copy-as (s-op o) m f = two-same f
+  copy-as s-closure m f = whole (path-kept qs ws′ u (rw new m) ∙ ap (λ (x : Node). closure (original qs (x .left) (x .right))) new ∙ sym (kept-path has n (l .is) m))
 
   copy-triple : triple-of qs ws′ u ≡ triple-of qs ws i
-  copy-triple =
-      ⊎-elim
-      (λ (k : 128 ≤ n .made). ⊎-elim kept-same (λ (m : n .made < 133). two-same k (λ z. omega arith)) (eq-or-lt-of-le (omega (arith, known has n (l .is)))))
-      step-same
-      (le-or-lt 128 (n .made))
+  copy-triple = copy-as (symbol-numbered (n .made) 0) refl (founded has n (l .is) (symbol-numbered (n .made) 0) refl)
+
+  -- operands below node i are below the copy
+  founded-on : (k : Symbol) → Founded qs i n k → Founded qs u n k
+  founded-on (s-step d j) f = tt
+  founded-on (s-join v) f = record { left-below = omega (arith, b, f .left-below); right-below = omega (arith, b, f .right-below) }
+  founded-on (s-op o) f = record { left-below = omega (arith, b, f .left-below); right-below = omega (arith, b, f .right-below) }
+  founded-on s-closure f = f
 
   good : Good qs ws i
   good = h .sound .good i b
@@ -98,9 +98,8 @@ module _ {qs ws : List ℕ} {s count i : ℕ} {n : Node} (h : Room qs ws s count
         good = record {
           known = rw (new, e) (good .known);
           sized = rw (copy-triple, new, e) (good .sized);
-          two = rw new (λ a c. let t = good .two (rw e at a)
-              (rw e at c) in record { left-below = rw (new, e) (omega (arith, b, t .left-below)); right-below = rw (new, e) (omega (arith, b, t .right-below)) });
-          kept = rw (new, e) (good .kept);
+          founded = subst (λ (m : Node). Founded qs u m (symbol-numbered (m .made) 0)) (sym new)
+              (founded-on (symbol-numbered (n .made) 0) (founded has n (l .is) (symbol-numbered (n .made) 0) refl));
         };
       }
 

@@ -1,30 +1,26 @@
 -- The triples of a matrix of kinds, added kind by kind, by a node that needs no other.
 -- Assumes nothing.
-use mathlib.Core.Path.{_≡_, sym, ap, _∙_}
+use mathlib.Core.Path.{_≡_, refl, sym, ap, _∙_, subst}
 use mathlib.Core.Bool.{Bool, true, false}
-use mathlib.Core.Logic.{⊎-elim}
 use mathlib.Core.List.{List, []}
-use Prim.Native.Nat.{ℕ, _+_, _/_, _%_, _<_, _≤_}
-use native.Mathlib.Nat.{eq-or-lt-of-le}
+use Prim.Native.Nat.{ℕ, _+_, _/_, _%_, _<_}
 use native.Mathlib.Omega.{arith}
 use lib.ListN.{length, getD, set}
 use Rattle.bits.specs.Bit.{bitOf}
 use Rattle.bits.proofs.Bits.{bit-zero}
-use Rattle.theory.specs.PathExpr.{PathExpr, size}
+use Rattle.theory.specs.PathExpr.{PathExpr, size, Symbol, s-step, s-join, s-op, s-closure}
 use Rattle.theory.specs.Inference.{Triple, triple, between}
 use Rattle.algorithms.specs.Growth.{no-triple}
 use Rattle.symbols.specs.Symbols.{symbol-numbered}
 use Rattle.rows.specs.Row.{row-bit}
-use Rattle.rows.proofs.Words.{le-or-lt}
 use Rattle.triples.specs.declared.Node.{Node}
 use Rattle.triples.specs.Table.{word-of, InRange, node-at}
-use Rattle.triples.specs.Paths.{built, triple-of}
+use Rattle.triples.specs.Paths.{built, triple-of, Founded}
 use Rattle.triples.specs.Parts.{Candidate, Added}
 use Rattle.triples.proofs.Words.{node-new}
 use Rattle.triples.proofs.Triples.{triple-from, triple-to, path-built}
-use Rattle.triples.proofs.Codes.{step-numbered, closure-numbered}
 use Rattle.rules.specs.Outcome.{Adds, with-new}
-use Rattle.rules.specs.EdgeTriples.{edge-at, edges-from, edges-of, edge-node, leaf-path, Leaf, AddEdge, AddEdges}
+use Rattle.rules.specs.EdgeTriples.{edge-at, edges-from, edges-of, edge-node, leaf-path, Alone, Leaf, AddEdge, AddEdges}
 use Rattle.rules.proofs.Grows.{none-added, one-added}
 use Rattle.rules.proofs.Ranging.{Ranging, ranging-start, ranging-room}
 use Rattle.rules.proofs.Between.{none-below, between-same}
@@ -41,14 +37,19 @@ row-word xs a b h =
 -- neither the kinds nor other nodes matter to the path
 leaf-same : {qs : List ℕ} {n : Node} → Leaf qs n → (a b : ℕ) (x y : Triple) → built qs (edge-node n a b) x y (symbol-numbered (n .made) 0) ≡ leaf-path qs n
 unfolding leaf-path
-leaf-same {qs} {n} h a b x y =
-    ⊎-elim
-    (λ (k : 128 ≤ n .made). ⊎-elim
-    (λ (m : n .made ≡ 133). let e = closure-numbered (n .made) m in ap (built qs (edge-node n a b) x y) e ∙ sym (ap (built qs (edge-node n 0 0) no-triple no-triple) e))
-    (λ (m : n .made < 133). absurd (h .alone k m))
-    (eq-or-lt-of-le (omega (arith, h .known))))
-    (λ (k : n .made < 128). let e = step-numbered (n .made) k .2 in ap (built qs (edge-node n a b) x y) e ∙ sym (ap (built qs (edge-node n 0 0) no-triple no-triple) e))
-    (le-or-lt 128 (n .made))
+leaf-same {qs} {n} h a b x y = go (symbol-numbered (n .made) 0) (h .alone)
+  where
+    go : (s : Symbol) → Alone qs n s → built qs (edge-node n a b) x y s ≡ built qs (edge-node n 0 0) no-triple no-triple s
+    go (s-step d l) f = refl
+    go (s-join v) f = absurd f
+    go (s-op o) f = absurd f
+    go s-closure f = refl
+
+alone-founded : (qs : List ℕ) (n : Node) (i a b : ℕ) (s : Symbol) → Alone qs n s → Founded qs i (edge-node n a b) s
+alone-founded qs n i a b (s-step d l) f = tt
+alone-founded qs n i a b (s-join v) f = absurd f
+alone-founded qs n i a b (s-op o) f = absurd f
+alone-founded qs n i a b s-closure f = f
 
 module _ {qs ws xs : List ℕ} {n : Node} {s count a b : ℕ} (h : AddEdge qs ws xs n s count a b) where
   abbrev node : Node
@@ -60,7 +61,7 @@ module _ {qs ws xs : List ℕ} {n : Node} {s count a b : ℕ} (h : AddEdge qs ws
   in-range : InRange node
   in-range =
       record {
-        made-fits = omega (arith, h .leaf .known);
+        made-fits = h .leaf .made-fits;
         left-fits = h .leaf .left-fits;
         right-fits = h .leaf .right-fits;
         size-fits = h .leaf .size-fits;
@@ -94,8 +95,7 @@ module _ {qs ws xs : List ℕ} {n : Node} {s count a b : ℕ} (h : AddEdge qs ws
         good = record {
           known = rw new (h .leaf .known);
           sized = ap size path-is ∙ h .leaf .sized ∙ ap (λ (m : Node). m .size) (sym new);
-          two = rw new (λ k l. absurd (h .leaf .alone k l));
-          kept = rw new (h .leaf .kept);
+          founded = subst (λ (m : Node). Founded qs (s + count) m (symbol-numbered (m .made) 0)) (sym new) (alone-founded qs n (s + count) a b (symbol-numbered (n .made) 0) (h .leaf .alone));
         };
       }
 

@@ -1,33 +1,19 @@
 -- What two lists give under an operator of pairs, pair by pair.
 -- Assumes nothing.
-use mathlib.Core.Path.{_≡_, refl, sym, ap, _∙_}
-use mathlib.Core.Bool.{Bool, true, false, cond}
+use mathlib.Core.Path.{_≡_, refl, sym, ap, _∙_, subst}
+use mathlib.Core.Bool.{Bool}
 use mathlib.Core.List.{List, [], _∷_, _++_, append-nil}
-use Prim.Native.Nat.{ℕ, zero, suc, _+_, _-_, _<_}
+use Prim.Native.Nat.{ℕ, suc, _+_, _<_}
 use native.Mathlib.Omega.{arith}
-use lib.Dec.{eqb}
-use borrow.Author.Tests.{ne-eqb}
 use Rattle.theory.specs.Lists.{guard, concat-map}
-use Rattle.theory.specs.PathExpr.{Via, Op, union, Symbol, s-join, s-op, size}
-use Rattle.theory.specs.Inference.{Triple, of-join, of-op, pairs, joined, conjoined, branched-right, branched-left}
+use Rattle.theory.specs.PathExpr.{size, code}
+use Rattle.theory.specs.Inference.{Triple, of-join, pairs}
 use Rattle.symbols.specs.Symbols.{symbol-numbered}
 use Rattle.triples.specs.declared.Node.{Node}
-use Rattle.triples.specs.Paths.{of-node}
-use Rattle.rules.specs.PairRules.{of-symbol, of-two, Paired, fitting, giving, ends-of, pair-node}
-
--- a proof by the four operators
-paired-case : (P : ℕ → Type 0) → P 128 → P 130 → P 131 → P 132 → (made : ℕ) → Paired made → P made
-paired-case P a b c d made h =
-    let e : made ≡ 128 + (made - 128) = omega (arith, h .least) in
-    rw e (go (made - 128) (omega (arith, h .most)) (λ z. h .no-union (omega arith)))
-  where
-    go : (k : ℕ) → k < 5 → ¬ (k ≡ 1) → P (128 + k)
-    go zero l n = a
-    go (suc zero) l n = absurd (n refl)
-    go (suc (suc zero)) l n = b
-    go (suc (suc (suc zero))) l n = c
-    go (suc (suc (suc (suc zero)))) l n = d
-    go (suc (suc (suc (suc (suc k))))) l n = absurd (omega arith)
+use Rattle.triples.specs.Paths.{of-node, Coded, Two, Founded}
+use Rattle.rules.specs.declared.PairOperator.{PairOperator}
+use Rattle.rules.specs.declared.PairOperator.the-variants.{Join, Conjunction, BranchRight, BranchLeft}
+use Rattle.rules.specs.PairRules.{pair-symbol, pair-code, of-two, fitting, giving, ends-of, pair-node}
 
 -- ---- pairs in general
 module _ (f : Triple → Triple → Bool) (g : Triple → Triple → Triple) where
@@ -51,71 +37,93 @@ module _ (f : Triple → Triple → Bool) (g : Triple → Triple → Triple) whe
       pairs-row x (y ∷ ys) ∙ ap (λ (l : List Triple). one x y ++ l) (sym (pairs-row x ys)) ∙ ap (λ (l : List Triple). l ++ pairs f g (x ∷ []) ys) (sym (pairs-one x y))
 
 -- ---- an operator of pairs
-pub two-join : (made : ℕ) (v : Via) (xs ys : List Triple) → symbol-numbered made 0 ≡ s-join v → of-two made xs ys ≡ of-join xs ys
+pub two-join : (xs ys : List Triple) → of-two Join xs ys ≡ of-join xs ys
 unfolding of-two
-two-join made v xs ys e = ap (λ (k : Symbol). of-symbol k xs ys) e
+two-join xs ys = refl
 
-pub two-op : (made : ℕ) (o : Op) (xs ys : List Triple) → symbol-numbered made 0 ≡ s-op o → of-two made xs ys ≡ of-op o xs ys
-unfolding of-two
-two-op made o xs ys e = ap (λ (k : Symbol). of-symbol k xs ys) e
+two-pairs : (o : PairOperator) (xs ys : List Triple) → of-two o xs ys ≡ pairs (fitting o) (giving o) xs ys
+unfolding of-two fitting giving
+two-pairs Join xs ys = refl
+two-pairs Conjunction xs ys = refl
+two-pairs BranchRight xs ys = refl
+two-pairs BranchLeft xs ys = refl
 
-pub two-union : (xs ys : List Triple) → of-two 129 xs ys ≡ xs ++ ys
-unfolding symbol-numbered
-two-union xs ys = two-op 129 union xs ys refl
+module _ (o : PairOperator) where
+  pub two-one : (x y : Triple) → of-two o (x ∷ []) (y ∷ []) ≡ guard (fitting o x y) (giving o x y ∷ [])
+  two-one x y = two-pairs o (x ∷ []) (y ∷ []) ∙ pairs-one (fitting o) (giving o) x y
 
-module _ (made : ℕ) (h : Paired made) where
-  two-pairs : (xs ys : List Triple) → of-two made xs ys ≡ pairs (fitting made) (giving made) xs ys
-  unfolding of-two symbol-numbered fitting giving
-  two-pairs xs ys = paired-case (λ m. of-two m xs ys ≡ pairs (fitting m) (giving m) xs ys) refl refl refl refl made h
+  pub two-next : (x : Triple) (xs ys : List Triple) → of-two o (x ∷ xs) ys ≡ of-two o (x ∷ []) ys ++ of-two o xs ys
+  two-next x xs ys = rw (two-pairs o (x ∷ xs) ys, two-pairs o (x ∷ []) ys, two-pairs o xs ys) (pairs-first (fitting o) (giving o) x xs ys)
 
-  pub two-one : (x y : Triple) → of-two made (x ∷ []) (y ∷ []) ≡ guard (fitting made x y) (giving made x y ∷ [])
-  two-one x y = two-pairs (x ∷ []) (y ∷ []) ∙ pairs-one (fitting made) (giving made) x y
+  pub two-row : (x y : Triple) (ys : List Triple) → of-two o (x ∷ []) (y ∷ ys) ≡ of-two o (x ∷ []) (y ∷ []) ++ of-two o (x ∷ []) ys
+  two-row x y ys = rw (two-pairs o (x ∷ []) (y ∷ ys), two-pairs o (x ∷ []) (y ∷ []), two-pairs o (x ∷ []) ys) (pairs-second (fitting o) (giving o) x y ys)
 
-  pub two-next : (x : Triple) (xs ys : List Triple) → of-two made (x ∷ xs) ys ≡ of-two made (x ∷ []) ys ++ of-two made xs ys
-  two-next x xs ys = rw (two-pairs (x ∷ xs) ys, two-pairs (x ∷ []) ys, two-pairs xs ys) (pairs-first (fitting made) (giving made) x xs ys)
+  pub two-none : (ys : List Triple) → of-two o [] ys ≡ []
+  two-none ys = two-pairs o [] ys
 
-  pub two-row : (x y : Triple) (ys : List Triple) → of-two made (x ∷ []) (y ∷ ys) ≡ of-two made (x ∷ []) (y ∷ []) ++ of-two made (x ∷ []) ys
-  two-row x y ys = rw (two-pairs (x ∷ []) (y ∷ ys), two-pairs (x ∷ []) (y ∷ []), two-pairs (x ∷ []) ys) (pairs-second (fitting made) (giving made) x y ys)
-
-  pub two-none : (ys : List Triple) → of-two made [] ys ≡ []
-  two-none ys = two-pairs [] ys
-
-  pub row-none : (x : Triple) → of-two made (x ∷ []) [] ≡ []
-  row-none x = two-pairs (x ∷ []) []
-
-  pub giving-size : (x y : Triple) → size (giving made x y .path) ≡ suc (size (x .path) + size (y .path))
-  unfolding giving
-  giving-size x y = paired-case (λ m. size (giving m x y .path) ≡ suc (size (x .path) + size (y .path))) refl refl refl refl made h
-
-  pub node-gives : (qs : List ℕ) (i j : ℕ) (x y : Node) (X Y : Triple) → x .from .0 ≡ X .from → x .to .0 ≡ X .to → y .to .0 ≡ Y .to → of-node qs (pair-node made i j x y) X Y ≡ giving made X Y
-  unfolding symbol-numbered giving
-  node-gives qs i j x y X Y e f g = paired-case (λ m. of-node qs (pair-node m i j x y) X Y ≡ giving m X Y) (rw (e, g)) (rw (e, f)) (rw (e, f)) (rw (e, g)) made h
+  pub row-none : (x : Triple) → of-two o (x ∷ []) [] ≡ []
+  row-none x = two-pairs o (x ∷ []) []
 
 -- a branch left does not look at the end of its first triple
-pub left-rows : (x y : Triple) (zs : List Triple) → x .from ≡ y .from → x .path ≡ y .path → of-two 132 (x ∷ []) zs ≡ of-two 132 (y ∷ []) zs
-unfolding of-two symbol-numbered
+pub left-rows : (x y : Triple) (zs : List Triple) → x .from ≡ y .from → x .path ≡ y .path → of-two BranchLeft (x ∷ []) zs ≡ of-two BranchLeft (y ∷ []) zs
+unfolding of-two
 left-rows x y zs e f = rw (e, f)
 
--- ---- the ends alone
-pub fitting-ends : (made : ℕ) (x y : Node) (X Y : Triple) → x .from .0 ≡ X .from → x .to .0 ≡ X .to → y .from .0 ≡ Y .from → y .to .0 ≡ Y .to → fitting made (ends-of x) (ends-of y) ≡ fitting made X Y
+-- ---- the pair's triple
+pub giving-size : (o : PairOperator) (x y : Triple) → size (giving o x y .path) ≡ suc (size (x .path) + size (y .path))
+unfolding giving
+giving-size Join x y = refl
+giving-size Conjunction x y = refl
+giving-size BranchRight x y = refl
+giving-size BranchLeft x y = refl
+
+pub giving-small : (o : PairOperator) (x y : Triple) → x .to < 64 → y .to < 64 → giving o x y .to < 64
+unfolding giving
+giving-small Join x y a b = b
+giving-small Conjunction x y a b = a
+giving-small BranchRight x y a b = a
+giving-small BranchLeft x y a b = b
+
+-- of the ends alone
+pub fitting-ends : (o : PairOperator) (x y : Node) (X Y : Triple) → x .from .0 ≡ X .from → x .to .0 ≡ X .to → y .from .0 ≡ Y .from → y .to .0 ≡ Y .to
+    → fitting o (ends-of x) (ends-of y) ≡ fitting o X Y
 unfolding fitting
-fitting-ends made x y X Y a b c d = rw (a, b, c, d)
+fitting-ends Join x y X Y a b c d = rw (b, c)
+fitting-ends Conjunction x y X Y a b c d = rw (a, b, c, d)
+fitting-ends BranchRight x y X Y a b c d = rw (b, c)
+fitting-ends BranchLeft x y X Y a b c d = rw (a, c)
 
--- neither both nor branch right: the second triple's end
-pub giving-last : (made : ℕ) (x y : Triple) → ¬ (made ≡ 130) → ¬ (made ≡ 131) → y .to ≡ giving made x y .to
-unfolding giving
-giving-last made x y a b = rw (ne-eqb made 130 a, ne-eqb made 131 b) (go (eqb made 132))
-  where
-    go : (b : Bool) → y .to ≡ cond b (branched-left x y) (joined x y) .to
-    go true = refl
-    go false = refl
+-- ---- the pair's node
+pub pair-fits : (o : PairOperator) → pair-code o < 256
+pair-fits Join = omega arith
+pair-fits Conjunction = omega arith
+pair-fits BranchRight = omega arith
+pair-fits BranchLeft = omega arith
 
-pub giving-small : (made : ℕ) (x y : Triple) → x .to < 64 → y .to < 64 → giving made x y .to < 64
-unfolding giving
-giving-small made x y a b = go (eqb made 130) (eqb made 131) (eqb made 132)
-  where
-    go : (p q r : Bool) → cond p (conjoined x y) (cond q (branched-right x y) (cond r (branched-left x y) (joined x y))) .to < 64
-    go true q r = a
-    go false true r = a
-    go false false true = b
-    go false false false = b
+-- its code is that of its symbol
+pair-numbered : (o : PairOperator) → symbol-numbered (pair-code o) 0 ≡ pair-symbol o
+unfolding symbol-numbered
+pair-numbered Join = refl
+pair-numbered Conjunction = refl
+pair-numbered BranchRight = refl
+pair-numbered BranchLeft = refl
+
+pub pair-coded : (o : PairOperator) → Coded (pair-code o)
+pair-coded o = record { is = ap code (pair-numbered o) }
+
+module _ (qs : List ℕ) where
+  pub pair-founded : (o : PairOperator) {i : ℕ} {n : Node} → Two i n → Founded qs i n (symbol-numbered (pair-code o) 0)
+  pair-founded o {i} {n} t = subst (Founded qs i n) (sym (pair-numbered o)) (go o)
+    where
+      go : (o : PairOperator) → Founded qs i n (pair-symbol o)
+      go Join = t
+      go Conjunction = t
+      go BranchRight = t
+      go BranchLeft = t
+
+  pub node-gives : (o : PairOperator) (i j : ℕ) (x y : Node) (X Y : Triple) → x .from .0 ≡ X .from → x .to .0 ≡ X .to → y .to .0 ≡ Y .to → of-node qs (pair-node o i j x y) X Y ≡ giving o X Y
+  unfolding symbol-numbered giving
+  node-gives Join i j x y X Y e f g = rw (e, g)
+  node-gives Conjunction i j x y X Y e f g = rw (e, f)
+  node-gives BranchRight i j x y X Y e f g = rw (e, f)
+  node-gives BranchLeft i j x y X Y e f g = rw (e, g)

@@ -6,13 +6,13 @@ use mathlib.Core.List.{List, [], _∷_}
 use Prim.Native.Nat.{ℕ, _<_, _≤_}
 use lib.ListN.{length}
 use Rattle.theory.specs.Lists.{guard, concat-map, range}
-use Rattle.theory.specs.PathExpr.{PathExpr, size}
+use Rattle.theory.specs.PathExpr.{PathExpr, size, Symbol, s-step, s-join, s-op, s-closure}
 use Rattle.theory.specs.Inference.{Triple, triple, between}
 use Rattle.algorithms.specs.Growth.{no-triple}
 use Rattle.symbols.specs.Symbols.{symbol-numbered}
 use Rattle.rows.specs.Row.{row-bit}
 use Rattle.triples.specs.declared.Node.{Node}
-use Rattle.triples.specs.Paths.{built, Copied}
+use Rattle.triples.specs.Paths.{built, Coded, Copied}
 use Rattle.rules.specs.Requirements.{Room}
 
 -- ---- the triples of the matrix xs with path p: from kind a to kind b, from kind a to each of K kinds, from each to each
@@ -34,11 +34,17 @@ edge-node n a b = record { made = n .made; left = n .left; right = n .right; siz
 unfoldable pub leaf-path : List ℕ → Node → PathExpr
 leaf-path qs n = built qs (edge-node n 0 0) no-triple no-triple (symbol-numbered (n .made) 0)
 
+abbrev pub Alone : List ℕ → Node → Symbol → Type 0
+Alone qs n (s-step d l) = Unit {0}
+Alone qs n (s-join v) = ⊥
+Alone qs n (s-op o) = ⊥
+Alone qs n s-closure = Copied qs (n .left) (n .right)
+
 pub record Leaf (qs : List ℕ) (n : Node) : Type 0 where
-  pub known : n .made < 134
-  pub alone : 128 ≤ n .made → n .made < 133 → ⊥
-  pub kept : n .made ≡ 133 → Copied qs (n .left) (n .right)
+  pub known : Coded (n .made)
+  pub alone : Alone qs n (symbol-numbered (n .made) 0)
   pub sized : size (leaf-path qs n) ≡ n .size
+  pub made-fits : n .made < 256
   pub left-fits : n .left < 4096
   pub right-fits : n .right < 4096
   pub size-fits : n .size < 64

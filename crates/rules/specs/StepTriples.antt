@@ -2,36 +2,27 @@
 -- SPECIFICATION, Inference: a forward step has each permitted triple of its link, a reverse one swaps its kinds.
 -- Assumes nothing.
 use mathlib.Core.Path.{_≡_}
-use mathlib.Core.Bool.{Bool, cond}
+use mathlib.Core.Bool.{Bool}
 use mathlib.Core.List.{List}
-use Prim.Native.Nat.{ℕ, _-_, _<_, _≤_}
-use lib.Dec.{T, ltb}
+use Prim.Native.Nat.{ℕ, _<_, _≤_}
+use lib.Dec.{T}
 use lib.ListN.{length}
 use Rattle.bits.specs.Bit.{bitOf}
-use Rattle.theory.specs.PathExpr.{Direction, forward, reverse, named, PathExpr, step}
+use Rattle.theory.specs.PathExpr.{Direction, forward, reverse, named, step}
 use Rattle.theory.specs.Inference.{Triple, between}
 use Rattle.theory.specs.Sheet.{Sheet, sheet?, permits?}
 use Rattle.sheet.specs.Table.{tabled?}
 use Rattle.rows.specs.Row.{row-bit}
 use Rattle.rules.specs.Requirements.{Room}
 
--- direction and link of a step's code
-abbrev pub direction-of : ℕ → Direction
-direction-of c = cond (ltb c 64) forward reverse
-
-abbrev pub link-of : ℕ → ℕ
-link-of c = cond (ltb c 64) c (c - 64)
-
-abbrev pub step-of : ℕ → PathExpr
-step-of c = step (direction-of c) (named (link-of c))
-
 -- the table has the bit of a step from kind a to kind b
-unfoldable pub marked? : List ℕ → ℕ → ℕ → ℕ → Bool
-marked? t c a b = cond (ltb c 64) (tabled? t a c b) (tabled? t b (c - 64) a)
+unfoldable pub marked? : List ℕ → Direction → ℕ → ℕ → ℕ → Bool
+marked? t forward l a b = tabled? t a l b
+marked? t reverse l a b = tabled? t b l a
 
--- the triples of the step with code c, of K kinds
-unfoldable pub of-marks : List ℕ → ℕ → ℕ → List Triple
-of-marks t K c = between K (step-of c) (marked? t c)
+-- the triples of a step, of K kinds
+unfoldable pub of-marks : List ℕ → ℕ → Direction → ℕ → List Triple
+of-marks t K d l = between K (step d (named l)) (marked? t d l)
 
 -- the table is the sheet's
 pub record Tabled (t : List ℕ) (S : Sheet) : Type 0 where
@@ -39,16 +30,16 @@ pub record Tabled (t : List ℕ) (S : Sheet) : Type 0 where
   pub valid : T (sheet? S)
 
 -- v has the bits of a step from kind a to the kinds below K
-pub record StepRow (t : List ℕ) (c a K v : ℕ) : Type 0 where
-  pub bit : (b : ℕ) → b < K → bitOf v b ≡ marked? t c a b
+pub record StepRow (t : List ℕ) (d : Direction) (l a K v : ℕ) : Type 0 where
+  pub bit : (b : ℕ) → b < K → bitOf v b ≡ marked? t d l a b
 
 -- the first n words of xs are those of a step's matrix of K kinds: bit b of word a
-pub record StepMatrix (t : List ℕ) (c K n : ℕ) (xs : List ℕ) : Type 0 where
+pub record StepMatrix (t : List ℕ) (d : Direction) (l K n : ℕ) (xs : List ℕ) : Type 0 where
   pub long : length xs ≡ 64
-  pub bit : (a b : ℕ) → a < n → b < K → row-bit xs a b ≡ marked? t c a b
+  pub bit : (a b : ℕ) → a < n → b < K → row-bit xs a b ≡ marked? t d l a b
 
 -- what the rule of a step asks
-pub record Stepping (qs ws : List ℕ) (K c s : ℕ) : Type 0 where
-  pub code : c < 128
+pub record Stepping (qs ws : List ℕ) (K l s : ℕ) : Type 0 where
+  pub link : l < 64
   pub room : Room qs ws s 0
   pub kinds : K ≤ 64

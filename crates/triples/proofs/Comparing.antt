@@ -2,11 +2,10 @@
 -- Assumes nothing.
 use mathlib.Core.Path.{_≡_, refl, sym, ap, _∙_, subst}
 use mathlib.Core.Bool.{Bool, true, false, true≢false, false≢true}
-use mathlib.Core.Logic.{⊎-elim, _↔_}
+use mathlib.Core.Logic.{_↔_}
 use mathlib.Core.List.{List}
 use mathlib.Core.Option.{Option·getD}
 use Prim.Native.Nat.{ℕ, _+_, _<_, _≤_}
-use native.Mathlib.Nat.{eq-or-lt-of-le}
 use native.Mathlib.Omega.{arith}
 use lib.Dec.{T}
 use lib.ListN.{length, take, drop, getD, length-drop}
@@ -14,18 +13,19 @@ use lib.Seq.{getD-take, getD-drop, length-take-le}
 use borrow.Author.Tests.{eq-eqb, ne-eqb}
 use Rattle.theory.specs.Lists.{decided}
 use Rattle.theory.specs.KindSet.{singleton, has}
-use Rattle.theory.specs.PathExpr.{forward, named, through, Op, PathExpr, step, join, op, closure, codes, path-discrete, same?}
+use Rattle.theory.specs.PathExpr.{forward, Label, named, through, Op, PathExpr, step, join, op, closure, codes, path-discrete, same?, Direction, Via, Symbol, s-step, s-join, s-op, s-closure}
 use Rattle.theory.specs.Postfix.{path-of}
 use Rattle.theory.specs.Inference.{Triple, triple?}
 use Rattle.theory.proofs.KindSet.{has-singleton, singleton-has}
+use Rattle.symbols.specs.Symbols.{symbol-numbered}
 use Rattle.question.specs.Form.{question-symbols}
 use Rattle.triples.specs.declared.Node.{Node}
 use Rattle.triples.specs.Table.{node-at}
-use Rattle.triples.specs.Paths.{original, triple-of, Has}
+use Rattle.triples.specs.Paths.{original, triple-of, Copied, Has}
 use Rattle.triples.specs.Tests.{Decides}
 use Rattle.triples.proofs.Triples.{triple-from, triple-to}
-use Rattle.triples.proofs.Codes.{step-numbered, last-code}
-use Rattle.triples.proofs.Nodes.{step-path, kept-path, kept-copied, last-made, left-has, right-has, join-path, made-op, op-path}
+use Rattle.triples.proofs.Codes.{last-code}
+use Rattle.triples.proofs.Nodes.{Binary, step-path, kept-path, kept-copied, last-made, left-has, right-has, join-path, join-binary, op-path, op-binary}
 use Rattle.triples.proofs.Writing.{take-more}
 
 pub decides-yes : {P : Type 0} → P → Decides P true
@@ -76,67 +76,83 @@ module _ {qs ws : List ℕ} {used a b : ℕ} (ha : Has qs ws used a) (hb : Has q
   pub made-differ : ¬ (x .made ≡ y .made) → Same false
   made-differ n = decides-no (λ e. n (sym (last-made ha x ex) ∙ ap last-code e ∙ last-made hb y ey))
 
+  abbrev Left : Type 0
+  Left = triple-of qs ws (x .left) .path ≡ triple-of qs ws (y .left) .path
+
+  abbrev Right : Type 0
+  Right = triple-of qs ws (x .right) .path ≡ triple-of qs ws (y .right) .path
+
+  -- equal paths of an operator have equal operands
+  module _ (bx : Binary qs ws a x) (by : Binary qs ws b y) where
+    pub lefts-has : Has qs ws used (x .left) × Has qs ws used (y .left)
+    lefts-has = (left-has ha x ex (bx .two), left-has hb y ey (by .two))
+
+    pub rights-has : Has qs ws used (x .right) × Has qs ws used (y .right)
+    rights-has = (right-has ha x ex (bx .two), right-has hb y ey (by .two))
+
+    module _ (operands : triple-of qs ws a .path ≡ triple-of qs ws b .path → Left × Right) where
+      differ-left : ¬ Left → Same false
+      differ-left k = decides-no (λ e. k (operands e .0))
+
+      differ-right : ¬ (node-at ws (x .right) .made ≡ node-at ws (y .right) .made) → Same false
+      differ-right k = decides-no (λ e. k (sym (last-made (rights-has .0) _ refl) ∙ ap last-code (operands e .1) ∙ last-made (rights-has .1) _ refl))
+
   module _ (m : x .made ≡ y .made) where
-    pub same-steps : x .made < 128 → Same true
-    same-steps l =
-        let s = step-numbered (x .made) l in
-        decides-yes (step-path ha x ex (s .0) (s .1) (s .2) ∙ sym (step-path hb y ey (s .0) (s .1) (rw m at s .2)))
+    -- both have one last symbol
+    other : {s : Symbol} → symbol-numbered (x .made) 0 ≡ s → symbol-numbered (y .made) 0 ≡ s
+    other k = ap (λ (c : ℕ). symbol-numbered c 0) (sym m) ∙ k
 
-    pub same-kept : {r : Bool} → x .made ≡ 133 → Decides (take (x .right) (drop (x .left) qs) ≡ take (y .right) (drop (y .left) qs)) r → Same r
-    unfolding original
-    same-kept k d =
-        decides-as (λ e. kept-path ha x ex k ∙ ap (λ (l : List ℕ). closure (Option·getD (path-of (question-symbols l)) (step forward (named 0)))) e ∙ sym (kept-path hb y ey (sym m ∙ k)))
-        (λ e. sym (kept-copied ha x ex k .same-codes) ∙ ap codes (closure-inj (sym (kept-path ha x ex k) ∙ e ∙ kept-path hb y ey (sym m ∙ k))) ∙ kept-copied hb y ey (sym m ∙ k) .same-codes)
-        d
+    pub same-steps : (d : Direction) (l : Label) → symbol-numbered (x .made) 0 ≡ s-step d l → Same true
+    same-steps d l s = decides-yes (step-path ha x ex d l s ∙ sym (step-path hb y ey d l (other s)))
 
-    -- operators of two operands
-    module _ (l : 128 ≤ x .made) (n : ¬ (x .made ≡ 133)) where
-      l′ : 128 ≤ y .made
-      l′ = rw m at l
+    module _ (k : symbol-numbered (x .made) 0 ≡ s-closure) where
+      pub both-copied : Copied qs (x .left) (x .right) × Copied qs (y .left) (y .right)
+      both-copied = (kept-copied ha x ex k, kept-copied hb y ey (other k))
 
-      n′ : ¬ (y .made ≡ 133)
-      n′ = rw m at n
+      pub same-kept : {r : Bool} → Decides (take (x .right) (drop (x .left) qs) ≡ take (y .right) (drop (y .left) qs)) r → Same r
+      unfolding original
+      same-kept d =
+          decides-as (λ e. kept-path ha x ex k ∙ ap (λ (l : List ℕ). closure (Option·getD (path-of (question-symbols l)) (step forward (named 0)))) e ∙ sym (kept-path hb y ey (other k)))
+          (λ e. sym (both-copied .0 .same-codes) ∙ ap codes (closure-inj (sym (kept-path ha x ex k) ∙ e ∙ kept-path hb y ey (other k))) ∙ both-copied .1 .same-codes)
+          d
 
-      abbrev Left : Type 0
-      Left = triple-of qs ws (x .left) .path ≡ triple-of qs ws (y .left) .path
+    -- ---- joins
+    module _ (v : Via) (j : symbol-numbered (x .made) 0 ≡ s-join v) where
+      pub joins : Binary qs ws a x × Binary qs ws b y
+      joins = (join-binary ha x ex v j, join-binary hb y ey v (other j))
 
-      abbrev Right : Type 0
-      Right = triple-of qs ws (x .right) .path ≡ triple-of qs ws (y .right) .path
+      parts : triple-of qs ws a .path ≡ triple-of qs ws b .path
+          → (singleton (node-at ws (x .left) .to .0) ≡ singleton (node-at ws (y .left) .to .0)) × Left × Right
+      parts e = join-inj (sym (join-path ha x ex v j) ∙ e ∙ join-path hb y ey v (other j))
 
-      pub lefts-has : Has qs ws used (x .left) × Has qs ws used (y .left)
-      lefts-has = (left-has ha x ex l n, left-has hb y ey l′ n′)
+      pub kinds-differ : ¬ (node-at ws (x .left) .to .0 ≡ node-at ws (y .left) .to .0) → Same false
+      kinds-differ k = decides-no (λ e. k (singleton-inj _ _ (parts e .0)))
 
-      pub rights-has : Has qs ws used (x .right) × Has qs ws used (y .right)
-      rights-has = (right-has ha x ex l n, right-has hb y ey l′ n′)
+      pub join-lefts-differ : ¬ Left → Same false
+      join-lefts-differ = differ-left (joins .0) (joins .1) (λ e. (parts e .1, parts e .2))
 
-      pub kinds-differ : x .made ≡ 128 → ¬ (node-at ws (x .left) .to .0 ≡ node-at ws (y .left) .to .0) → Same false
-      kinds-differ j k = decides-no (λ e. k (singleton-inj _ _ (join-inj (sym (join-path ha x ex l n j) ∙ e ∙ join-path hb y ey l′ n′ (sym m ∙ j)) .0)))
+      pub join-rights-differ : ¬ (node-at ws (x .right) .made ≡ node-at ws (y .right) .made) → Same false
+      join-rights-differ = differ-right (joins .0) (joins .1) (λ e. (parts e .1, parts e .2))
 
-      -- the operator of both
-      both : 128 < x .made → (o : Op) × (triple-of qs ws a .path ≡ op o (triple-of qs ws (x .left) .path) (triple-of qs ws (x .right) .path))
-          × (triple-of qs ws b .path ≡ op o (triple-of qs ws (y .left) .path) (triple-of qs ws (y .right) .path))
-      both j = let o = made-op ha x ex l n j in (o .0, op-path ha x ex l n (o .0) (o .1), op-path hb y ey l′ n′ (o .0) (rw m at o .1))
+      pub same-joins : {r : Bool} → node-at ws (x .left) .to .0 ≡ node-at ws (y .left) .to .0 → Left → Decides Right r → Same r
+      same-joins k el d = decides-as (λ er. cc (join-path ha x ex v j, k, el, er, join-path hb y ey v (other j))) (λ e. parts e .2) d
 
-      operands : triple-of qs ws a .path ≡ triple-of qs ws b .path → Left × Right
-      operands e =
-          ⊎-elim (λ j. let i = join-inj (sym (join-path ha x ex l n (sym j)) ∙ e ∙ join-path hb y ey l′ n′ (sym m ∙ sym j)) in (i .1, i .2))
-          (λ j. let o = both j in op-inj (sym (o .1) ∙ e ∙ o .2))
-          (eq-or-lt-of-le l)
+    -- ---- the other operators
+    module _ (o : Op) (j : symbol-numbered (x .made) 0 ≡ s-op o) where
+      pub ops : Binary qs ws a x × Binary qs ws b y
+      ops = (op-binary ha x ex o j, op-binary hb y ey o (other j))
 
-      pub lefts-differ : ¬ Left → Same false
-      lefts-differ k = decides-no (λ e. k (operands e .0))
+      halves : triple-of qs ws a .path ≡ triple-of qs ws b .path → Left × Right
+      halves e = op-inj (sym (op-path ha x ex o j) ∙ e ∙ op-path hb y ey o (other j))
 
-      pub rights-differ : ¬ (node-at ws (x .right) .made ≡ node-at ws (y .right) .made) → Same false
-      rights-differ k = decides-no (λ e. k (sym (last-made (rights-has .0) _ refl) ∙ ap last-code (operands e .1) ∙ last-made (rights-has .1) _ refl))
+      pub op-lefts-differ : ¬ Left → Same false
+      op-lefts-differ = differ-left (ops .0) (ops .1) halves
 
-      pub same-rights : {r : Bool} → (x .made ≡ 128 → node-at ws (x .left) .to .0 ≡ node-at ws (y .left) .to .0) → Left → Decides Right r → Same r
-      same-rights k el d = decides-as alike (λ e. operands e .1) d
-        where
-          alike : Right → triple-of qs ws a .path ≡ triple-of qs ws b .path
-          alike er =
-              ⊎-elim (λ j. cc (join-path ha x ex l n (sym j), k (sym j), join-path hb y ey l′ n′ (sym m ∙ sym j)))
-              (λ j. let o = both j in cc (o .1, o .2))
-              (eq-or-lt-of-le l)
+      pub op-rights-differ : ¬ (node-at ws (x .right) .made ≡ node-at ws (y .right) .made) → Same false
+      op-rights-differ = differ-right (ops .0) (ops .1) halves
+
+      pub same-ops : {r : Bool} → Left → Decides Right r → Same r
+      same-ops el d = decides-as (λ er. cc (op-path ha x ex o j, el, er, op-path hb y ey o (other j))) (λ e. halves e .1) d
 
 -- ---- and their triples
 path-test : (p q : PathExpr) {r : Bool} → Decides (p ≡ q) r → r ≡ same? p q

@@ -71,8 +71,7 @@ module _ {u hi : ℕ} {xs ys : List ℕ} (h : Kept u hi xs ys) (qs : List ℕ) w
       record {
         known = rw (node-kept h k l) (g .known);
         sized = rw (triple-kept h qs k l, node-kept h k l) (g .sized);
-        two = rw (node-kept h k l) (λ a b. let t = g .two a b in record { left-below = rw (node-kept h k l) (t .left-below); right-below = rw (node-kept h k l) (t .right-below) });
-        kept = rw (node-kept h k l) (g .kept);
+        founded = rw (node-kept h k l) (g .founded);
       }
 
   pub sound-kept : Sound qs xs u → Sound qs ys u

@@ -3,6 +3,7 @@
 use mathlib.Core.Path.{_≡_, ap, _∙_}
 use mathlib.Core.List.{List}
 use Prim.Native.Nat.{ℕ, _<_}
+use native.Mathlib.Nat.{mod-eq-of-lt}
 use lib.Arith.{digits-div, digits-mod}
 use lib.ListN.{length, set}
 use lib.Seq.{getD-set-same}
@@ -25,6 +26,7 @@ unpacked-word n h =
       digits-div _ (h .right-fits),
       digits-mod _ (h .left-fits),
       digits-div _ (h .left-fits),
+      mod-eq-of-lt (h .made-fits),
     )
 
 pub node-new : (ws : List ℕ) (u : ℕ) (n : Node) → u < length ws → InRange n → node-at (set ws u (word-of n)) u ≡ n

@@ -9,7 +9,7 @@ use Prim.Native.Nat.{ℕ, zero, suc, _+_, _<_, _≤_}
 use lib.Dec.{ltb}
 use lib.ListN.{length, take, drop, replicate}
 use Rattle.theory.specs.KindSet.{singleton}
-use Rattle.theory.specs.PathExpr.{forward, named, through, PathExpr, step, join, op, closure, Symbol, s-step, s-join, s-op, s-closure, codes, size}
+use Rattle.theory.specs.PathExpr.{forward, named, through, PathExpr, step, join, op, closure, Symbol, s-step, s-join, s-op, s-closure, codes, size, code}
 use Rattle.theory.specs.Postfix.{path-of}
 use Rattle.theory.specs.Inference.{Triple, triple}
 use Rattle.algorithms.specs.Growth.{no-triple}
@@ -47,10 +47,14 @@ unfoldable pub triple-of : List ℕ → List ℕ → ℕ → Triple
 triple-of qs ws i = triple-at (suc i) qs ws i
 
 -- ---- a sound table
--- both operands stand below node i
-pub record Two (ws : List ℕ) (i : ℕ) : Type 0 where
-  pub left-below : node-at ws i .left < i
-  pub right-below : node-at ws i .right < i
+-- c is the code of its symbol
+pub record Coded (c : ℕ) : Type 0 where
+  pub is : code (symbol-numbered c 0) ≡ c
+
+-- both operands of node n stand below place i
+pub record Two (i : ℕ) (n : Node) : Type 0 where
+  pub left-below : n .left < i
+  pub right-below : n .right < i
 
 -- n symbols of the question from s on make a path: they are its codes, and its joins are plain
 pub record Copied (qs : List ℕ) (s n : ℕ) : Type 0 where
@@ -58,12 +62,18 @@ pub record Copied (qs : List ℕ) (s n : ℕ) : Type 0 where
   pub same-codes : codes (original qs s n) ≡ take n (drop s qs)
   pub no-sets : sets-of (original qs s n) ≡ replicate n 0
 
--- node i is sound: a symbol, its path's number of symbols, and operands by the symbol
+-- what node n at place i is made of, by its last symbol: a step of nothing, an operator of two nodes, a kept chain of an original part
+abbrev pub Founded : List ℕ → ℕ → Node → Symbol → Type 0
+Founded qs i n (s-step d l) = Unit {0}
+Founded qs i n (s-join v) = Two i n
+Founded qs i n (s-op o) = Two i n
+Founded qs i n s-closure = Copied qs (n .left) (n .right)
+
+-- node i is sound: the code of a symbol, its path's number of symbols, and what it is made of
 pub record Good (qs ws : List ℕ) (i : ℕ) : Type 0 where
-  pub known : node-at ws i .made < 134
+  pub known : Coded (node-at ws i .made)
   pub sized : size (triple-of qs ws i .path) ≡ node-at ws i .size
-  pub two : 128 ≤ node-at ws i .made → node-at ws i .made < 133 → Two ws i
-  pub kept : node-at ws i .made ≡ 133 → Copied qs (node-at ws i .left) (node-at ws i .right)
+  pub founded : Founded qs i (node-at ws i) (symbol-numbered (node-at ws i .made) 0)
 
 -- each of the first `used` nodes is sound
 pub record Sound (qs ws : List ℕ) (used : ℕ) : Type 0 where

@@ -14,7 +14,7 @@ word-of n = ((((n .made * 4096 + n .left) * 4096 + n .right) * 64 + n .size) * 6
 unfoldable pub unpacked : ℕ → Node
 unpacked x =
     record {
-      made = x / 64 / 64 / 64 / 4096 / 4096;
+      made = x / 64 / 64 / 64 / 4096 / 4096 % 256;
       left = x / 64 / 64 / 64 / 4096 % 4096;
       right = x / 64 / 64 / 64 % 4096;
       size = x / 64 / 64 % 64;
@@ -38,6 +38,7 @@ node-at ws i = unpacked (getD ws i 0)
 -- n is node i, and its fields are small
 pub record Loaded (ws : List ℕ) (i : ℕ) (n : Node) : Type 0 where
   pub is : n ≡ node-at ws i
+  pub made-small : n .made < 256
   pub from-small : n .from .0 < 64
   pub to-small : n .to .0 < 64
   pub size-small : n .size < 64

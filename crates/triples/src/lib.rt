@@ -1,5 +1,6 @@
 // A table of nodes in lent words: a word holds a node, and a node stands for a triple.
 use fields::Kind;
+use symbols::Symbol;
 ghost use mathlib.Core.Path.{_≡_};
 ghost use mathlib.Core.List.{[], _∷_};
 ghost use Prim.Native.Nat.{_+_, _-_, _<_, _≤_};
@@ -12,33 +13,22 @@ ghost use Rattle.triples.specs.Tests.{Decides};
 ghost use Rattle.triples.specs.Expansion.{PathWritten, Expanded, Expandable};
 ghost use Rattle.triples.specs.Parts.{part-of, Candidate, Added};
 
-// The operators, as a node has them; a smaller number is a step.
-pub const JOIN: usize = symbols::JOIN as usize;
-
-pub const UNION: usize = symbols::UNION as usize;
-
-pub const CONJUNCTION: usize = symbols::CONJUNCTION as usize;
-
-pub const BRANCH_RIGHT: usize = symbols::BRANCH_RIGHT as usize;
-
-pub const BRANCH_LEFT: usize = symbols::BRANCH_LEFT as usize;
-
-pub const CLOSURE: usize = symbols::CLOSURE as usize;
-
 // The most triples of a part.
 pub const MOST: usize = 128;
 
-// How many numbers the fields of a node's word have room for: its kinds, its size, its operands.
+// How many numbers the fields of a node's word have room for: its kinds, its size, its operands, its code.
 const KINDS: usize = fields::KINDS as usize;
 
 const SIZES: usize = 64;
 
 const PLACES: usize = 4096;
 
+const CODES: usize = 256;
+
 // made: the code of the path's last symbol. left and right: the operands' nodes (of a kept chain: where its operand
 // starts in the question, and its number of symbols). size: the path's number of symbols.
 pub struct Node {
-    pub made: usize,
+    pub made: u8,
     pub left: usize,
     pub right: usize,
     pub size: usize,
@@ -58,7 +48,7 @@ pub fn load(words: &[u64], i: usize) -> Node
 {
     let x = words[i] as usize;
     Node {
-        made: x / KINDS / KINDS / SIZES / PLACES / PLACES,
+        made: (x / KINDS / KINDS / SIZES / PLACES / PLACES % CODES) as u8,
         left: x / KINDS / KINDS / SIZES / PLACES % PLACES,
         right: x / KINDS / KINDS / SIZES % PLACES,
         size: x / KINDS / KINDS % SIZES,
@@ -71,7 +61,7 @@ pub fn store(words: &mut [u64], i: usize, n: Node)
     requires { ⌜ (i < length (now words)) × InRange n ⌝ }
     ensures { λ _. ⌜ now (words .exit) ≡ set (now (words .entry)) i (word-of n) ⌝ }
 {
-    let x = ((((n.made * PLACES + n.left) * PLACES + n.right) * SIZES + n.size) * KINDS
+    let x = ((((n.made as usize * PLACES + n.left) * PLACES + n.right) * SIZES + n.size) * KINDS
         + n.from.0 as usize)
         * KINDS
         + n.to.0 as usize;
@@ -79,11 +69,11 @@ pub fn store(words: &mut [u64], i: usize, n: Node)
 }
 
 // Writes a code and a set at `at`, and gives the place after it.
-fn mark(codes: &mut [u8], vias: &mut [u64], at: usize, code: usize, via: u64) -> usize
-    requires { ⌜ (at < length (now codes)) × (at < length (now vias)) × (code < 256) ⌝ }
+fn mark(codes: &mut [u8], vias: &mut [u64], at: usize, code: u8, via: u64) -> usize
+    requires { ⌜ (at < length (now codes)) × (at < length (now vias)) ⌝ }
     ensures { λ r. ⌜ PathWritten at (code ∷ []) (via ∷ []) (now (codes .entry)) (now (vias .entry)) (now (codes .exit)) (now (vias .exit)) r ⌝ }
 {
-    codes[at] = code as u8;
+    codes[at] = code;
     vias[at] = via;
     at + 1
 }
@@ -116,23 +106,24 @@ pub fn expand(
     ensures { λ r. ⌜ Expanded (triple-of (now (question .entry)) (now (words .entry)) i .path) at (now (codes .entry)) (now (vias .entry)) (now (codes .exit)) (now (vias .exit)) r ⌝ }
 {
     let n = load(words, i);
-    let made = n.made;
-    let left = n.left;
-    let right = n.right;
-    if made < JOIN {
-        return mark(codes, vias, at, made, 0);
+    match symbols::decode(n.made, 0) {
+        Symbol::Step(_, _) => mark(codes, vias, at, n.made, 0),
+        Symbol::Join(_) => {
+            let mid = expand(words, used, question, n.left, codes, vias, at);
+            let end = expand(words, used, question, n.right, codes, vias, mid);
+            let k = load(words, n.left).to.0;
+            mark(codes, vias, end, n.made, 1 << k)
+        }
+        Symbol::Op(_) => {
+            let mid = expand(words, used, question, n.left, codes, vias, at);
+            let end = expand(words, used, question, n.right, codes, vias, mid);
+            mark(codes, vias, end, n.made, 0)
+        }
+        Symbol::Closure => {
+            let end = copy(question, n.left, n.right, codes, vias, at);
+            mark(codes, vias, end, n.made, 0)
+        }
     }
-    if made == CLOSURE {
-        let end = copy(question, left, right, codes, vias, at);
-        return mark(codes, vias, end, CLOSURE, 0);
-    }
-    let mid = expand(words, used, question, left, codes, vias, at);
-    let end = expand(words, used, question, right, codes, vias, mid);
-    if made == JOIN {
-        let k = load(words, left).to.0;
-        return mark(codes, vias, end, JOIN, 1 << k);
-    }
-    mark(codes, vias, end, made, 0)
 }
 
 // Whether n symbols of the question from s on equal m symbols from t on.
@@ -164,28 +155,34 @@ pub fn same_path(words: &[u64], used: usize, question: &[u8], a: usize, b: usize
     }
     let x = load(words, a);
     let y = load(words, b);
-    let made = x.made;
-    if made != y.made {
+    if x.made != y.made {
         return false;
     }
-    if made < JOIN {
-        return true;
-    }
-    if made == CLOSURE {
-        return same_codes(question, x.left, x.right, y.left, y.right);
-    }
-    if load(words, x.right).made != load(words, y.right).made {
-        return false;
-    }
-    if made == JOIN {
-        if load(words, x.left).to.0 != load(words, y.left).to.0 {
-            return false;
+    match symbols::decode(x.made, 0) {
+        Symbol::Step(_, _) => true,
+        Symbol::Join(_) => {
+            if load(words, x.right).made != load(words, y.right).made {
+                return false;
+            }
+            if load(words, x.left).to.0 != load(words, y.left).to.0 {
+                return false;
+            }
+            if !same_path(words, used, question, x.left, y.left) {
+                return false;
+            }
+            same_path(words, used, question, x.right, y.right)
         }
+        Symbol::Op(_) => {
+            if load(words, x.right).made != load(words, y.right).made {
+                return false;
+            }
+            if !same_path(words, used, question, x.left, y.left) {
+                return false;
+            }
+            same_path(words, used, question, x.right, y.right)
+        }
+        Symbol::Closure => same_codes(question, x.left, x.right, y.left, y.right),
     }
-    if !same_path(words, used, question, x.left, y.left) {
-        return false;
-    }
-    same_path(words, used, question, x.right, y.right)
 }
 
 // Whether the triples at nodes a and b are equal.

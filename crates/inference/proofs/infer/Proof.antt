@@ -7,6 +7,7 @@ use Rattle.inference.proofs.infer.Statement.{statement}
 use Rattle.inference.proofs.infer.Tie as tie
 use Rattle.inference.proofs.infer.Reads as reads
 use Rattle.inference.proofs.infer.Lts as lts
+use Rattle.symbols.proofs.decode.Reads as decode-reads
 use Rattle.symbols.proofs.operands.Reads as operands-reads
 use Rattle.inference.proofs.origin.Reads as origin-reads
 use Rattle.inference.proofs.rule.Reads as rule-reads
@@ -27,6 +28,9 @@ loop-holds c = (c .before .before .pre, running-start (c .before .before .pre))
 shared-slice-read-c : tie.Need-shared-slice-read-c Inv-loop μ-loop
 shared-slice-read-c c = search needs
 
+decode-requires : tie.Need-decode-requires Inv-loop μ-loop
+decode-requires c κs = search needs
+
 operands-requires : tie.Need-operands-requires Inv-loop μ-loop
 operands-requires c κs = search needs
 
@@ -34,7 +38,10 @@ cast-b : tie.Need-cast-b Inv-loop μ-loop
 cast-b c = search needs
 
 sub-b : tie.Need-sub-b Inv-loop μ-loop
-sub-b c = omega (arith, enough (c .before .before .before .loop .inv .0) (c .before .before .before .loop .inv .1) (c .before .before .loop-test .taken) (c .operands .ensures))
+sub-b c =
+    let c3 = c .before .before .before in
+    let c4 = c3 .before in
+    omega (arith, enough (c4 .loop .inv .0) (c4 .loop .inv .1) (c3 .loop-test .taken) (c .before .decode .ensures) (c .operands .ensures))
 
 mul-x : tie.Need-mul-x Inv-loop μ-loop
 mul-x c = search needs
@@ -54,9 +61,10 @@ array-copy-out-rule c = search needs
 rule-requires : tie.Need-rule-requires Inv-loop μ-loop
 rule-requires c κs =
     let c3 = c .before .before .before in
-    let c5 = c3 .before .before in
-    let c6 = c5 .before in
-    turn-at (c6 .loop .inv .0) (c6 .loop .inv .1) (c5 .loop-test .taken) (c3 .operands .ensures) .asks
+    let c4 = c3 .before in
+    let c6 = c4 .before .before in
+    let c7 = c6 .before in
+    turn-at (c7 .loop .inv .0) (c7 .loop .inv .1) (c6 .loop-test .taken) (c4 .decode .ensures) (c3 .operands .ensures) .asks
 
 enum-told : tie.Need-enum-told Inv-loop μ-loop
 enum-told c = search needs
@@ -68,9 +76,10 @@ returns : tie.Need-returns Inv-loop μ-loop
 returns c =
     let c4 = c .before .before .before .before in
     let c8 = c4 .before .before .before .before in
-    let c10 = c8 .before .before in
-    let c11 = c10 .before in
-    running-long (c11 .loop .inv .0) (c11 .loop .inv .1) (c10 .loop-test .taken) (c8 .operands .ensures) (c4 .rule .ensures) (c .enum-told .given .1)
+    let c9 = c8 .before in
+    let c11 = c9 .before .before in
+    let c12 = c11 .before in
+    running-long (c12 .loop .inv .0) (c12 .loop .inv .1) (c11 .loop-test .taken) (c9 .decode .ensures) (c8 .operands .ensures) (c4 .rule .ensures) (c .enum-told .given .1)
 
 enum-told-2 : tie.Need-enum-told-2 Inv-loop μ-loop
 enum-told-2 c = search needs
@@ -82,15 +91,16 @@ returns-2 : tie.Need-returns-2 Inv-loop μ-loop
 returns-2 c =
     let c4 = c .before .before .before .before in
     let c8 = c4 .before .before .before .before in
-    let c10 = c8 .before .before in
-    let c11 = c10 .before in
-    running-many (c11 .loop .inv .0) (c11 .loop .inv .1) (c10 .loop-test .taken) (c8 .operands .ensures) (c4 .rule .ensures) (c .enum-told2 .given .1)
+    let c9 = c8 .before in
+    let c11 = c9 .before .before in
+    let c12 = c11 .before in
+    running-many (c12 .loop .inv .0) (c12 .loop .inv .1) (c11 .loop-test .taken) (c9 .decode .ensures) (c8 .operands .ensures) (c4 .rule .ensures) (c .enum-told2 .given .1)
 
 enum-known-n : tie.Need-enum-known-n Inv-loop μ-loop
 enum-known-n c = search needs
 
-add-t34 : tie.Need-add-t34 Inv-loop μ-loop
-add-t34 c = omega (arith, c .before .before .before .before .before .rule .ensures .few (c .before .n .given .0 .0) (c .before .n .given .1))
+add-t35 : tie.Need-add-t35 Inv-loop μ-loop
+add-t35 c = omega (arith, c .before .before .before .before .before .rule .ensures .few (c .before .n .given .0 .0) (c .before .n .given .1))
 
 origin-requires : tie.Need-origin-requires Inv-loop μ-loop
 origin-requires c κs = search needs
@@ -118,9 +128,13 @@ loop-again c =
     let c2 = c .before .before in
     let c6 = c2 .before .before .before .before in
     let c10 = c6 .before .before .before .before in
-    let c12 = c10 .before .before in
-    let c13 = c12 .before in
-    (c13 .loop .inv .0, running-more (c13 .loop .inv .0) (c13 .loop .inv .1) (c12 .loop-test .taken) (c10 .operands .ensures) (c6 .rule .ensures) (c2 .n .given .1) (c .origin .ensures))
+    let c11 = c10 .before in
+    let c13 = c11 .before .before in
+    let c14 = c13 .before in (
+      c14 .loop .inv .0,
+      running-more (c14 .loop .inv .0) (c14 .loop .inv .1) (c13 .loop-test .taken) (c11 .decode .ensures) (c10 .operands .ensures) (c6 .rule .ensures) (c2 .n .given .1)
+          (c .origin .ensures),
+    )
 
 array-copy-out-q : tie.Need-array-copy-out-q Inv-loop μ-loop
 array-copy-out-q c = search needs
@@ -139,6 +153,7 @@ infer-spec =
     μ-loop
     loop-holds
     shared-slice-read-c
+    decode-requires
     operands-requires
     cast-b
     sub-b
@@ -155,7 +170,7 @@ infer-spec =
     same-length-2
     returns-2
     enum-known-n
-    add-t34
+    add-t35
     origin-requires
     mul-parts
     array-set-from-parts

@@ -10,10 +10,10 @@ use Rattle.rules.proofs.add_row.Lts as lts
 use Rattle.rules.proofs.add_pair.Reads as add-pair-reads
 
 abbrev Inv-loop : tie.InvT-loop
-Inv-loop words₀ question made s start i ys count₀ j₀ words count j = RowGrowing question words₀ words made s start count i (ys .start) (ys .end) j
+Inv-loop words₀ question o s start i ys count₀ j₀ words count j = RowGrowing question words₀ words o s start count i (ys .start) (ys .end) j
 
 abbrev μ-loop : tie.MeasureT-loop
-μ-loop words₀ question made s start i ys count₀ j₀ words count j = ys .end - j
+μ-loop words₀ question o s start i ys count₀ j₀ words count j = ys .end - j
 
 loop-holds : tie.Need-loop-holds Inv-loop μ-loop
 loop-holds c = row-start (c .before .before .pre)

@@ -12,10 +12,10 @@ use Rattle.triples.proofs.load.Reads as load-reads
 use Rattle.rules.proofs.pair_short.Reads as pair-short-reads
 
 abbrev Inv-loop : tie.InvT-loop
-Inv-loop words question made s i ys x j₀ j = RowLeft question words made i (ys .start) (ys .end) j
+Inv-loop words question o s i ys x j₀ j = RowLeft question words o i (ys .start) (ys .end) j
 
 abbrev μ-loop : tie.MeasureT-loop
-μ-loop words question made s i ys x j₀ j = ys .end - j
+μ-loop words question o s i ys x j₀ j = ys .end - j
 
 load-requires : tie.Need-load-requires Inv-loop μ-loop
 load-requires c κs = search needs

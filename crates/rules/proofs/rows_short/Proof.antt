@@ -11,10 +11,10 @@ use Rattle.rules.proofs.rows_short.Lts as lts
 use Rattle.rules.proofs.row_short.Reads as row-short-reads
 
 abbrev Inv-loop : tie.InvT-loop
-Inv-loop words question made s xs ys i₀ i = RowsLeft question words made (xs .start) (xs .end) (ys .start) (ys .end) i
+Inv-loop words question o s xs ys i₀ i = RowsLeft question words o (xs .start) (xs .end) (ys .start) (ys .end) i
 
 abbrev μ-loop : tie.MeasureT-loop
-μ-loop words question made s xs ys i₀ i = xs .end - i
+μ-loop words question o s xs ys i₀ i = xs .end - i
 
 loop-holds : tie.Need-loop-holds Inv-loop μ-loop
 loop-holds c = rows-left _ _ _ _ _ _ _ (c .before .before .pre .1 .ordered)

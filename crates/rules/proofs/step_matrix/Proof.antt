@@ -2,6 +2,7 @@
 -- Assumes nothing.
 use mathlib.Core.Path.{_≡_}
 use Rattle.rules.proofs.Steps.{matrix-none, matrix-more}
+use Rattle.symbols.specs.Contract.{direction-said}
 use Rattle.rules.specs.StepTriples.{StepMatrix}
 use borrow.Author.Needs.{needs}
 use Prim.Native.Nat.{_-_, _≤_}
@@ -13,16 +14,16 @@ use Rattle.rules.proofs.step_matrix.Lts as lts
 use Rattle.rules.proofs.step_row.Reads as step-row-reads
 
 abbrev Inv-loop : tie.InvT-loop
-Inv-loop matrix₀ table kinds c a₀ matrix a = (a ≤ kinds) × StepMatrix table c kinds a matrix
+Inv-loop matrix₀ table kinds direction link a₀ matrix a = (a ≤ kinds) × StepMatrix table (direction-said direction) (link .0) kinds a matrix
 
 abbrev μ-loop : tie.MeasureT-loop
-μ-loop matrix₀ table kinds c a₀ matrix a = kinds - a
+μ-loop matrix₀ table kinds direction link a₀ matrix a = kinds - a
 
 loop-holds : tie.Need-loop-holds Inv-loop μ-loop
-loop-holds c = (omega arith, matrix-none _ _ _ (c .before .pre .0))
+loop-holds c = (omega arith, matrix-none _ _ _ _ (c .before .pre .0))
 
-cast-t8 : tie.Need-cast-t8 Inv-loop μ-loop
-cast-t8 c = search needs
+cast-t9 : tie.Need-cast-t9 Inv-loop μ-loop
+cast-t9 c = search needs
 
 step-row-requires : tie.Need-step-row-requires Inv-loop μ-loop
 step-row-requires c κs = search needs
@@ -55,7 +56,7 @@ step-matrix-spec =
     Inv-loop
     μ-loop
     loop-holds
-    cast-t8
+    cast-t9
     step-row-requires
     mul-matrix
     slice-write-matrix

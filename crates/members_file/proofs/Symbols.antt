@@ -8,50 +8,52 @@ use Prim.Native.Nat.{ℕ, zero, suc, _+_, _-_, _*_, _<_, _≤_}
 use native.Mathlib.Nat.{eq-or-lt-of-le, zero-add}
 use native.Mathlib.Numerals.{add-one}
 use native.Mathlib.Omega.{arith}
-use lib.Dec.{eqb, eqb→eq}
+use lib.Dec.{eqb}
 use lib.ListN.{length, getD, set, length-set, length-append}
 use lib.Seq.{getD-set-same, getD-set-other}
 use borrow.Author.Tests.{ne-eqb}
 use Rattle.theory.specs.Lists.{tabulate}
-use Rattle.theory.specs.PathExpr.{any, through, PathExpr, Symbol, s-step, s-join, s-op, s-closure, postfix, code, codes}
+use Rattle.theory.specs.PathExpr.{Via, any, through, PathExpr, Symbol, s-step, s-join, s-op, s-closure, postfix, code, codes}
 use Rattle.theory.specs.JoinSets.{set-of, sets-of, Inferred, Marked}
-use Rattle.theory.proofs.Tests.{of-true}
 use Rattle.theory.proofs.JoinSets.{symbols-by, inferred-marked}
-use Rattle.symbols.specs.Symbols.{Numbered, numbered, number-symbol, symbol-given, symbols-given}
+use Rattle.symbols.specs.Symbols.{Numbered, numbered, symbol-numbered, number-symbol, symbol-given, symbols-given}
 use Rattle.symbols.specs.Writing.{symbol-bytes, symbols-bytes}
 use Rattle.merge.specs.Arrays.{segment}
 use Rattle.encode.specs.Size.{symbol-size}
 use Rattle.encode.proofs.Parts.{size-is}
-use Rattle.members_file.specs.Files.{number-of, renumbered, Numbering}
+use Rattle.members_file.specs.Files.{number-by, number-of, renumbered, Numbering}
 
 -- ---- a symbol's number
-pub other-code : (c m : ℕ) → ¬ (c ≡ 128) → c ≡ number-of c m
+pub by-symbol : (c m : ℕ) {s : Symbol} → symbol-numbered c 0 ≡ s → number-by c m s ≡ number-of c m
 unfolding number-of
-other-code c m n = rw (ne-eqb c 128 n)
+by-symbol c m e = ap (number-by c m) (sym e)
 
-pub plain-join : (c m : ℕ) → c ≡ 128 → m ≡ 0 → 128 ≡ number-of c m
+pub plain-join : (c m : ℕ) {v : Via} → symbol-numbered c 0 ≡ s-join v → m ≡ 0 → c ≡ number-of c m
+plain-join c m e z = sym (ap (λ (k : ℕ). cond (eqb k 0) c 255) z) ∙ by-symbol c m e
+
+pub set-join : (c m : ℕ) {v : Via} → symbol-numbered c 0 ≡ s-join v → ¬ (m ≡ 0) → 255 ≡ number-of c m
+set-join c m e z = sym (ap (λ (b : Bool). cond b c 255) (ne-eqb m 0 z)) ∙ by-symbol c m e
+
+-- without a set it is the code
+plain-number : (c : ℕ) → number-of c 0 ≡ c
 unfolding number-of
-plain-join c m e z = rw (e, z)
+plain-number c = go (symbol-numbered c 0)
+  where
+    go : (s : Symbol) → number-by c 0 s ≡ c
+    go (s-step d l) = refl
+    go (s-join v) = refl
+    go (s-op o) = refl
+    go s-closure = refl
 
-pub set-join : (c m : ℕ) → c ≡ 128 → ¬ (m ≡ 0) → 255 ≡ number-of c m
-unfolding number-of
-set-join c m e z = rw (e, ne-eqb m 0 z)
-
--- without a set a symbol's number is its code
 no-set : (c : ℕ) → numbered c 0 ≡ symbol-given (number-of c 0) 0
-unfolding number-of
-no-set c = go (eqb c 128) refl
+no-set c = rw (plain-number c) (ap (numbered c) (none (eqb c 255)))
   where
     none : (b : Bool) → _≡_ {A = ℕ} 0 (cond b 0 0)
     none true = refl
     none false = refl
 
-    go : (b : Bool) → eqb c 128 ≡ b → numbered c 0 ≡ symbol-given (cond b 128 c) 0
-    go true e = ap (λ (x : ℕ). numbered x 0) (eqb→eq c 128 (of-true (eqb c 128) e))
-    go false e = ap (numbered c) (none (eqb c 255))
-
 marked-number : (s : Symbol) → Marked s → number-symbol s ≡ symbol-given (number-of (code s) (set-of s)) (set-of s)
-unfolding number-of
+unfolding number-of symbol-numbered
 marked-number (s-step d l) x = no-set (code (s-step d l))
 marked-number (s-join any) x = refl
 marked-number (s-join (through m)) x = rw (ne-eqb m 0 (omega arith))

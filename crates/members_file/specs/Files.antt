@@ -8,9 +8,10 @@ use Prim.Native.Nat.{ℕ, zero, suc, _*_, _<_, _≤_}
 use lib.Dec.{eqb}
 use lib.ListN.{length, getD}
 use lib.Seq.{sets}
+use Rattle.theory.specs.PathExpr.{Symbol, s-step, s-join, s-op, s-closure}
 use Rattle.theory.specs.Merging.{Member}
 use Rattle.algorithms.specs.Sorting.{grouped}
-use Rattle.symbols.specs.Symbols.{Numbered, symbol-given, symbols-given}
+use Rattle.symbols.specs.Symbols.{Numbered, symbol-numbered, symbol-given, symbols-given}
 use Rattle.narrowed_question.specs.Form.{flat}
 use Rattle.symbols.specs.Writing.{symbols-bytes}
 use Rattle.narrowed_question.specs.Writing.{member-bytes}
@@ -20,9 +21,15 @@ use Rattle.merge.specs.Runs.{nodes-at}
 use Rattle.members_file.specs.declared.Entry.{Entry}
 use Rattle.members_file.specs.declared.Extent.{Extent}
 
--- the number of a symbol by its code and its set: a set that is not empty stands at a join only
+-- the number of a symbol by its code c and its set m: a set that is not empty stands at a join only
+abbrev pub number-by : ℕ → ℕ → Symbol → ℕ
+number-by c m (s-step d l) = c
+number-by c m (s-join v) = cond (eqb m 0) c 255
+number-by c m (s-op o) = c
+number-by c m s-closure = c
+
 unfoldable pub number-of : ℕ → ℕ → ℕ
-number-of c m = cond (eqb c 128) (cond (eqb m 0) 128 255) c
+number-of c m = number-by c m (symbol-numbered c 0)
 
 -- n symbols from the k-th on, by their codes and sets
 abbrev pub renumbered : List ℕ → List ℕ → ℕ → ℕ → List Numbered

@@ -1,4 +1,5 @@
 // The file of the members that the sorted nodes make: its length, and its bytes.
+use symbols::Symbol;
 ghost use mathlib.Core.Path.{_≡_};
 ghost use Prim.Native.Nat.{_≤_};
 ghost use lib.ListN.{length};
@@ -20,17 +21,21 @@ pub struct Extent {
     pub bytes: usize,
 }
 
-// The number of a symbol: 255 for a join through a set.
+// The number of a symbol: its code, and 255 for a join through a set.
 fn number(code: u8, set: u64) -> u8
     ensures { λ r. ⌜ r ≡ number-of code set ⌝ }
 {
-    if code != symbols::JOIN {
-        return code;
+    match symbols::decode(code, 0) {
+        Symbol::Step(_, _) => code,
+        Symbol::Join(_) => {
+            if set == 0 {
+                return code;
+            }
+            symbols::THROUGH
+        }
+        Symbol::Op(_) => code,
+        Symbol::Closure => code,
     }
-    if set == 0 {
-        return symbols::JOIN;
-    }
-    symbols::THROUGH
 }
 
 // Turns n symbols' codes into numbers; the bytes of their fields.

@@ -4,16 +4,16 @@ use mathlib.Core.Path.{_≡_, refl, sym, ap, _∙_}
 use mathlib.Core.Bool.{Bool, true, false, cond}
 use mathlib.Core.List.{List, _∷_}
 use mathlib.Core.Logic.{⊎-elim}
-use Prim.Native.Nat.{ℕ, zero, suc, _+_, _-_, _%_, _<_, _≤_}
+use Prim.Native.Nat.{ℕ, suc, _+_, _<_, _≤_}
 use native.Mathlib.Numerals.{add-one}
 use native.Mathlib.Omega.{arith}
-use lib.Dec.{eqb, leb, ltb}
+use lib.Dec.{leb, ltb}
 use lib.ListN.{length, getD, take, drop, drop-of-length-le}
 use lib.Seq.{drop-cons, getD-take, length-take-le}
 use borrow.Author.Tests.{lt-ltb, le-ltb, le-leb, lt-leb}
-use Rattle.theory.specs.PathExpr.{through, s-join}
+use Rattle.theory.specs.PathExpr.{Direction, Via, Op, s-step, s-join, s-op, s-closure}
 use Rattle.theory.specs.Narrowing.{Narrowing, refuse, unless, link-fault}
-use Rattle.symbols.specs.Symbols.{operator-numbered, symbol-numbered}
+use Rattle.symbols.specs.Symbols.{symbol-numbered}
 use Rattle.question.specs.Form.{question-symbols}
 use Rattle.rows.proofs.Words.{le-or-lt}
 use Rattle.narrowing.specs.Contract.{FirstUnnamed}
@@ -23,25 +23,18 @@ use Rattle.narrowing.specs.Internal.{TellsUnnamed}
 same-test : (E l : ℕ) → _≡_ {A = ℕ} (cond (ltb l E) 0 11) (cond (leb E l) 11 0)
 same-test E l = ⊎-elim (λ (h : E ≤ l). rw (le-ltb l E h, le-leb E l h)) (λ (h : l < E). rw (lt-ltb l E h, lt-leb E l h)) (le-or-lt E l)
 
-pub unnamed-step : (E c l : ℕ) → c < 128 → l ≡ c % 64 → TellsUnnamed E c (leb E l)
-unfolding symbol-numbered
-unnamed-step E c l h e =
-    ⊎-elim (λ (g : 64 ≤ c). let m : c - 64 ≡ l = omega arith in record { is = rw (le-ltb c 64 g, lt-ltb c 128 h, m) (same-test E l) })
-    (λ (g : c < 64). let m : l ≡ c = omega arith in record { is = rw (lt-ltb c 64 g, m) (same-test E c) })
-    (le-or-lt 64 c)
+module _ (E : ℕ) {c : ℕ} where
+  pub unnamed-step : {d : Direction} {l : ℕ} → symbol-numbered c 0 ≡ s-step d l → TellsUnnamed E c (leb E l)
+  unnamed-step {l = l} e = record { is = ap (link-fault E) e ∙ same-test E l }
 
-pub unnamed-never : (E c : ℕ) → 128 ≤ c → TellsUnnamed E c false
-unfolding symbol-numbered
-unnamed-never E c h = record { is = rw (le-ltb c 64 (omega arith), le-ltb c 128 h) (go (eqb c 255) (c - 128)) }
-  where
-    go : (b : Bool) (n : ℕ) → link-fault E (cond b (s-join (through 0)) (operator-numbered n)) ≡ 0
-    go true n = refl
-    go false zero = refl
-    go false (suc zero) = refl
-    go false (suc (suc zero)) = refl
-    go false (suc (suc (suc zero))) = refl
-    go false (suc (suc (suc (suc zero)))) = refl
-    go false (suc (suc (suc (suc (suc n))))) = refl
+  pub unnamed-join : {v : Via} → symbol-numbered c 0 ≡ s-join v → TellsUnnamed E c false
+  unnamed-join e = record { is = ap (link-fault E) e }
+
+  pub unnamed-op : {o : Op} → symbol-numbered c 0 ≡ s-op o → TellsUnnamed E c false
+  unnamed-op e = record { is = ap (link-fault E) e }
+
+  pub unnamed-closure : symbol-numbered c 0 ≡ s-closure → TellsUnnamed E c false
+  unnamed-closure e = record { is = ap (link-fault E) e }
 
 -- ---- the search: what is left finds what the whole finds
 pub record Searching (E : ℕ) (codes : List ℕ) (count i : ℕ) : Type 0 where

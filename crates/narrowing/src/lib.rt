@@ -3,6 +3,7 @@ use fields::Refusal;
 use fields::Source;
 use fields::Written;
 use inference::Inferred;
+use symbols::Symbol;
 ghost use mathlib.Core.Path.{_≡_};
 ghost use Prim.Native.Nat.{_<_, _≤_};
 ghost use lib.ListN.{length, take};
@@ -38,11 +39,12 @@ struct Prepared {
 fn unnamed(code: u8, links: u8) -> bool
     ensures { λ r. ⌜ TellsUnnamed links code r ⌝ }
 {
-    if code < symbols::STEPS {
-        let link = symbols::step_link(code);
-        return links <= link.0;
+    match symbols::decode(code, 0) {
+        Symbol::Step(_, link) => links <= link.0,
+        Symbol::Join(_) => false,
+        Symbol::Op(_) => false,
+        Symbol::Closure => false,
     }
-    false
 }
 
 // 11: the first of `count` symbols whose link is not below `links`; `count` where there is none.

@@ -158,8 +158,8 @@ fn alike(words: &[u64], used: usize, question: &[u8], i: usize, j: usize) -> boo
     triples::same_path(words, used, question, i, j)
 }
 
-// Whether one of the nodes p to i, i left out, has the from kind and the path of node i. The newest are tried first, since such nodes mostly
-// stand side by side.
+// Whether one of the nodes p to i, i left out, has the from kind and the path of node i. The newest are tried first,
+// since such nodes mostly stand side by side.
 fn stands_alike(words: &[u64], used: usize, question: &[u8], p: usize, i: usize) -> bool
     requires { ⌜ Has (now question) (now words) used i × (p ≤ i) ⌝ }
     ensures { λ r. ⌜ StandsAlike (now (question .entry)) (now (words .entry)) p i r ⌝ }
@@ -174,8 +174,8 @@ fn stands_alike(words: &[u64], used: usize, question: &[u8], p: usize, i: usize)
     false
 }
 
-// Whether one of the nodes p to i, i left out, gives the same row as node i. A branch left drops the to kind of its left triple, so nodes
-// that differ only there do.
+// Whether one of the nodes p to i, i left out, gives the same row as node i. A branch left drops the to kind of its left
+// triple, so nodes that differ only there do.
 fn repeats(words: &[u64], used: usize, question: &[u8], o: PairOperator, p: usize, i: usize) -> bool
     requires { ⌜ Has (now question) (now words) used i × (p ≤ i) ⌝ }
     ensures { λ r. ⌜ Repeats (now (question .entry)) (now (words .entry)) o p i r ⌝ }
@@ -302,7 +302,7 @@ fn add_copies(words: &mut [u64], question: &[u8], s: usize, start: usize, ys: Sp
 }
 
 // The rule of union for the nodes xs and ys: its part is made from s on.
-pub fn union_rule(words: &mut [u64], question: &[u8], s: usize, xs: Span, ys: Span) -> Part
+fn union_rule(words: &mut [u64], question: &[u8], s: usize, xs: Span, ys: Span) -> Part
     requires { ⌜ Unite (now question) (now words) s xs ys ⌝ }
     ensures { λ r. ⌜ Ruled (now (question .entry)) (now (words .entry)) (now (words .exit)) s (distinct (op-in (now (question .entry)) (now (words .entry)) union xs ys)) r ⌝ }
 {

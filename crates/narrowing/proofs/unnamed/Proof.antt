@@ -1,21 +1,51 @@
--- `narrowing::unnamed` meets its contract: a step's link is its code modulo 64, with a name where it is below the number of links; no other symbol has a link.
+-- `narrowing::unnamed` meets its contract: a step's link has a name where it is below the number of links; no other symbol has a link.
 -- Assumes nothing.
+use Rattle.symbols.proofs.Numbers.{decoded}
+use Rattle.narrowing.proofs.Links.{unnamed-step, unnamed-join, unnamed-op, unnamed-closure}
 use borrow.Author.Needs.{needs}
 use Rattle.narrowing.proofs.unnamed.Statement.{statement}
 use Rattle.narrowing.proofs.unnamed.Tie as tie
 use Rattle.narrowing.proofs.unnamed.Reads as reads
 use Rattle.narrowing.proofs.unnamed.Lts as lts
-use Rattle.symbols.proofs.step_link.Reads as step-link-reads
-use Rattle.narrowing.proofs.Links.{unnamed-step, unnamed-never}
+use Rattle.symbols.proofs.decode.Reads as decode-reads
 
-step-link-requires : tie.Need-step-link-requires
-step-link-requires c κs = search needs
+decode-requires : tie.Need-decode-requires
+decode-requires c κs = search needs
+
+enum-known-link : tie.Need-enum-known-link
+enum-known-link c = search needs
+
+enum-told : tie.Need-enum-told
+enum-told c = search needs
+
+enum-told-2 : tie.Need-enum-told-2
+enum-told-2 c = search needs
+
+enum-told-3 : tie.Need-enum-told-3
+enum-told-3 c = search needs
 
 returns : tie.Need-returns
-returns c = unnamed-step _ _ _ (c .before .before .if1 .taken) (c .before .step-link .ensures .0)
+returns c = unnamed-step _ (decoded (c .before .before .before .before .decode .ensures) (c .before .before .link .given .1))
 
 returns-2 : tie.Need-returns-2
-returns-2 c = unnamed-never _ _ (c .if1 .left)
+returns-2 c = unnamed-join _ (decoded (c .before .before .decode .ensures) (c .enum-told .given .1))
+
+returns-3 : tie.Need-returns-3
+returns-3 c = unnamed-op _ (decoded (c .before .before .decode .ensures) (c .enum-told2 .given .1))
+
+returns-4 : tie.Need-returns-4
+returns-4 c = unnamed-closure _ (decoded (c .before .before .decode .ensures) (c .enum-told3 .given .1))
 
 pub unnamed-spec : {M : Type 1} → statement M
-unnamed-spec = tie.close (tie.spec step-link-requires returns returns-2)
+unnamed-spec =
+    tie.close
+    (tie.spec
+    decode-requires
+    enum-known-link
+    enum-told
+    enum-told-2
+    enum-told-3
+    returns
+    returns-2
+    returns-3
+    returns-4)

@@ -11,7 +11,7 @@ use lib.Dec.{leb, ltb}
 use lib.ListN.{length, getD, take, drop, drop-of-length-le}
 use lib.Seq.{drop-cons, getD-take, length-take-le}
 use borrow.Author.Tests.{lt-ltb, le-ltb, le-leb, lt-leb}
-use Rattle.theory.specs.PathExpr.{Direction, Via, Op, s-step, s-join, s-op, s-closure}
+use Rattle.theory.specs.PathExpr.{Direction, named, Via, Op, s-step, s-join, s-op, s-closure}
 use Rattle.theory.specs.Narrowing.{Narrowing, refuse, unless, link-fault}
 use Rattle.symbols.specs.Symbols.{symbol-numbered}
 use Rattle.question.specs.Form.{question-symbols}
@@ -24,7 +24,7 @@ same-test : (E l : ℕ) → _≡_ {A = ℕ} (cond (ltb l E) 0 11) (cond (leb E l
 same-test E l = ⊎-elim (λ (h : E ≤ l). rw (le-ltb l E h, le-leb E l h)) (λ (h : l < E). rw (lt-ltb l E h, lt-leb E l h)) (le-or-lt E l)
 
 module _ (E : ℕ) {c : ℕ} where
-  pub unnamed-step : {d : Direction} {l : ℕ} → symbol-numbered c 0 ≡ s-step d l → TellsUnnamed E c (leb E l)
+  pub unnamed-step : {d : Direction} {l : ℕ} → symbol-numbered c 0 ≡ s-step d (named l) → TellsUnnamed E c (leb E l)
   unnamed-step {l = l} e = record { is = ap (link-fault E) e ∙ same-test E l }
 
   pub unnamed-join : {v : Via} → symbol-numbered c 0 ≡ s-join v → TellsUnnamed E c false

@@ -4,7 +4,7 @@ use fields::File;
 use fields::Link;
 use fields::Refusal;
 ghost use mathlib.Core.Path.{_≡_};
-ghost use Prim.Native.Nat.{_<_, _%_};
+ghost use Prim.Native.Nat.{_<_};
 ghost use lib.ListN.{length};
 ghost use Rattle.fields.specs.Table.{tag-length};
 ghost use Rattle.symbols.specs.Symbols.{symbol-length, step-of, operator-of, symbol-in, push, operands, arity, due-symbols, symbol-numbered, number-symbol, order-code, symbol?, numbered, direction-numbered};
@@ -16,7 +16,7 @@ ghost use Rattle.symbols.specs.Contract.{direction-said, via-said, opera
 const DIRECTIONS: u8 = 2;
 
 // Numbers below this one are steps: forward ones, and then reverse ones.
-pub const STEPS: u8 = DIRECTIONS * fields::LINKS;
+const STEPS: u8 = DIRECTIONS * fields::LINKS;
 
 // The codes of operators by name.
 pub const JOIN: u8 = STEPS;
@@ -218,13 +218,6 @@ pub fn symbol_in(at: usize, tag: u8, b: &[u8]) -> Read
         return operator_in(at, b);
     }
     Read::Is(join_number(Via::Through(fields::eight_at(b, SET_IN))))
-}
-
-// The link of a step, forward or reverse, by its number.
-pub fn step_link(number: u8) -> Link
-    ensures { λ r. ⌜ (r .0 ≡ number % 64) × (r .0 < 64) ⌝ }
-{
-    Link(number % fields::LINKS)
 }
 
 // How many paths a symbol takes.

@@ -125,7 +125,7 @@ NAMES = ("sheet", "question", "register")
 
 
 class Run(NamedTuple):
-    """The files of the folder: bytes, FOLDER, LINK, or None for one that is not there; and what is printed, where the paper says it."""
+    """The files of the folder: bytes, FOLDER, LINK, or None for one that is not there; and what is printed, where the specification says it."""
     files: tuple
     printed: Optional[str] = None
 

@@ -193,7 +193,7 @@ def chained(step: Step) -> list:
     return [step, Operator(CHAIN)]
 
 
-# The cases of the paper, and what narrowing makes of questions.
+# The cases of the specification, and what narrowing makes of questions.
 
 def case_calls() -> Iterator:
     for register in (cases.REGISTER, cases.BREAKING_REGISTER):

@@ -119,7 +119,7 @@ def moved(data: bytes):
         yield b"".join(fields[:i] + fields[i + 1:i + 2] + [field] + fields[i + 2:])
 
 
-# by tag: one below, at and above the ends of each range of the paper, and of what the cases make of it
+# by tag: one below, at and above the ends of each range of the specification, and of what the cases make of it
 EDGES = {
     0x11: (0, 1, 2, 4, 5, 6, 7, 63, 64, 65, 255),
     0x12: (0, 4, 5, 6, 7, 63, 64),

@@ -137,7 +137,7 @@ def around(before: int, ring: int, after: int) -> list:
     return [*((a, first) for a in kinds[:before]), *ring_of(kinds[before:before + ring]), *((last, b) for b in kinds[before + ring:])]
 
 
-# The cases of the paper, and areas of every length.
+# The cases of the specification, and areas of every length.
 
 def case_calls() -> Iterator:
     for case in cases.CASES:

@@ -1,4 +1,4 @@
--- The starred cases: antt computes the narrowing of each question of the table, and the file that the paper prints.
+-- The starred cases: antt computes the narrowing of each question of the table, and the file that SPECIFICATION prints.
 -- Assumes nothing.
 use mathlib.Core.Path.{_≡_, refl}
 use mathlib.Core.List.{map}
@@ -12,10 +12,11 @@ use Rattle.theory.specs.Sheet.{permits?}
 use Rattle.theory.specs.Inference.{triple?, reach, meets-cyclic?, of-closure}
 use Rattle.theory.specs.Merging.{same-shape?}
 use Rattle.theory.specs.Narrowing.{part-fault, parted, narrow-symbols}
+use Rattle.symbols.specs.Symbols.{symbol-numbered}
 use Rattle.narrowed_question.specs.Writing.{encode}
 use Rattle.narrowed_question.specs.Members.{narrowed-file}
 use Rattle.starred_cases.specs.Table.{sheet, cases, computed, expected}
 
 pub starred : map computed cases ≡ map expected cases
-unfolding singleton set-union closure? same? same-edge? permits? adjoin triple? reach meets-cyclic? of-closure same-shape? part-fault parted narrow-symbols encode narrowed-file sheet cases ℕ-discrete
+unfolding singleton set-union closure? same? same-edge? permits? adjoin triple? reach meets-cyclic? of-closure same-shape? part-fault parted narrow-symbols symbol-numbered encode narrowed-file sheet cases ℕ-discrete
 starred = refl

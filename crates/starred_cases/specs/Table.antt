@@ -1,4 +1,4 @@
--- The starred cases as one table: a question, the members that it narrows to on the sheet of the cases, and their file where the paper prints it.
+-- The starred cases as one table: a question, the members that it narrows to on the sheet of the cases, and their file where SPECIFICATION prints it.
 -- SPECIFICATION, The example fleet, Cases.
 -- Assumes nothing.
 use mathlib.Core.List.{List, [], _∷_}
@@ -73,7 +73,7 @@ cases =
     ∷ case (closure (join any sealed sealed⁻)) (member 3 (closure (join any sealed sealed⁻)) 3 ∷ [])
     ∷ []
 
--- ---- what a case comes to, and what the paper says
+-- ---- what a case comes to, and what SPECIFICATION says
 pub record Narrowed : Type 0 where
   pub narrowing : Narrowing
   pub file : Option (List ℕ)

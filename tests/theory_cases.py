@@ -8,6 +8,7 @@ The proof of that crate has the definitions of crates/theory computed on every c
 from __future__ import annotations
 
 import sys
+import textwrap
 from pathlib import Path
 from random import Random
 
@@ -162,7 +163,8 @@ def short_line(question: list) -> str:
 
 
 def table(head: str, lines) -> str:
-    return head + "    " + "\n    ∷ ".join([*lines, "[]"]) + "\n"
+    rows = (row for each in "\n∷ ".join([*lines, "[]"]).split("\n") for row in textwrap.wrap(each, 196, break_on_hyphens=False))
+    return head + "".join(f"    {row}\n" for row in rows)
 
 
 def tables() -> dict:

@@ -20,7 +20,8 @@ use Rattle.symbols.specs.Symbols.{Numbered, numbered, symbol-numbered, symbol-o
 use Rattle.fields.proofs.Bools.{and-left}
 use Rattle.fields.proofs.ReaderLoop.{Going, going-start, going-ends, going-more, going-refused}
 use Rattle.narrowed_question.specs.declared.Members.{Members}
-use Rattle.narrowed_question.specs.Form.{Flat, flat, numbers, due, grown, judge, narrowed-form, order-codes, nothing, opens, count-of, fresh, open-of, member-symbol, Gathered, gathered, narrowed-format}
+use Rattle.narrowed_question.specs.Form.{Flat, flat, numbers, order-codes, Gathered, gathered, narrowed-format, narrowed-form}
+use Rattle.narrowed_question.specs.Form.{due, grown, judge, nothing, opens, count-of, fresh, open-of, member-symbol}
 use Rattle.fields.specs.Writing.{two-bytes}
 use Rattle.symbols.specs.Writing.{symbol-tag, symbol-body, symbol-bytes, symbols-bytes}
 use Rattle.narrowed_question.specs.Writing.{head-bytes, member-bytes, members-bytes, encode}
@@ -182,7 +183,8 @@ module _ (s : List ℕ) (A : Result (List Flat)) where
     symbols-judged (x ∷ (y ∷ ys)) p f t o xs at r g e u l k = first-judged x (y ∷ ys) (omega arith) (symbols-judged (y ∷ ys)) p f t o xs at r g e u l k
 
     -- a member, whose 42 is at a place
-    module _ (m : Flat) (z : Gathered) (zp : z .prev ≡ prev) (zm : z .members ≡ ms) (at : ℕ) (r : List ℕ) (g : Going narrowed-form s A (Between (suc left), z) at) (e : drop at s ≡ member-bytes m ++ r) where
+    module _ (m : Flat) (z : Gathered) (zp : z .prev ≡ prev) (zm : z .members ≡ ms) (at : ℕ) (r : List ℕ)
+        (g : Going narrowed-form s A (Between (suc left), z) at) (e : drop at s ≡ member-bytes m ++ r) where
       abbrev size : ℕ
       size = length (m .symbols)
 
@@ -279,7 +281,8 @@ module _ (v : List Flat) (u : AllNormal v) where
   by-count false h = going-refused narrowed-form (encode v) A (Head, none-yet) 0 (going-start narrowed-form (encode v)) 0x41 2 (lies-41 .seen) 3 0 (judged-41 ∙ ap begins h)
   by-count true h =
       members-judged (encode v) A v none-yet 5
-      (going-more narrowed-form (encode v) A (Head, none-yet) 0 (going-start narrowed-form (encode v)) 0x41 2 (lies-41 .seen) (Between (length v), none-yet) (judged-41 ∙ ap begins h)) (lies-41 .after) u
+      (going-more narrowed-form (encode v) A (Head, none-yet) 0 (going-start narrowed-form (encode v)) 0x41 2 (lies-41 .seen) (Between (length v), none-yet) (judged-41 ∙ ap begins h))
+      (lies-41 .after) u
 
   pub verdict-is : Whole (encode v) (read narrowed-form (encode v)) v (verdict v)
   unfolding verdict field-size tag-length rows

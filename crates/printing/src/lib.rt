@@ -26,12 +26,15 @@ fn put_text(out: &mut [u8], at: usize, s: &[u8]) -> usize
     a
 }
 
+// The most decimal digits of a word.
+const DIGITS: usize = 20;
+
 // The decimal digits of n.
 fn put_decimal(out: &mut [u8], at: usize, n: u64) -> usize
     requires { ⌜ at + length (decimal n) ≤ length (now out) ⌝ }
     ensures { λ r. ⌜ BytesWritten (now (out .entry)) (now (out .exit)) at r (decimal n) ⌝ }
 {
-    let mut digits = [0u8; 20];
+    let mut digits = [0u8; DIGITS];
     let k = io::decimal(n, &mut digits);
     put_text(out, at, &digits[..k])
 }

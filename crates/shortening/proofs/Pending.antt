@@ -159,7 +159,8 @@ module _ (k : Context) (whole : PathExpr) (rest : List Pend) (l c : Symbol) wher
             subst (λ (j : ℕ). Stacked (pushed a d k c) j rest) z (stacked-none m s (first-context k c) (second-context c));
       }
 
-  one-operand : (p : PathExpr) → Askable p → codes whole ≡ codes p ++ (code l ∷ []) → becoming k whole ≡ becoming (first-context k c) p ++ take (kept k c) (code c ∷ []) → operands c ≡ 1 → Turn k whole rest l c
+  one-operand : (p : PathExpr) → Askable p → codes whole ≡ codes p ++ (code l ∷ [])
+      → becoming k whole ≡ becoming (first-context k c) p ++ take (kept k c) (code c ∷ []) → operands c ≡ 1 → Turn k whole rest l c
   one-operand p g e f n =
       let x = pend (first-context k c) p g in
       record {

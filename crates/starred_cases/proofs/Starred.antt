@@ -18,5 +18,6 @@ use Rattle.narrowed_question.specs.Members.{narrowed-file}
 use Rattle.starred_cases.specs.Table.{sheet, cases, computed, expected}
 
 pub starred : map computed cases ≡ map expected cases
-unfolding singleton set-union closure? same? same-edge? permits? adjoin triple? reach meets-cyclic? of-closure same-shape? part-fault parted narrow-symbols symbol-numbered encode narrowed-file sheet cases ℕ-discrete
+unfolding singleton set-union closure? same? same-edge? permits? adjoin triple? reach meets-cyclic? of-closure same-shape? part-fault
+    parted narrow-symbols symbol-numbered encode narrowed-file sheet cases ℕ-discrete
 starred = refl

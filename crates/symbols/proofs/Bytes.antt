@@ -12,7 +12,8 @@ use borrow.Author.Tests.{eqb-true, eqb-false, ltb-true, leb-true, lt-ltb, le-leb
 use Rattle.theory.specs.Result.{got, refused}
 use Rattle.fields.specs.Reading.{eight, fitting, due-rows, tags-due}
 use Rattle.theory.specs.PathExpr.{forward, reverse, named, any, through, union, conjunction, branch-right, branch-left, Symbol, s-step, s-join, s-op, s-closure}
-use Rattle.symbols.specs.Symbols.{Numbered, numbered, symbol-of, symbol-numbered, operator-numbered, number-symbol, direction-numbered, symbol-given, step-of, operator-of, symbol-in, symbol-length, due-symbols}
+use Rattle.symbols.specs.Symbols.{Numbered, numbered, symbol-of, symbol-numbered, operator-numbered, number-symbol, direction-numbered, symbol-given}
+use Rattle.symbols.specs.Symbols.{step-of, operator-of, symbol-in, symbol-length, due-symbols}
 use Rattle.fields.proofs.Bools.{cond-then, not-got, and-left, and-right}
 use Rattle.fields.specs.Writing.{Bytes, eight-bytes, field-bytes}
 use Rattle.symbols.specs.Writing.{direction-number, tag-of, body-of, symbol-tag, symbol-body, symbol-bytes}

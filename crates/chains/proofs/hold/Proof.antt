@@ -42,10 +42,20 @@ mul-b : tie.Need-mul-b
 mul-b c = search needs
 
 mul-b-2 : tie.Need-mul-b-2
-mul-b-2 c = let a = c .before .before .before .before .before .before .before .before .before .before .before .before .before .args in omega (arith, before-end (c .before .before .before .before .before .place2 .result) (a .n * a .w) (omega (arith, c .before .before .before .before .before .place2 .ensures .0, c .before .before .before .before .if2 .left)), small (c .before .before .before .before .before .before .before .before .before .before .before .before .before .pre .0))
+mul-b-2 c =
+    let c4 = c .before .before .before .before in
+    let c5 = c4 .before in
+    let c13 = c5 .before .before .before .before .before .before .before .before in
+    let a = c13 .args in
+    omega (arith, before-end (c5 .place2 .result) (a .n * a .w) (omega (arith, c5 .place2 .ensures .0, c4 .if2 .left)), small (c13 .pre .0))
 
 step-requires : tie.Need-step-requires
-step-requires c κs = let a = c .before .before .before .before .before .before .before .before .before .before .before .before .before .before .args in (omega (arith, before-end (c .before .before .before .before .before .before .place2 .result) (a .n * a .w) (omega (arith, c .before .before .before .before .before .before .place2 .ensures .0, c .before .before .before .before .before .if2 .left)), c .before .before .before .before .before .before .before .before .before .before .before .before .before .before .pre .1), c .before .before .before .before .before .before .before .before .before .before .before .before .before .before .pre .0)
+step-requires c κs =
+    let c5 = c .before .before .before .before .before in
+    let c6 = c5 .before in
+    let c14 = c6 .before .before .before .before .before .before .before .before in
+    let a = c14 .args in
+    (omega (arith, before-end (c6 .place2 .result) (a .n * a .w) (omega (arith, c6 .place2 .ensures .0, c5 .if2 .left)), c14 .pre .1), c14 .pre .0)
 
 slice-write-held : tie.Need-slice-write-held
 slice-write-held c = search needs
@@ -67,16 +77,22 @@ same-length-4 c = search needs
 
 returns-3 : tie.Need-returns-3
 returns-3 c =
-    let a = c .before .before .before .before .before .before .before .before .before .before .before .before .before .before .before .before .before .args in
-    let p = c .before .before .before .before .before .before .before .before .before .before .before .before .before .before .before .before .before .pre in
-    let f = c .before .before .before .before .before .before .before .before .before .place2 .result in
+    let c2 = c .before .before in
+    let c5 = c2 .before .before .before in
+    let c7 = c5 .before .before in
+    let c8 = c7 .before in
+    let c9 = c8 .before in
+    let c17 = c9 .before .before .before .before .before .before .before .before in
+    let a = c17 .args in
+    let p = c17 .pre in
+    let f = c9 .place2 .result in
     let z = a .n * a .w in
-    let l : f < 4 = omega (arith, c .before .before .before .before .before .before .before .before .before .place2 .ensures .0, c .before .before .before .before .before .before .before .before .if2 .left) in (
-      c .before .before .before .before .before .before .before .before .before .place2 .ensures .0,
+    let l : f < 4 = omega (arith, c9 .place2 .ensures .0, c8 .if2 .left) in (
+      c9 .place2 .ensures .0,
       λ h. getD-set-same (a .held .now) f (a .number) 0 (omega (arith, p .2 .few)),
-      held-more (p .0) f (a .number) (p .2) (c .before .before .step .ensures) (decoded (c .before .before .before .before .before .before .before .decode .ensures) (c .before .before .before .before .before .direction .given .1)) l,
-      holds-more (a .held .now) f (a .number) (c .before .before .before .before .before .before .before .before .before .place2 .ensures .1 l),
-      kept-in (c .before .before .step .ensures .kept) (past f z) (before-end f z l),
+      held-more (p .0) f (a .number) (p .2) (c2 .step .ensures) (decoded (c7 .decode .ensures) (c5 .direction .given .1)) l,
+      holds-more (a .held .now) f (a .number) (c9 .place2 .ensures .1 l),
+      kept-in (c2 .step .ensures .kept) (past f z) (before-end f z l),
     )
 
 same-length-5 : tie.Need-same-length-5

@@ -14,7 +14,11 @@ enum-known-direction : tie.Need-enum-known-direction
 enum-known-direction c = search needs
 
 put-step-requires : tie.Need-put-step-requires
-put-step-requires c κs = symbol-room _ _ _ _ (decoded (c .before .before .before .before .decode .ensures) (c .before .before .direction .given .1)) (c .before .before .before .before .before .before .pre)
+put-step-requires c κs =
+    let c2 = c .before .before in
+    let c4 = c2 .before .before in
+    let c6 = c4 .before .before in
+    symbol-room _ _ _ _ (decoded (c4 .decode .ensures) (c2 .direction .given .1)) (c6 .pre)
 
 enum-known-via : tie.Need-enum-known-via
 enum-known-via c = search needs
@@ -38,25 +42,41 @@ same-length : tie.Need-same-length
 same-length c = search needs
 
 returns : tie.Need-returns
-returns c = rw (given-bytes _ _ (decoded (c .before .before .before .before .before .before .before .decode .ensures) (c .before .before .before .before .before .direction .given .1))) (c .before .before .put-step .ensures)
+returns c =
+    let c2 = c .before .before in
+    let c5 = c2 .before .before .before in
+    let c7 = c5 .before .before in
+    rw (given-bytes _ _ (decoded (c7 .decode .ensures) (c5 .direction .given .1))) (c2 .put-step .ensures)
 
 same-length-2 : tie.Need-same-length-2
 same-length-2 c = search needs
 
 returns-2 : tie.Need-returns-2
-returns-2 c = rw (given-bytes _ _ (decoded (c .before .before .before .before .before .before .before .decode .ensures) (c .before .before .before .before .before .via .given .1))) (c .before .before .put-join .ensures)
+returns-2 c =
+    let c2 = c .before .before in
+    let c5 = c2 .before .before .before in
+    let c7 = c5 .before .before in
+    rw (given-bytes _ _ (decoded (c7 .decode .ensures) (c5 .via .given .1))) (c2 .put-join .ensures)
 
 same-length-3 : tie.Need-same-length-3
 same-length-3 c = search needs
 
 returns-3 : tie.Need-returns-3
-returns-3 c = rw (given-bytes _ _ (decoded (c .before .before .before .before .before .before .decode .ensures) (c .before .before .before .before .enum-told .given .1))) (c .before .before .put-operator .ensures)
+returns-3 c =
+    let c2 = c .before .before in
+    let c4 = c2 .before .before in
+    let c6 = c4 .before .before in
+    rw (given-bytes _ _ (decoded (c6 .decode .ensures) (c4 .enum-told .given .1))) (c2 .put-operator .ensures)
 
 same-length-4 : tie.Need-same-length-4
 same-length-4 c = search needs
 
 returns-4 : tie.Need-returns-4
-returns-4 c = rw (given-bytes _ _ (decoded (c .before .before .before .before .before .before .decode .ensures) (c .before .before .before .before .enum-told2 .given .1))) (c .before .before .put-operator2 .ensures)
+returns-4 c =
+    let c2 = c .before .before in
+    let c4 = c2 .before .before in
+    let c6 = c4 .before .before in
+    rw (given-bytes _ _ (decoded (c6 .decode .ensures) (c4 .enum-told2 .given .1))) (c2 .put-operator2 .ensures)
 
 pub put-symbol-spec : {M : Type 1} → statement M
 put-symbol-spec =

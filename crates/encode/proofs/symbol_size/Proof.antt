@@ -32,7 +32,12 @@ unfolding field-size tag-length rows
 returns c = let e = size-of _ (decoded (c .before .before .decode .ensures) (c .enum-told .given .1)) in (sym e, omega arith)
 
 returns-2 : tie.Need-returns-2
-returns-2 c = let e = c .join-size .ensures ∙ sym (size-of _ (decoded (c .before .before .before .before .decode .ensures) (c .before .before .via .given .1))) in (e, omega (arith, e, size-few (c .before .before .before .before .before .args .number)))
+returns-2 c =
+    let c2 = c .before .before in
+    let c4 = c2 .before .before in
+    let c5 = c4 .before in
+    let e = c .join-size .ensures ∙ sym (size-of _ (decoded (c4 .decode .ensures) (c2 .via .given .1))) in
+    (e, omega (arith, e, size-few (c5 .args .number)))
 
 returns-3 : tie.Need-returns-3
 unfolding field-size tag-length rows

@@ -71,9 +71,11 @@ add-depth c = omega (arith, operands-few (symbol-said (c .before .before .before
 
 encode-requires : tie.Need-encode-requires Inv-loop μ-loop
 encode-requires c κs =
-    let l = c .before .before .before .before .before .before .before .before .loop in
-    let k = getD (l .contexts) (l .depth - 1) Elsewhere in
-    turned-fits (c .before .before .before .turn .result) k (getD (now (c .before .before .before .before .before .before .before .before .before .before .args .codes)) (l .i - 1) 0) (c .before .before .before .turn .ensures ∙ ap (turned k) (c .before .before .before .before .decode .ensures))
+    let c3 = c .before .before .before in
+    let c4 = c3 .before in
+    let c8 = c4 .before .before .before .before in
+    let k = getD (c8 .loop .contexts) (c8 .loop .depth - 1) Elsewhere in
+    turned-fits (c3 .turn .result) k (getD (now (c8 .before .before .args .codes)) (c8 .loop .i - 1) 0) (c3 .turn .ensures ∙ ap (turned k) (c4 .decode .ensures))
 
 sub-out : tie.Need-sub-out Inv-loop μ-loop
 sub-out c = search needs
@@ -94,12 +96,16 @@ loop-less c = search needs
 
 loop-again : tie.Need-loop-again Inv-loop μ-loop
 loop-again c =
-    let l = c .before .before .before .before .before .before .before .before .before .before .loop in
+    let c2 = c .before .before in
+    let c4 = c2 .before .before in
+    let c5 = c4 .before in
+    let c9 = c5 .before .before .before .before in
+    let l = c9 .before .loop in
     let (q, h) = l .inv in
-    let said = c .before .before .before .before .before .turn .ensures ∙ ap (turned (getD (l .contexts) (l .depth - 1) Elsewhere)) (c .before .before .before .before .before .before .decode .ensures) in (
+    let said = c5 .turn .ensures ∙ ap (turned (getD (l .contexts) (l .depth - 1) Elsewhere)) (c5 .before .decode .ensures) in (
       q,
-      rw (c .before .before .before .before .first-context .ensures, c .before .before .before .second-context .ensures, c .before .before .operands-of .ensures, c .before .encode .ensures, c .keep .ensures, said)
-          (pass-top _ _ _ _ _ _ (c .before .before .before .before .before .before .before .before .before .loop-test .taken) h .next),
+      rw (c4 .first-context .ensures, c2 .before .second-context .ensures, c2 .operands-of .ensures, c .before .encode .ensures, c .keep .ensures, said)
+          (pass-top _ _ _ _ _ _ (c9 .loop-test .taken) h .next),
     )
 
 returns : tie.Need-returns Inv-loop μ-loop

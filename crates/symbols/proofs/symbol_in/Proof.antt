@@ -34,7 +34,10 @@ join-number-requires c κs = search needs
 
 returns-3 : tie.Need-returns-3
 unfolding symbol-in
-returns-3 c = simp (ne-eqb _ _ (c .before .before .before .if1 .left), ne-eqb _ _ (c .before .before .if2 .left)) (ap got (c .join-number .ensures ∙ ap (λ m. number-symbol (s-join (through m))) (c .before .eight-at .ensures)))
+returns-3 c =
+    let c2 = c .before .before in
+    let c3 = c2 .before in
+    simp (ne-eqb _ _ (c3 .if1 .left), ne-eqb _ _ (c2 .if2 .left)) (ap got (c .join-number .ensures ∙ ap (λ m. number-symbol (s-join (through m))) (c .before .eight-at .ensures)))
 
 pub symbol-in-spec : {M : Type 1} → statement M
 symbol-in-spec =

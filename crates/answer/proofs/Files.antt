@@ -34,7 +34,7 @@ use Rattle.narrowed_question.specs.Contract.{Packed, ReadsInto, members-in, out
 use Rattle.narrowed_question.proofs.MembersInArrays.{heads, packed-given}
 use Rattle.narrowed_question.proofs.ReadThenWritten.{accepted-formed}
 use Rattle.evaluation.specs.Ground.{symbols-in, MakePath}
-use Rattle.evaluation.proofs.Numbers.{set-ignored}
+use Rattle.symbols.proofs.Numbers.{given-symbol}
 use Rattle.answer.specs.Contract.{Readable}
 
 -- ---- a question
@@ -44,7 +44,7 @@ codes-back ns [] r k e h = refl
 codes-back ns (c ∷ cs) r k e h =
     let (a, b) = heads ns k c (cs ++ r) e in
     ap₂ (λ (x : Symbol) (l : List Symbol). x ∷ l)
-    (set-ignored (getD ns k 0) (getD (replicate 32 0) k 0) ∙ ap₂ symbol-numbered a (getD-replicate 32 k 0 0 (omega arith)))
+    (given-symbol (getD ns k 0) (getD (replicate 32 0) k 0) ∙ ap₂ symbol-numbered a (getD-replicate 32 k 0 0 (omega arith)))
     (codes-back ns cs r (suc k) b (omega arith))
 
 pub record Question (s codes : List ℕ) (count : ℕ) (cs : List ℕ) : Type 0 where

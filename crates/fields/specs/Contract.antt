@@ -1,4 +1,4 @@
--- What the code's enums say, in the paper's numbers: "Where an answer is an enum, a definition gives this paper's number and values for each case."
+-- What the code's enums say, in the numbers of SPECIFICATION, Refusals: of each case its number and its values.
 -- Assumes nothing.
 use Prim.Native.Nat.{ℕ}
 use Rattle.fields.specs.declared.Refusal.{Refusal}

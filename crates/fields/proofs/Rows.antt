@@ -1,7 +1,7 @@
 -- Laws of the table of tags: a tag has one row, and a field that fits what is due is one of the rows that are due.
 -- Assumes nothing.
 use Prim.Native.Nat.{ℕ, _^_}
-use mathlib.Core.Path.{_≡_, refl, sym, ap, _∙_}
+use mathlib.Core.Path.{_≡_, refl, sym, ap, ap₂, _∙_}
 use mathlib.Core.Logic.{_⊎_, inl, inr}
 use mathlib.Core.Bool.{Bool, true, false, cond, not, _&&_, _||_, true≢false, false≢true, and-false}
 use mathlib.Core.List.{List, [], _∷_, map}
@@ -13,11 +13,14 @@ use Rattle.fields.specs.declared.Due.{Due}
 use Rattle.fields.specs.Table.{rows, in-set, allowed, row-in, row-of}
 use Rattle.fields.specs.Reading.{due-row?, due-rows, due-tag?, fitting, beyond?, tags-due}
 use Rattle.fields.proofs.Bools.{and-left, and-right}
-use borrow.Author.Tests.{eqb-true, eq-eqb, ne-eqb}
+use Rattle.fields.specs.Raw.{fit-number}
+use borrow.Author.Tests.{eqb-true}
+use native.Mathlib.Omega.{arith}
 use lib.Dec.{eqb}
+use lib.ListN.{length}
 
 -- row i has bit i
-pub own-bits : map (λ (r : Row). r .6) rows ≡ map (λ (i : ℕ). 2 ^ i) (range 11)
+pub own-bits : map (λ (r : Row). r .6) rows ≡ map (λ (i : ℕ). 2 ^ i) (range (length rows))
 unfolding rows
 own-bits = refl
 
@@ -77,7 +80,7 @@ no-row d t = by-file (d .file)
     by-file Register = and-false (in-set (d .rows) (row-in [] t))
     by-file Narrowed = and-false (in-set (d .rows) (row-in [] t))
 
-pub row-tag : (d : Due) (t : ℕ) → due-row? d (row-of t) ≡ due-tag? d t
+row-tag : (d : Due) (t : ℕ) → due-row? d (row-of t) ≡ due-tag? d t
 unfolding row-of rows due-tag? due-rows
 row-tag d t = one-passes t (due-row? d) (λ r. eqb (r .0) t) (λ r. true) (λ r e. e) (λ r e. e) rows refl (no-row d t)
 
@@ -85,13 +88,57 @@ row-fits : (d : Due) (t n : ℕ) → eqb (row-of t .1) n && due-row? d (row-of t
 unfolding row-of rows fitting due-rows
 row-fits d t n = one-passes t (due-row? d) (λ r. eqb (r .0) t && eqb (r .1) n) (λ r. eqb (r .1) n) (λ r e. rw e) (λ r e. rw e) rows refl (no-row d t)
 
--- by whether that row has the length
-module _ (d : Due) (t n : ℕ) (r : Row) (e : r ≡ row-of t) where
-  pub fits-by-row : r .1 ≡ n → due-row? d r ≡ fitting d t n
-  fits-by-row h = ap (λ (b : Bool). b && due-row? d r) (sym (eq-eqb (r .1) n h)) ∙ ap (λ (x : Row). eqb (x .1) n && due-row? d x) e ∙ row-fits d t n
+-- what a field is to what is due, by the row of its tag
+pub by-row : (d : Due) (t n : ℕ) (r : Row) → r ≡ row-of t → fit-number d t n ≡ cond (due-row? d r) (cond (eqb (r .1) n) 0 2) (cond (d .closing) 5 2)
+by-row d t n r e =
+    ap₂ (λ (x y : Bool). cond (d .closing && not x) 5 (cond y 0 2)) (sym (ap (due-row? d) e ∙ row-tag d t)) (sym (ap (λ (x : Row). eqb (x .1) n && due-row? d x) e ∙ row-fits d t n))
+    ∙ by-tests (due-row? d r) (eqb (r .1) n) (d .closing)
+  where
+    by-tests : (a b c : Bool) → _≡_ {A = ℕ} (cond (c && not a) 5 (cond (b && a) 0 2)) (cond a (cond b 0 2) (cond c 5 2))
+    by-tests true true true = refl
+    by-tests true true false = refl
+    by-tests true false true = refl
+    by-tests true false false = refl
+    by-tests false true true = refl
+    by-tests false true false = refl
+    by-tests false false true = refl
+    by-tests false false false = refl
 
-  pub fits-not : (r .1 ≡ n → ⊥) → false ≡ fitting d t n
-  fits-not h = ap (λ (b : Bool). b && due-row? d r) (sym (ne-eqb (r .1) n h)) ∙ ap (λ (x : Row). eqb (x .1) n && due-row? d x) e ∙ row-fits d t n
+-- and back from the number
+abbrev number : Bool → Bool → ℕ
+number a b = cond a 5 (cond b 0 2)
+
+module _ (d : Due) (t n : ℕ) where
+  pub number-5 : fit-number d t n ≡ 5 → beyond? d t ≡ true
+  number-5 e = by-tests (beyond? d t) (fitting d t n) e
+    where
+      by-tests : (a b : Bool) → number a b ≡ 5 → a ≡ true
+      by-tests true b e = refl
+      by-tests false true e = absurd (omega arith)
+      by-tests false false e = absurd (omega arith)
+
+  pub number-not-5 : (fit-number d t n ≡ 5 → ⊥) → beyond? d t ≡ false
+  number-not-5 e = by-test (beyond? d t) e
+    where
+      by-test : (a : Bool) → (number a (fitting d t n) ≡ 5 → ⊥) → a ≡ false
+      by-test true e = absurd (e refl)
+      by-test false e = refl
+
+  pub number-0 : fit-number d t n ≡ 0 → (beyond? d t ≡ false) × (fitting d t n ≡ true)
+  number-0 e = by-tests (beyond? d t) (fitting d t n) e
+    where
+      by-tests : (a b : Bool) → number a b ≡ 0 → (a ≡ false) × (b ≡ true)
+      by-tests true b e = absurd (omega arith)
+      by-tests false true e = (refl, refl)
+      by-tests false false e = absurd (omega arith)
+
+  pub number-2 : (fit-number d t n ≡ 0 → ⊥) → (fit-number d t n ≡ 5 → ⊥) → (beyond? d t ≡ false) × (fitting d t n ≡ false)
+  number-2 e f = by-tests (beyond? d t) (fitting d t n) e f
+    where
+      by-tests : (a b : Bool) → (number a b ≡ 0 → ⊥) → (number a b ≡ 5 → ⊥) → (a ≡ false) × (b ≡ false)
+      by-tests true b e f = absurd (f refl)
+      by-tests false true e f = absurd (e refl)
+      by-tests false false e f = (refl, refl)
 
 -- ---- a field that fits
 -- it is one of the rows: where one alone is due, these are its tag and its length

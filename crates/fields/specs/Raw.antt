@@ -26,6 +26,10 @@ body-of s at (Whole t n) = take n (drop (at + 3) s)
 unfoldable pub body-in : List ℕ → ℕ → List ℕ
 body-in s at = body-of s at (raw-at s at)
 
+-- what a tag and a length are to what is due: 0 where they fit, or the refusal's number
+abbrev pub fit-number : Due → ℕ → ℕ → ℕ
+fit-number d t n = cond (beyond? d t) 5 (cond (fitting d t n) 0 2)
+
 -- 5, 1 for the head, 2, 1 for the body
 abbrev pub judged : Due → ℕ → Raw → Field
 judged d at End = cond (d .complete) ends (wrong 5 at)

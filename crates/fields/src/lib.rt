@@ -3,8 +3,8 @@ ghost use mathlib.Core.Path.{_≡_};
 ghost use Prim.Native.Nat.{_+_, _<_};
 ghost use lib.ListN.{length};
 ghost use Rattle.fields.specs.Table.{allowed, row-of};
-ghost use Rattle.fields.specs.Reading.{due-row?, due-tag?, fitting, beyond?, rows-due, field-at, word, eight};
-ghost use Rattle.fields.specs.Raw.{raw-at, body-in, judged};
+ghost use Rattle.fields.specs.Reading.{due-row?, rows-due, field-at, word, eight};
+ghost use Rattle.fields.specs.Raw.{fit-number, raw-at, body-in, judged};
 ghost use Rattle.fields.specs.Contract.{number-of, place-of, source-number, field-said};
 
 // Why a file or a call is refused: the paper's numbers 1 to 6 and 11 to 16, each with its place.
@@ -234,7 +234,7 @@ fn allows(row: Row, file: File) -> bool
 
 // The row of a tag, or one that allows no file. Each tag names its row by a constant, since a row at an index that is only known when it
 // runs costs a copy of the whole table. Where a tag gets a second row, that row comes from a function like this one, with an arm for each
-// such tag, and `tag_due` and `is_due` ask of both rows.
+// such tag, and `misfit` asks of both rows.
 fn row_of(tag: u8) -> Row
     ensures { λ r. ⌜ r ≡ row-of tag ⌝ }
 {
@@ -295,32 +295,27 @@ fn row_due(due: Due, row: Row) -> bool
     allows(row, file)
 }
 
-// Whether the tag is due.
-fn tag_due(due: Due, tag: u8) -> bool
-    ensures { λ r. ⌜ r ≡ due-tag? due tag ⌝ }
-{
-    row_due(due, row_of(tag))
-}
+// What a tag and a length are to what is due: a number, since an enum goes through memory and is too much to be taken in by each reader.
+const FITS: u8 = 0;
 
-// Whether the tag is due and the length is its own.
-fn is_due(due: Due, tag: u8, len: u16) -> bool
-    ensures { λ r. ⌜ r ≡ fitting due tag len ⌝ }
+const UNEXPECTED: u8 = 2;
+
+const WRONG_END: u8 = 5;
+
+fn misfit(due: Due, tag: u8, len: u16) -> u8
+    ensures { λ r. ⌜ r ≡ fit-number due tag len ⌝ }
 {
     let row = row_of(tag);
-    if row.1 == len {
-        return row_due(due, row);
+    if row_due(due, row) {
+        if row.1 == len {
+            return FITS;
+        }
+        return UNEXPECTED;
     }
-    false
-}
-
-// Whether what is due is closing and the byte is no tag of it.
-fn beyond(due: Due, byte: u8) -> bool
-    ensures { λ r. ⌜ r ≡ beyond? due byte ⌝ }
-{
     if due.closing {
-        return !tag_due(due, byte);
+        return WRONG_END;
     }
-    false
+    UNEXPECTED
 }
 
 fn wide(b: u8) -> u16
@@ -413,29 +408,21 @@ fn judge(raw: Raw, at: usize, due: Due) -> Seen
             Seen::Wrong(Refusal::WrongEnd(at))
         }
         Raw::Cut(t) => {
-            if beyond(due, t) {
+            if misfit(due, t, 0) == WRONG_END {
                 return Seen::Wrong(Refusal::WrongEnd(at));
             }
             Seen::Wrong(Refusal::Truncated(at))
         }
-        Raw::Short(t, n) => {
-            if beyond(due, t) {
-                return Seen::Wrong(Refusal::WrongEnd(at));
-            }
-            if is_due(due, t, n) {
-                return Seen::Wrong(Refusal::Truncated(at));
-            }
-            Seen::Wrong(Refusal::Unexpected(at))
-        }
-        Raw::Whole(t, n) => {
-            if beyond(due, t) {
-                return Seen::Wrong(Refusal::WrongEnd(at));
-            }
-            if is_due(due, t, n) {
-                return Seen::Body(t, n);
-            }
-            Seen::Wrong(Refusal::Unexpected(at))
-        }
+        Raw::Short(t, n) => match misfit(due, t, n) {
+            FITS => Seen::Wrong(Refusal::Truncated(at)),
+            WRONG_END => Seen::Wrong(Refusal::WrongEnd(at)),
+            _ => Seen::Wrong(Refusal::Unexpected(at)),
+        },
+        Raw::Whole(t, n) => match misfit(due, t, n) {
+            FITS => Seen::Body(t, n),
+            WRONG_END => Seen::Wrong(Refusal::WrongEnd(at)),
+            _ => Seen::Wrong(Refusal::Unexpected(at)),
+        },
     }
 }
 

@@ -194,7 +194,8 @@ module _ (s : List ℕ) (A : Result (List Flat)) where
     symbols-judged (x ∷ (y ∷ ys)) p f t o xs at r g e u l k = first-judged x (y ∷ ys) (omega arith) (symbols-judged (y ∷ ys)) p f t o xs at r g e u l k
 
     -- a member, whose 42 is at a place
-    module _ (m : Flat) (z : Gathered) (zp : z .prev ≡ prev) (zm : z .members ≡ ms) (at : ℕ) (r : List ℕ) (g : Going narrowed-form s A (Between (suc left), z) at) (e : drop at s ≡ member-bytes m ++ r) where
+    module _ (m : Flat) (z : Gathered) (zp : z .prev ≡ prev) (zm : z .members ≡ ms) (at : ℕ) (r : List ℕ) (g : Going narrowed-form s A (Between (suc left), z) at)
+        (e : drop at s ≡ member-bytes m ++ r) where
       abbrev size : ℕ
       size = length (m .symbols)
 
@@ -290,8 +291,8 @@ module _ (v : List Flat) (u : AllNormal v) where
   by-count : (b : Bool) → leb (length v) 128 ≡ b → Whole (encode v) A v (cond b (members-verdict [] 5 v) (refused 3 0))
   by-count false h = going-refused narrowed-form (encode v) A (Head, none-yet) 0 (going-start narrowed-form (encode v)) 0x41 2 (lies-41 .seen) 3 0 (judged-41 ∙ ap begins h)
   by-count true h =
-      members-judged (encode v) A v none-yet 5
-      (going-more narrowed-form (encode v) A (Head, none-yet) 0 (going-start narrowed-form (encode v)) 0x41 2 (lies-41 .seen) (Between (length v), none-yet) (judged-41 ∙ ap begins h)) (lies-41 .after) u
+      let g = going-more narrowed-form (encode v) A (Head, none-yet) 0 (going-start narrowed-form (encode v)) 0x41 2 (lies-41 .seen) (Between (length v), none-yet) (judged-41 ∙ ap begins h) in
+      members-judged (encode v) A v none-yet 5 g (lies-41 .after) u
 
   pub verdict-is : Whole (encode v) (read narrowed-form (encode v)) v (verdict v)
   unfolding verdict field-size tag-length rows

@@ -15,13 +15,21 @@ row-due-requires c κs = search needs
 
 returns : tie.Need-returns
 returns c =
-    let a = c .before .before .before .before .before .args in
-    sym (by-row (a .due) (a .tag) (a .len) _ (c .before .before .before .before .row-of .ensures) ∙ simp (sym (c .before .before .before .row-due .ensures) ∙ c .before .before .if1 .taken, eq-eqb _ _ (c .if2 .taken)))
+    let c2 = c .before .before in
+    let c3 = c2 .before in
+    let c4 = c3 .before in
+    let c5 = c4 .before in
+    let a = c5 .args in
+    sym (by-row (a .due) (a .tag) (a .len) _ (c4 .row-of .ensures) ∙ simp (sym (c3 .row-due .ensures) ∙ c2 .if1 .taken, eq-eqb _ _ (c .if2 .taken)))
 
 returns-2 : tie.Need-returns-2
 returns-2 c =
-    let a = c .before .before .before .before .before .args in
-    sym (by-row (a .due) (a .tag) (a .len) _ (c .before .before .before .before .row-of .ensures) ∙ simp (sym (c .before .before .before .row-due .ensures) ∙ c .before .before .if1 .taken, ne-eqb _ _ (c .if2 .left)))
+    let c2 = c .before .before in
+    let c3 = c2 .before in
+    let c4 = c3 .before in
+    let c5 = c4 .before in
+    let a = c5 .args in
+    sym (by-row (a .due) (a .tag) (a .len) _ (c4 .row-of .ensures) ∙ simp (sym (c3 .row-due .ensures) ∙ c2 .if1 .taken, ne-eqb _ _ (c .if2 .left)))
 
 returns-3 : tie.Need-returns-3
 returns-3 c =

@@ -1,4 +1,6 @@
 // The plain answer and the narrowed answer: the pairs of a question on a register, as words in an area that is lent.
+#![tactic(auto)]
+
 ghost use Rattle.std.specs.Prelude.{◌≡◌, ◌+◌, ◌*◌, ◌<◌, ◌≤◌, length, replicate};
 ghost use Rattle.std.proofs.Math.Option.{some};
 ghost use Rattle.theory.specs.PathExpr.{PathExpr};

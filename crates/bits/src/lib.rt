@@ -1,4 +1,6 @@
 // A word as a set of bits: test, set, clear, lowest; and a byte as a word. The union of two words is `|` itself.
+#![tactic(auto)]
+
 ghost use Rattle.std.specs.Prelude.{◌≡◌, ◌^◌, ◌<◌};
 ghost use Rattle.bits.specs.Bit.{bit_of, with_bit, without, Lowest};
 

@@ -1,6 +1,8 @@
 // Members that are chains of steps: a step, and then any number of a step and a join through a set. Each step is loaded once, and held past
 // the relations of a stack for the members to come. A chain is then a route over those relations, which is walked record by record from the
 // from set: a row goes through all links in a few words, and no relation is made on the way.
+#![tactic(auto)]
+
 ghost use Rattle.std.specs.Prelude.{◌≡◌, true, false, ◌&&◌, ◌||◌, ℕ, ◌+◌, ◌*◌, ◌/◌, ◌<◌, ◌≤◌, length, get_or};
 ghost use Rattle.std.proofs.Math.Option.{some};
 ghost use Rattle.theory.specs.PathExpr.{PathExpr};

@@ -1,4 +1,6 @@
 // The rule of inference of a closure over the table of nodes: walks that meet no cyclic kind, and closures that are kept.
+#![tactic(auto)]
+
 ghost use Rattle.std.specs.Prelude.{◌≡◌, ◌+◌, ◌≤◌};
 ghost use Rattle.theory.specs.Inference.{distinct, free};
 ghost use Rattle.triples.specs.Parts.{part_of, triples_in};

@@ -1,4 +1,6 @@
 // Whether a register obeys a sheet.
+#![tactic(auto)]
+
 ghost use Rattle.std.specs.Prelude.{◌≡◌};
 ghost use Rattle.theory.specs.Register.{records};
 ghost use Rattle.fields.specs.Contract.{outcome_said};
@@ -11,7 +13,7 @@ use fields::{Outcome, Refusal, Source};
 use register::NextLink;
 
 // Where a test fails first, if anywhere.
-#[derive(Drop)]
+#[derive(Clone, Copy)]
 pub enum Failing {
     At(usize),
     Nowhere,

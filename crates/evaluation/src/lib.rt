@@ -1,4 +1,6 @@
 // The pairs of a path on a register's file, evaluated symbol by symbol on a stack of relations in the work words.
+#![tactic(auto)]
+
 ghost use Rattle.std.specs.Prelude.{◌≡◌, ◌||◌, ◌+◌, ◌*◌, ◌<◌, ◌≤◌, length};
 ghost use Rattle.std.proofs.Math.Option.{some};
 ghost use Rattle.theory.specs.KindSet.{has};

@@ -1,5 +1,7 @@
 // A reader of fields: it holds a file that it does not own, and a cursor. No function over a struct that holds a slice is covered
 // by the borrow checker, so there are few, each a proof by hand, and the work is left to `fields`, over the slice and the place.
+#![tactic(auto)]
+
 ghost use Rattle.std.specs.Prelude.{◌≡◌};
 ghost use Rattle.fields.specs.Reading.{field_at};
 ghost use Rattle.fields.specs.Raw.{body_in};
@@ -8,7 +10,7 @@ ghost use Rattle.fields.specs.Contract.{field_said};
 use fields::{Due, Seen};
 
 // The file, and the place of its next field.
-#[derive(Drop)]
+#[derive(Clone, Copy)]
 pub struct Reader<'a> {
     pub src: &'a [u8],
     pub at: usize,

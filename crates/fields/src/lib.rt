@@ -1,4 +1,6 @@
 // Fields of a file: why one is refused, the table of tags, and the field reader.
+#![tactic(auto)]
+
 ghost use Rattle.std.specs.Prelude.{◌≡◌, ◌+◌, ◌<◌, length};
 ghost use Rattle.fields.specs.Table.{allowed, row_of};
 ghost use Rattle.fields.specs.Reading.{due_row?, rows_due, field_at, word, eight};
@@ -6,7 +8,7 @@ ghost use Rattle.fields.specs.Raw.{fit_number, raw_at, body_in, judged};
 ghost use Rattle.fields.specs.Contract.{number_of, place_of, source_number, field_said};
 
 // Why a file or a call is refused: the numbers 1 to 6 and 11 to 16 of SPECIFICATION, Refusals, each with its place.
-#[derive(Drop)]
+#[derive(Clone, Copy)]
 pub enum Refusal {
     Truncated(usize),
     Unexpected(usize),
@@ -62,7 +64,7 @@ pub fn place_of(r: Refusal) -> usize
 }
 
 // What a call's refusal is about: one of its files, or, for 11 to 16, the work at hand.
-#[derive(Drop)]
+#[derive(Clone, Copy)]
 pub enum Source {
     Sheet,
     Question,
@@ -72,14 +74,14 @@ pub enum Source {
 }
 
 // The outcome of a call that returns nothing else.
-#[derive(Drop)]
+#[derive(Clone, Copy)]
 pub enum Outcome {
     Accepted,
     Refused(Source, Refusal),
 }
 
 // The outcome of a call that writes a file or tells its size: the number of its members (of a question: its symbols), and of its bytes.
-#[derive(Drop)]
+#[derive(Clone, Copy)]
 pub enum Written {
     File(usize, usize),
     Refused(Source, Refusal),
@@ -99,14 +101,14 @@ pub fn source_number(s: Source) -> u8
 }
 
 // Kind numbers and link numbers are two numberings, and both begin at 0.
-#[derive(Drop)]
+#[derive(Clone, Copy)]
 pub struct Kind(pub u8);
 
-#[derive(Drop)]
+#[derive(Clone, Copy)]
 pub struct Link(pub u8);
 
 // The four kinds of file.
-#[derive(Drop)]
+#[derive(Clone, Copy)]
 pub enum File {
     Sheet,
     Question,
@@ -133,7 +135,7 @@ pub const BYTE: u16 = 256;
 pub const TWO_BYTES: u64 = BYTE as u64 * BYTE as u64;
 
 // A tag, its length, whether a sheet, a question, a register, a narrowed question may have it, and the row's bit in a set of rows.
-#[derive(Drop)]
+#[derive(Clone, Copy)]
 pub struct Row(
     pub u8,
     pub u16,
@@ -263,7 +265,7 @@ fn row_of(tag: u8) -> Row
 
 // What is due at a place: the rows of a set, as far as the file may have them. Where the file is complete it may end; where what is due is
 // closing nothing else may follow, and a byte that is no tag of it is refusal 5.
-#[derive(Drop)]
+#[derive(Clone, Copy)]
 pub struct Due {
     pub file: File,
     pub rows: u16,
@@ -357,7 +359,7 @@ pub fn eight_at(s: &[u8], at: usize) -> u64
 }
 
 // The field at a place, whatever is due: its tag and length, the same with the body cut short, the tag of a head cut short, or the file's end.
-#[derive(Drop)]
+#[derive(Clone, Copy)]
 pub enum Raw {
     Whole(u8, u16),
     Short(u8, u16),
@@ -398,7 +400,7 @@ pub fn body_at(s: &[u8], at: usize) -> &[u8]
 }
 
 // What the field at a place is to the reader: the file's end, a refusal, or a tag and length.
-#[derive(Drop)]
+#[derive(Clone, Copy)]
 pub enum Seen {
     Ends,
     Wrong(Refusal),

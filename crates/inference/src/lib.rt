@@ -1,4 +1,6 @@
 // The triples of a question, symbol by symbol, over the table of nodes.
+#![tactic(auto)]
+
 ghost use Rattle.std.specs.Prelude.{◌≡◌};
 ghost use Rattle.symbols.specs.Contract.{symbol_said};
 ghost use Rattle.inference.specs.Turns.{TurnAsks, TurnMakes, origin_of};
@@ -11,14 +13,14 @@ use triples::Span;
 
 // The triples of the question, as nodes from the one number up to the other; or 12 or 13 at the first symbol that has
 // either.
-#[derive(Drop)]
+#[derive(Clone, Copy)]
 pub enum Inferred {
     Triples(usize, usize),
     Refused(Refusal),
 }
 
 // A part of the question: its nodes, and where its symbols start.
-#[derive(Drop)]
+#[derive(Clone, Copy)]
 pub struct Operand {
     pub nodes: Span,
     pub from: usize,

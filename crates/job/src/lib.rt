@@ -1,4 +1,6 @@
 // The whole job: from the files of a sheet, a question and a register to the file of the narrowed question and its answer.
+#![tactic(auto)]
+
 ghost use Rattle.std.specs.Prelude.{◌≡◌, ◌*◌, ◌<◌, ◌≤◌, length, take};
 ghost use Rattle.theory.specs.Register.{records};
 ghost use Rattle.register.specs.Form.{register_in};

@@ -1,4 +1,6 @@
 // What the rule of a closure asks of the graph of a part's kinds, and whether its walks are short.
+#![tactic(auto)]
+
 ghost use Rattle.std.specs.Prelude.{◌≡◌, ◌<◌, ◌≤◌, length};
 ghost use Rattle.theory.specs.Narrowing.{short?};
 ghost use Rattle.rows.specs.Row.{row_bit, Row, mask_of};

@@ -1,4 +1,6 @@
 // The records of each kind of a register, as rows of a table that is made once: the records of a set of kinds are then the union of a few rows.
+#![tactic(auto)]
+
 ghost use Rattle.std.specs.Prelude.{◌*◌, ◌≤◌, length};
 ghost use Rattle.register.specs.Form.{register_in};
 ghost use Rattle.rows.specs.Row.{Row};

@@ -1,4 +1,6 @@
 // The file of the members that the sorted nodes make: its length, and its bytes.
+#![tactic(auto)]
+
 ghost use Rattle.std.specs.Prelude.{◌≡◌, ◌≤◌, length};
 ghost use Rattle.merge.specs.Runs.{Running};
 ghost use Rattle.members_file.specs.Files.{number_of, Numbering, Next, Measuring, Measured, Filing, Filed};
@@ -6,7 +8,7 @@ ghost use Rattle.members_file.specs.Files.{number_of, Numbering, Next, Measuring
 use symbols::Symbol;
 
 // A member: its number of symbols, from set and to set, the place after its run, and the bytes of its fields.
-#[derive(Drop)]
+#[derive(Clone, Copy)]
 struct Entry {
     size: usize,
     from: u64,
@@ -16,7 +18,7 @@ struct Entry {
 }
 
 // The number of members, and of bytes of their file.
-#[derive(Drop)]
+#[derive(Clone, Copy)]
 pub struct Extent {
     pub members: usize,
     pub bytes: usize,

@@ -1,4 +1,6 @@
 // The nodes of a part in the order of their codes, and the members that runs of equal codes make.
+#![tactic(auto)]
+
 ghost use Rattle.std.specs.Prelude.{◌≡◌, ◌<◌, ◌≤◌, length};
 ghost use Rattle.theory.specs.PathExpr.{before?};
 ghost use Rattle.merge.specs.Arrays.{segment};
@@ -6,14 +8,14 @@ ghost use Rattle.merge.specs.Arranging.{earlier?, Usable, Placing, Placed, Arran
 ghost use Rattle.merge.specs.Runs.{Singles, Ored, Taking, Taken, Running, Ran};
 
 // The kinds of a node, as sets.
-#[derive(Drop)]
+#[derive(Clone, Copy)]
 struct Ends {
     from: u64,
     to: u64,
 }
 
 // A member: its number of symbols, from set and to set, and the place after its run.
-#[derive(Drop)]
+#[derive(Clone, Copy)]
 pub struct Group {
     pub size: usize,
     pub from: u64,

@@ -1,4 +1,6 @@
 // Reads a narrowed question's file: its members, into arrays that are lent or by value.
+#![tactic(auto)]
+
 ghost use Rattle.std.specs.Prelude.{◌≡◌, [], ◌+◌, ◌≤◌, ◌<◌, length, set};
 ghost use Rattle.theory.specs.PathExpr.{before?};
 ghost use Rattle.fields.specs.Table.{tag_length};
@@ -12,7 +14,7 @@ use fields::{Due, File, Refusal, Seen};
 use symbols::{Pushed, Read, Stack};
 
 // The number of members, or why the file is refused.
-#[derive(Drop)]
+#[derive(Clone, Copy)]
 pub enum Outcome {
     Accepted(usize),
     Refused(Refusal),
@@ -36,7 +38,7 @@ const TO_IN: usize = 9;
 
 // Members one after the other: of each the number of symbols, from set and to set; of each symbol, through all members, its number
 // (255 for a join through a set) and its set. 0 past them.
-#[derive(Drop)]
+#[derive(Clone, Copy)]
 pub struct Members {
     pub count: usize,
     pub sizes: [u8; fields::MEMBERS],
@@ -46,14 +48,14 @@ pub struct Members {
     pub sets: [u64; SYMBOLS],
 }
 
-#[derive(Drop)]
+#[derive(Clone, Copy)]
 pub struct Narrowed {
     pub outcome: Outcome,
     pub members: Members,
 }
 
 // Where the reading stands: at the head; before a member, with the members left; within one, with those left, its 42's place and its stack.
-#[derive(Drop)]
+#[derive(Clone, Copy)]
 pub enum Standing {
     Head,
     Between(u8),
@@ -62,7 +64,7 @@ pub enum Standing {
 
 // What a field does: the file ends before it; it is refused; it goes on; it opens a member, with its number of symbols and sets; it is a
 // symbol, with its set; it is a member's last symbol, with the members left and the place of its 42.
-#[derive(Drop)]
+#[derive(Clone, Copy)]
 pub enum Turn {
     Ends,
     Stop(Refusal),
@@ -74,7 +76,7 @@ pub enum Turn {
 
 // How far the reading has come: where it stands, the place, the members done, where the symbols of the member before and of the open
 // one begin, and the symbols in all.
-#[derive(Drop)]
+#[derive(Clone, Copy)]
 pub struct Marks {
     pub st: Standing,
     pub at: usize,

@@ -1,4 +1,6 @@
 // Writes a narrowed question's file: the members that it is given are judged as the file they would make.
+#![tactic(auto)]
+
 ghost use Rattle.std.specs.Prelude.{◌≡◌, ◌+◌, ◌≤◌, ◌<◌, length, take, drop};
 ghost use Rattle.symbols.specs.Contract.{push_said};
 ghost use Rattle.narrowed_question.specs.ArrayMembers.{given};
@@ -10,7 +12,7 @@ use narrowed_question::Members;
 use symbols::{Pushed, Stack};
 
 // The place after what was judged, or why it is refused.
-#[derive(Drop)]
+#[derive(Clone, Copy)]
 pub enum Place {
     At(usize),
     Refused(Refusal),
@@ -109,7 +111,7 @@ fn judge(q: Members) -> Place
 }
 
 // The number of bytes written, or why none was.
-#[derive(Drop)]
+#[derive(Clone, Copy)]
 pub enum Written {
     Accepted(usize),
     Refused(Refusal),

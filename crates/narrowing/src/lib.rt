@@ -1,4 +1,6 @@
 // Narrowing: from the files of a sheet and a question to the file of the narrowed question, or to its size alone.
+#![tactic(auto)]
+
 ghost use Rattle.std.specs.Prelude.{◌≡◌, ◌<◌, ◌≤◌, length, take};
 ghost use Rattle.theory.specs.Merging.{members};
 ghost use Rattle.fields.specs.declared.Written.TheVariants as written;
@@ -18,7 +20,7 @@ pub const NEED: usize = 8192;
 
 // The members of a question before a byte of their file is written: the numbers of members and of bytes, or why there are none;
 // the nodes of their triples in the members' order, and how many; and how many nodes are in use.
-#[derive(Drop)]
+#[derive(Clone, Copy)]
 struct Counted {
     outcome: Written,
     order: [usize; triples::MOST],
@@ -27,7 +29,7 @@ struct Counted {
 }
 
 // The same with the question's codes, and how many work words are to be zeroed in the end.
-#[derive(Drop)]
+#[derive(Clone, Copy)]
 struct Prepared {
     counted: Counted,
     codes: [u8; question::MOST_SYMBOLS],

@@ -1,5 +1,7 @@
 // The public calls. Those for programs in C (include/paths.h) hand their areas on and tell the outcome in three numbers: specs/OutcomeNumbers.antt.
 // What holds of the calls together is in specs/Agreement.antt (demand 3) and specs/Shortening.antt.
+#![tactic(auto)]
+
 ghost use Rattle.std.specs.Prelude.{◌≡◌};
 ghost use Rattle.fields.specs.Contract.{number_of, place_of, source_number, outcome_said, written_said};
 ghost use Rattle.fields.specs.declared.Source.TheVariants as source;

@@ -1,5 +1,7 @@
 // Runs the whole job on the files sheet, question and register of the working directory, and prints what came of it.
 // Assumed are the contracts of the C library's calls (crates libc and os): that they return, and keep to their buffers.
+#![tactic(auto)]
+
 ghost use Rattle.std.specs.Prelude.{◌≡◌, ◌≤◌, length};
 ghost use Rattle.io.specs.Counts.{IsPrefixLen};
 ghost use Rattle.register.specs.Form.{register_in};

@@ -1,4 +1,6 @@
 // What the program prints, as bytes in an area that is lent.
+#![tactic(auto)]
+
 ghost use Rattle.std.specs.Prelude.{◌≡◌, cond, ◌++◌, ◌+◌, ◌*◌, ◌≤◌, length};
 ghost use Rattle.theory.specs.Lists.{guard, filter, range};
 ghost use Rattle.theory.specs.Words.{row_words};

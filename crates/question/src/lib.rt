@@ -1,4 +1,6 @@
 // Reads a question's file: the codes of its symbols, by value.
+#![tactic(auto)]
+
 ghost use Rattle.std.specs.Prelude.{◌≡◌, length, replicate};
 ghost use Rattle.fields.specs.Table.{tag_length};
 ghost use Rattle.fields.specs.Reading.{read as read_file};
@@ -18,27 +20,27 @@ pub const MOST_SYMBOLS: usize = MOST as usize;
 const SYMBOLS_IN: usize = 0;
 
 // The number of symbols, or why the file is refused.
-#[derive(Drop)]
+#[derive(Clone, Copy)]
 pub enum Outcome {
     Accepted(usize),
     Refused(Refusal),
 }
 
 // The outcome, and the codes with 0 after them (all 0 where the file is refused).
-#[derive(Drop)]
+#[derive(Clone, Copy)]
 pub struct Question {
     pub outcome: Outcome,
     pub codes: [u8; MOST_SYMBOLS],
 }
 
 // Where the reading stands: at the head, or within the path.
-#[derive(Drop)]
+#[derive(Clone, Copy)]
 pub enum Standing {
     Head,
     Within(Stack),
 }
 
-#[derive(Drop)]
+#[derive(Clone, Copy)]
 pub enum Turn {
     Stop(Refusal),
     Go(Stack),

@@ -1,4 +1,6 @@
 // Reads a register's file, and hands on its kinds and links from where they lie.
+#![tactic(auto)]
+
 ghost use Rattle.std.specs.Prelude.{◌≡◌, true, ◌<◌, ◌≤◌, length};
 ghost use Rattle.fields.specs.Table.{tag_length};
 ghost use Rattle.fields.specs.Reading.{read};
@@ -61,7 +63,7 @@ const LINK_NUMBER: u64 = (fields::LINK_TAG as u64 * fields::TWO_BYTES + fields::
     * KEYS;
 
 // How far the reading has come: the numbers of records and links, of records whose kind is due, of links left, and the least key allowed next.
-#[derive(Drop)]
+#[derive(Clone, Copy)]
 pub struct Progress {
     pub records: u16,
     pub links: u16,
@@ -70,20 +72,20 @@ pub struct Progress {
     pub floor: u64,
 }
 
-#[derive(Drop)]
+#[derive(Clone, Copy)]
 pub enum Position {
     Start,
     Within(Progress),
 }
 
-#[derive(Drop)]
+#[derive(Clone, Copy)]
 pub enum Turn {
     Go(Progress),
     Stop(Refusal),
 }
 
 // The numbers of records and links; or the refusal.
-#[derive(Drop)]
+#[derive(Clone, Copy)]
 pub enum Outcome {
     Accepted(usize, usize),
     Refused(Refusal),
@@ -208,7 +210,7 @@ fn sizes(st: Position) -> Outcome
 }
 
 // A place, and how far the reading has come there.
-#[derive(Drop)]
+#[derive(Clone, Copy)]
 pub struct Reached {
     pub at: usize,
     pub progress: Progress,
@@ -370,14 +372,14 @@ pub fn kind_at(s: &[u8], i: usize) -> Kind
 }
 
 // The links still to come of an accepted file: the place of the next one, or the file's end where none is left, and their number.
-#[derive(Drop)]
+#[derive(Clone, Copy)]
 pub struct Links {
     pub at: usize,
     pub left: usize,
 }
 
 // No link is left; or the next one (from record, link, to record) and those after it.
-#[derive(Drop)]
+#[derive(Clone, Copy)]
 pub enum NextLink {
     Done,
     Link(usize, Link, usize, Links),

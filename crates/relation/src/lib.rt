@@ -1,5 +1,7 @@
 // Relations on up to 1,024 records in words that are lent: n rows of w words, the relation at word b.
 // An operation of two relations leaves its result in the first one's place and changes no other word.
+#![tactic(auto)]
+
 ghost use Rattle.std.specs.Prelude.{◌≡◌, true, ◌&&◌, ◌||◌, ℕ, ◌+◌, ◌*◌, ◌<◌, ◌≤◌, eqb, length};
 ghost use Rattle.bits.specs.Bit.{bit_of};
 ghost use Rattle.theory.specs.Lists.{some?, range};

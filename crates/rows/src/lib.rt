@@ -1,4 +1,6 @@
 // Rows of bits in words that are lent: bit t of the row at word r is bit t mod 64 of word r + t div 64.
+#![tactic(auto)]
+
 ghost use Rattle.std.specs.Prelude.{◌≡◌, ◌&&◌, ◌||◌, not, ◌+◌, ◌*◌, ◌/◌, ◌<◌, ◌≤◌, eqb, length};
 ghost use Rattle.theory.specs.Lists.{some?, range};
 ghost use Rattle.rows.specs.Kept.{Wrote};
@@ -99,7 +101,7 @@ pub fn first(words: &[u64], r: usize, a: &[u64], b: &[u64], n: usize) -> usize
 
 // What becomes of a word, or of a row, that another one is merged into: it becomes the other, takes in the other's bits, loses the bits
 // that the other lacks, or loses the other's.
-#[derive(Drop)]
+#[derive(Clone, Copy)]
 pub enum Merge {
     Copy,
     Unite,

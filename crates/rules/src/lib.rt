@@ -1,4 +1,6 @@
 // The rules of inference that make a part of the table of nodes: of a sheet's table, and of parts of the table.
+#![tactic(auto)]
+
 ghost use Rattle.std.specs.Prelude.{◌≡◌, ◌+◌, ◌<◌, ◌≤◌, length};
 ghost use Rattle.theory.specs.Inference.{distinct};
 ghost use Rattle.theory.specs.Narrowing.{short?};
@@ -18,7 +20,7 @@ use symbols::{Direction, Operator, Symbol};
 use triples::{Node, Span};
 
 // What a rule makes.
-#[derive(Drop)]
+#[derive(Clone, Copy)]
 pub enum Part {
     // this many triples
     Made(usize),
@@ -31,7 +33,7 @@ pub enum Part {
 // ---- two nodes under an operator
 
 // An operator that makes a triple of each pair that fits.
-#[derive(Drop)]
+#[derive(Clone, Copy)]
 pub enum PairOperator {
     Join,
     Conjunction,

@@ -1,4 +1,6 @@
 // Reads a sheet's file: its numbers of kinds and links, and the table of permitted kinds, by value.
+#![tactic(auto)]
+
 ghost use Rattle.std.specs.Prelude.{◌≡◌, ◌<◌, length, replicate};
 ghost use Rattle.fields.specs.Table.{tag_length};
 ghost use Rattle.fields.specs.Reading.{read as read_file};
@@ -11,7 +13,7 @@ use bits::wide;
 use fields::{Due, File, Kind, Link, Refusal, Seen};
 
 // The numbers of kinds and of links, or why the file is refused.
-#[derive(Drop)]
+#[derive(Clone, Copy)]
 pub enum Outcome {
     Accepted(u8, u8),
     Refused(Refusal),
@@ -42,14 +44,14 @@ const LABEL_WEIGHT: u64 = fields::BYTE as u64;
 const FROM_WEIGHT: u64 = fields::TWO_BYTES;
 
 // The outcome, and the permitted kinds: bit `to` of word link * 64 + from (all 0 where the file is refused).
-#[derive(Drop)]
+#[derive(Clone, Copy)]
 pub struct Reading {
     pub outcome: Outcome,
     pub table: [u64; TABLE],
 }
 
 // The numbers of kinds, of links, of triples so far, and the least key that is above the triple before.
-#[derive(Drop)]
+#[derive(Clone, Copy)]
 pub struct Triples {
     pub kinds: u8,
     pub links: u8,
@@ -57,7 +59,7 @@ pub struct Triples {
     pub floor: u64,
 }
 
-#[derive(Drop)]
+#[derive(Clone, Copy)]
 pub struct Triple {
     pub from: Kind,
     pub link: Link,
@@ -65,13 +67,13 @@ pub struct Triple {
 }
 
 // Where the reading stands: at the head, or within the triples.
-#[derive(Drop)]
+#[derive(Clone, Copy)]
 pub enum Standing {
     Head,
     Within(Triples),
 }
 
-#[derive(Drop)]
+#[derive(Clone, Copy)]
 pub enum Turn {
     Stop(Refusal),
     Go(Triples),

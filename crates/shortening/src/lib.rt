@@ -1,4 +1,6 @@
 // Questions shortened beforehand: the five simplifications, applied until none fits.
+#![tactic(auto)]
+
 ghost use Rattle.std.specs.Prelude.{◌≡◌, take};
 ghost use Rattle.fields.specs.Call.{Gives};
 ghost use Rattle.fields.specs.Contract.{written_said};
@@ -11,7 +13,7 @@ use fields::{Source, Written};
 use symbols::{Operator, Symbol, Via};
 
 // Where an operand stands: right under a closure, as a branch's test, or elsewhere.
-#[derive(Drop)]
+#[derive(Clone, Copy)]
 pub enum Context {
     Elsewhere,
     Closure,
@@ -133,7 +135,7 @@ fn second_context(x: Symbol) -> Context
 }
 
 // Codes at the end of an array, from a start on.
-#[derive(Drop)]
+#[derive(Clone, Copy)]
 pub struct Shortened {
     pub codes: [u8; question::MOST_SYMBOLS],
     pub start: usize,

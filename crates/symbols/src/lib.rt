@@ -1,4 +1,6 @@
 // The symbols of a path: a symbol as an enum, as a number and as a field, and the counting of operands.
+#![tactic(auto)]
+
 ghost use Rattle.std.specs.Prelude.{◌≡◌, ◌<◌, length};
 ghost use Rattle.fields.specs.Table.{tag_length};
 ghost use Rattle.symbols.specs.Symbols.{symbol_numbered, number_symbol, numbered, symbol?, order_code, operands, arity};
@@ -32,21 +34,21 @@ pub const CLOSURE: u8 = 133;
 pub const THROUGH: u8 = 255;
 
 // Along a link, or against it.
-#[derive(Drop)]
+#[derive(Clone, Copy)]
 pub enum Direction {
     Forward,
     Reverse,
 }
 
 // What a join passes through: any record (a plain join), or those whose kind is in a set.
-#[derive(Drop)]
+#[derive(Clone, Copy)]
 pub enum Via {
     Any,
     Through(u64),
 }
 
 // The other operators of two operands.
-#[derive(Drop)]
+#[derive(Clone, Copy)]
 pub enum Operator {
     Union,
     Conjunction,
@@ -55,7 +57,7 @@ pub enum Operator {
 }
 
 // A symbol.
-#[derive(Drop)]
+#[derive(Clone, Copy)]
 pub enum Symbol {
     Step(Direction, Link),
     Join(Via),
@@ -64,7 +66,7 @@ pub enum Symbol {
 }
 
 // A symbol as arrays have it: its code, and 255 for a join through a set; and the set, 0 where there is none.
-#[derive(Drop)]
+#[derive(Clone, Copy)]
 pub struct Numbered {
     pub number: u8,
     pub set: u64,
@@ -156,7 +158,7 @@ const CODE_IN: usize = 0;
 
 const SET_IN: usize = 0;
 
-#[derive(Drop)]
+#[derive(Clone, Copy)]
 pub enum Read {
     Refused(Refusal),
     Is(Numbered),
@@ -260,13 +262,13 @@ pub fn is_symbol(number: u8) -> bool
 }
 
 // A path being read: the symbols still due, and the paths that stand on the stack.
-#[derive(Drop)]
+#[derive(Clone, Copy)]
 pub struct Stack {
     pub left: u8,
     pub depth: u8,
 }
 
-#[derive(Drop)]
+#[derive(Clone, Copy)]
 pub enum Pushed {
     Refused(Refusal),
     Stands(Stack),

@@ -1,6 +1,8 @@
 // Makes each call of standard input, and writes a line of what came of it: the check, the plain answer, the narrowed answer.
 // tests/test_answers.py makes the calls (stdin) and the lines that are due (stdout) from the reference program.
 // Assumed are the contracts of the C library's read and write (crate libc): that they return, and keep to their buffers.
+#![tactic(auto)]
+
 use fields::Outcome;
 use libc::{STDIN_FILENO, STDOUT_FILENO};
 use test_report::Files;

@@ -1,6 +1,8 @@
 // Hands each vector of standard input to its reader or to the writer, and writes a line of what came of it. tests/test_files.py makes the
 // vectors (stdin) and the lines that are due (stdout) from the reference program.
 // Assumed are the contracts of the C library's read and write (crate libc): that they return, and keep to their buffers.
+#![tactic(auto)]
+
 mod digest;
 mod given;
 mod line;

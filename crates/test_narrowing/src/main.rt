@@ -1,6 +1,8 @@
 // Makes each call of narrowing that standard input has, and writes a line of what came of it.
 // tests/test_narrowing.py makes the calls (stdin) and the lines that are due (stdout) from the reference program.
 // Assumed are the contracts of the C library's read and write (crate libc): that they return, and keep to their buffers.
+#![tactic(auto)]
+
 use fields::Written;
 use libc::{STDIN_FILENO, STDOUT_FILENO};
 use test_report::Files;

@@ -1,5 +1,7 @@
 // What the programs that run stored vectors share: room for their input, its fields and the numbers in them, areas that they lend, the
 // words and numbers of a line, and digests.
+#![tactic(auto)]
+
 ghost use Rattle.std.specs.Prelude.{◌≡◌, ◌<◌, ◌≤◌, length};
 
 use bits::wide;
@@ -28,7 +30,7 @@ pub const NARROWED: u8 = 4;
 const NO_TAG: u8 = 0;
 
 // A field of the input: its tag, and the place after it.
-#[derive(Drop)]
+#[derive(Clone, Copy)]
 pub struct Field {
     pub tag: u8,
     pub next: usize,
@@ -54,7 +56,7 @@ pub fn field_at(s: &[u8], at: usize) -> Field
 }
 
 // Where the fields stand whose bodies are the files of the next call.
-#[derive(Drop)]
+#[derive(Clone, Copy)]
 pub struct Files {
     pub sheet: usize,
     pub question: usize,

@@ -71,6 +71,6 @@ module _ (S : Sheet) (ok : T (sheet? S)) (r : Register) (conforms : T (conforms?
 
   pub derives_complete : (o : PathExpr) → Short S o → Complete o
   derives_complete (step d l) h = step_complete d l
-  derives_complete (join v o₁ o₂) h = join_complete v o₁ o₂ (derives_complete o₁ (short_join_left v o₁ o₂ h)) (derives_complete o₂ (short_join_right v o₁ o₂ h))
-  derives_complete (op o o₁ o₂) h = op_complete o o₁ o₂ (derives_complete o₁ (short_op_left o o₁ o₂ h)) (derives_complete o₂ (short_op_right o o₁ o₂ h))
-  derives_complete (closure o) h = closure_complete o (exact S ok o (short_part o h)) (derives_complete o (short_part o h))
+  derives_complete (join v o₁ o₂) h = join_complete v o₁ o₂ (derives_complete o₁ (short_join_left S v o₁ o₂ h)) (derives_complete o₂ (short_join_right S v o₁ o₂ h))
+  derives_complete (op o o₁ o₂) h = op_complete o o₁ o₂ (derives_complete o₁ (short_op_left S o o₁ o₂ h)) (derives_complete o₂ (short_op_right S o o₁ o₂ h))
+  derives_complete (closure o) h = closure_complete o (exact S ok o (short_part S o h)) (derives_complete o (short_part S o h))

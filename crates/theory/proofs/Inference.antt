@@ -103,7 +103,7 @@ from_sub s a p b x = (s a p b).1 x
 abbrev pub Short : Sheet → PathExpr → Type 0
 Short S o = (p : PathExpr) → In p (parts o) → T (short? (triples S p))
 
-module _ {S : Sheet} where
+module _ (S : Sheet) where
   pub short_join_left : (v : Via) (p q : PathExpr) → Short S (join v p q) → Short S p
   short_join_left v p q h u m = h u (in_left (parts q ++ (join v p q ∷ [])) m)
 
@@ -160,6 +160,6 @@ module _ (S : Sheet) (ok : T (sheet? S)) where
   -- membership in the computed list is the relation
   pub exact : (o : PathExpr) → Short S o → Exact o
   exact (step d l) h = step_exact d l
-  exact (join v p q) h = join_exact v p q (exact p (short_join_left v p q h)) (exact q (short_join_right v p q h))
-  exact (op o p q) h = op_exact o p q (exact p (short_op_left o p q h)) (exact q (short_op_right o p q h))
-  exact (closure p) h = closure_exact p (exact p (short_part p h)) (short_closure p h)
+  exact (join v p q) h = join_exact v p q (exact p (short_join_left S v p q h)) (exact q (short_join_right S v p q h))
+  exact (op o p q) h = op_exact o p q (exact p (short_op_left S o p q h)) (exact q (short_op_right S o p q h))
+  exact (closure p) h = closure_exact p (exact p (short_part S p h)) (short_closure S p h)

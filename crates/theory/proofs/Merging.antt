@@ -145,6 +145,7 @@ insert_old m (n ∷ ns) {k} i =
     after (there j) rest = later (rest j)
 
 pub members_cover : (ts : List Triple) {t : Triple} → In t ts → Covered (of_triple t) (members ts)
+members_cover [] {t} i = elim i [ ]
 members_cover (u ∷ ts) {t} (here e) = subst (λ x. Covered (of_triple x) (insert (of_triple u) (members ts))) (sym e) (insert_new (of_triple u) (members ts))
 members_cover (u ∷ ts) (there i) =
     let c = members_cover ts i in

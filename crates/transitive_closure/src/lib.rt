@@ -1,6 +1,8 @@
 // The transitive closure of a relation in lent words, at the cost of its rows. Rows are finished one after the other: a row takes in the
 // rows of the records that it has. A finished row brings with it all that its own records lead to, so that these need not be gone through.
 // Any order is right. The rows are finished as a depth-first search leaves them, so that most find finished ones to take in.
+#![tactic(auto)]
+
 ghost use Rattle.std.specs.Prelude.{◌≡◌, true, false, ◌&&◌, ◌||◌, ℕ, ◌+◌, ◌*◌, ◌/◌, ◌%◌, ◌<◌, ◌≤◌, eqb, length};
 ghost use Rattle.bits.specs.Bit.{bit_of};
 ghost use Rattle.theory.specs.TransitiveClosure.{look, closure?};

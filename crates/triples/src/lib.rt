@@ -1,4 +1,6 @@
 // A table of nodes in lent words: a word holds a node, and a node stands for a triple.
+#![tactic(auto)]
+
 ghost use Rattle.std.specs.Prelude.{◌≡◌, [], ◌∷◌, ◌+◌, ◌-◌, ◌<◌, ◌≤◌, length, set, take, drop, replicate};
 ghost use Rattle.theory.specs.Lists.{some?};
 ghost use Rattle.theory.specs.Inference.{triple?};
@@ -25,7 +27,7 @@ const CODES: usize = 256;
 
 // made: the code of the path's last symbol. left and right: the operands' nodes (of a kept chain: where its operand
 // starts in the question, and its number of symbols). size: the path's number of symbols.
-#[derive(Drop)]
+#[derive(Clone, Copy)]
 pub struct Node {
     pub made: u8,
     pub left: usize,
@@ -36,7 +38,7 @@ pub struct Node {
 }
 
 // The nodes from `start` on, up to `end`, which is left out.
-#[derive(Drop)]
+#[derive(Clone, Copy)]
 pub struct Span {
     pub start: usize,
     pub end: usize,

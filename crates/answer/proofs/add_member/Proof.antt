@@ -54,8 +54,8 @@ returns c =
     let v = c13.member-route.ensures in
     (v.0, λ x e. record { pairs = added p.0.0 _ _ _ c13.member-route.result a.from a.to x p.1.1.1 (v.3 x e) c2.add-pairs.ensures; kept = v.1 })
 
-pub add-member-spec : {M : Type 1} → statement M
-add-member-spec =
+pub add_member_spec : {M : Type 1} → statement M
+add_member_spec =
     tie.close
     (tie.spec
     slice-aggregate-member-route

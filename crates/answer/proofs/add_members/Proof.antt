@@ -115,8 +115,8 @@ same-length-2 c = search rules
 returns : tie.Need-returns invariant-loop decreases-loop
 returns c = adding_end c.before.loop.invariant.0 c.loop-test.false
 
-pub add-members-spec : {M : Type 1} → statement M
-add-members-spec =
+pub add_members_spec : {M : Type 1} → statement M
+add_members_spec =
     tie.close
     (tie.spec
     invariant-loop

@@ -81,8 +81,8 @@ returns-2 c =
       λ x e. single_leads g bs ms x (d x e).pairs (omega (arith, c8.bases.given, p.0.5)),
     )
 
-pub member-route-spec : {M : Type 1} → statement M
-member-route-spec =
+pub member_route_spec : {M : Type 1} → statement M
+member_route_spec =
     tie.close
     (tie.spec
     route-requires

@@ -109,8 +109,8 @@ returns-3 c =
     let q = file_accepted _ _ _ _ _ _ _ c24.read-into.ensures _ c17.count.given.1 (λ i. omega (arith, c33.shared-slice-known.given i)) in
     narrowed_accepted _ _ _ _ _ q.0 (accepted_file _ _ c15.read.ensures _ _ c13.n.given.1) c4.narrowed-in.ensures
 
-pub narrowed-answer-spec : {M : Type 1} → statement M
-narrowed-answer-spec =
+pub narrowed_answer_spec : {M : Type 1} → statement M
+narrowed_answer_spec =
     tie.close
     (tie.spec
     slice-aggregate-read-into

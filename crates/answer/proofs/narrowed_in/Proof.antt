@@ -59,8 +59,8 @@ returns-2 c =
     let c21 = c12.before.before.before.before.before.before.before.before.before in
     answers_rest _ _ _ _ c21.requires.0.2 c12.row_words.ensures _ _ _ _ c11.if1.false c8.narrowed_words.ensures c2.clear.ensures
 
-pub narrowed-in-spec : {M : Type 1} → statement M
-narrowed-in-spec =
+pub narrowed_in_spec : {M : Type 1} → statement M
+narrowed_in_spec =
     tie.close
     (tie.spec
     row-words-requires

@@ -29,8 +29,8 @@ same-length-2 c = search rules
 returns-2 : tie.Need-returns-2
 returns-2 c = c.before.before.before.before.set-members.ensures
 
-pub narrowed-words-spec : {M : Type 1} → statement M
-narrowed-words-spec =
+pub narrowed_words_spec : {M : Type 1} → statement M
+narrowed_words_spec =
     tie.close
     (tie.spec
     mul-room

@@ -67,8 +67,8 @@ returns-3 c =
     let (cs, t) = told_question _ _ _ c17.read.ensures _ c15.outcome2.given.1 in
     plain_accepted _ _ _ _ cs t.reads (accepted_file _ _ c13.read2.ensures _ _ c11.n.given.1) _ (question_accepted _ _ _ cs t).symbols c4.Plain-in.ensures
 
-pub plain-answer-spec : {M : Type 1} → statement M
-plain-answer-spec =
+pub plain_answer_spec : {M : Type 1} → statement M
+plain_answer_spec =
     tie.close
     (tie.spec
     read-requires

@@ -53,8 +53,8 @@ returns-2 c =
     let r = c17.requires in
     answers_rest _ _ _ _ r.1 c12.row_words.ensures _ _ _ _ c11.if1.false c8.plain_words.ensures c2.clear.ensures
 
-pub plain-in-spec : {M : Type 1} → statement M
-plain-in-spec =
+pub plain_in_spec : {M : Type 1} → statement M
+plain_in_spec =
     tie.close
     (tie.spec
     row-words-requires

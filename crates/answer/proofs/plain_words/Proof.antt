@@ -48,8 +48,8 @@ returns-2 c =
     let r = c15.requires in
     fills_plain r.0 (omega arith) (λ i. omega (arith, c.slice-known4.given i)) r.4.0 _ r.4.1 (c7.evaluate.ensures r.4.0 r.4.1) c2.copy.ensures
 
-pub plain-words-spec : {M : Type 1} → statement M
-plain-words-spec =
+pub plain_words_spec : {M : Type 1} → statement M
+plain_words_spec =
     tie.close
     (tie.spec
     mul-need

@@ -34,8 +34,8 @@ returns c =
     let r = c19.requires.0 in
     fills_narrowed r.1 (omega (arith, r.3)) (λ i. omega (arith, c.slice-known5.given i)) _ c9.clear.ensures c4.add-members.ensures
 
-pub set-members-spec : {M : Type 1} → statement M
-set-members-spec =
+pub set_members_spec : {M : Type 1} → statement M
+set_members_spec =
     tie.close
     (tie.spec
     mul-room

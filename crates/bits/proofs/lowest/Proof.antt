@@ -6,11 +6,11 @@ use Rattle.bits.proofs.TrailingZeros.{trailing_lowest}
 use Rattle.bits.proofs.lowest.Statement.{statement}
 use Rattle.bits.proofs.lowest.Tie as tie
 
-cast-result : tie.Need-overflow-cast-result
+cast-result : tie.Need-overflow_cast-result
 cast-result c = omega (arith, trailing_le 64 c.args.w)
 
 returns : tie.Need-returns
 returns c = trailing_lowest 64 c.args.w c.ranges.w.fits c.requires
 
-pub lowest-spec : {M : Type 1} → statement M
-lowest-spec = tie.close (tie.spec cast-result returns)
+pub lowest_spec : {M : Type 1} → statement M
+lowest_spec = tie.close (tie.spec cast-result returns)

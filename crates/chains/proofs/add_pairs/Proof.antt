@@ -56,8 +56,8 @@ returns c =
     made_is c2.add-rows.ensures (λ s t hs ht. ap₂ (λ (x y : Bool). pair_at a.answer.now 0 a.w s t || (f s t && (x && y)))
     (c10.records-of.ensures.bit s (omega (arith, c17.requires.0.wide))) (c7.records-of2.ensures.bit t ht))
 
-pub add-pairs-spec : {M : Type 1} → statement M
-add-pairs-spec =
+pub add_pairs_spec : {M : Type 1} → statement M
+add_pairs_spec =
     tie.close
     (tie.spec
     slice-aggregate-records-of

@@ -97,8 +97,8 @@ returns-2 c =
     let a = c14.args in
     row_is c2.unite-masked2.ensures (λ t h. ap (λ (b : Bool). row_bit a.answer.now (a.s * a.w) t || (b && row_bit a.to.now 0 t)) (c6.walk-row.ensures.bit t h))
 
-pub add-row-spec : {M : Type 1} → statement M
-add-row-spec =
+pub add_row_spec : {M : Type 1} → statement M
+add_row_spec =
     tie.close
     (tie.spec
     mul-unite-masked

@@ -44,8 +44,8 @@ same_length c = search rules
 returns : tie.Need-returns invariant-loop decreases-loop
 returns c = let l = c.before.loop in gained_all l.invariant.1 (omega (arith, c.before.before.before.before.before.before.before.before.requires.0.wide, c.loop-test.false))
 
-pub add-rows-spec : {M : Type 1} → statement M
-add-rows-spec =
+pub add_rows_spec : {M : Type 1} → statement M
+add_rows_spec =
     tie.close
     (tie.spec
     invariant-loop

@@ -100,8 +100,8 @@ returns c =
     let l = c.before.loop in
     word_end (routed a.work.now a.bases.now a.masks.now a.n a.w a.m) a.from.now a.to.now a.i l.p l.invariant.2 (sym l.invariant.1 ∙ c.loop-test.false) l.invariant.0
 
-pub add-word-spec : {M : Type 1} → statement M
-add-word-spec =
+pub add_word_spec : {M : Type 1} → statement M
+add_word_spec =
     tie.close
     (tie.spec
     invariant-loop

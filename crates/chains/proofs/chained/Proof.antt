@@ -82,8 +82,8 @@ loop-again c =
 returns-5 : tie.Need-returns-5 invariant-loop decreases-loop
 returns-5 c = λ e. let i = c.before.loop.invariant in (omega (arith, c.before.before.before.before.before.if1.false), chained_all i.2 (omega (arith, i.0, i.1, c.loop-test.false)))
 
-pub chained-spec : {M : Type 1} → statement M
-chained-spec =
+pub chained_spec : {M : Type 1} → statement M
+chained_spec =
     tie.close
     (tie.spec
     invariant-loop

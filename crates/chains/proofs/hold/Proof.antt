@@ -113,8 +113,8 @@ same-length-7 c = search rules
 returns-6 : tie.Need-returns-6
 returns-6 c = search rules
 
-pub hold-spec : {M : Type 1} → statement M
-hold-spec =
+pub hold_spec : {M : Type 1} → statement M
+hold_spec =
     tie.close
     (tie.spec
     place-requires

@@ -33,8 +33,8 @@ returns-3 c = λ t. absurd (false≢true t)
 returns-4 : tie.Need-returns-4
 returns-4 c = λ t. absurd (false≢true t)
 
-pub is-step-spec : {M : Type 1} → statement M
-is-step-spec =
+pub is_step_spec : {M : Type 1} → statement M
+is_step_spec =
     tie.close
     (tie.spec
     decode-requires

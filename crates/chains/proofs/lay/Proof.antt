@@ -201,8 +201,8 @@ returns-3 c =
     let i = c.before.loop.invariant in
     (i.1, kept_trans c7.hold.ensures.4 i.2 (omega arith) (omega arith) (omega arith) (omega arith), λ e. laid_all c.before.loop.j i.3 (omega (arith, i.0, c.loop-test.false)))
 
-pub lay-spec : {M : Type 1} → statement M
-lay-spec =
+pub lay_spec : {M : Type 1} → statement M
+lay_spec =
     tie.close
     (tie.spec
     invariant-loop

@@ -102,8 +102,8 @@ returns-2 c =
       },
     )
 
-pub link-spec : {M : Type 1} → statement M
-link-spec =
+pub link_spec : {M : Type 1} → statement M
+link_spec =
     tie.close
     (tie.spec
     hold-requires

@@ -56,8 +56,8 @@ returns-2 c =
       ),
     )
 
-pub route-spec : {M : Type 1} → statement M
-route-spec =
+pub route_spec : {M : Type 1} → statement M
+route_spec =
     tie.close
     (tie.spec
     chained-requires

@@ -120,8 +120,8 @@ returns c =
     let p = c12.requires in
     row_then c4.take_row.ensures (routed_all p.0 c12.args.s p.2 l.j l.invariant.2 (omega (arith, l.invariant.1, c.loop-test.false)))
 
-pub walk-row-spec : {M : Type 1} → statement M
-walk-row-spec =
+pub walk_row_spec : {M : Type 1} → statement M
+walk_row_spec =
     tie.close
     (tie.spec
     invariant-loop

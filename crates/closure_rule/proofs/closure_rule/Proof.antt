@@ -113,8 +113,8 @@ returns-4 c =
     rule_made c26.requires c17.copy-acyclic.ensures c13.walks_short.ensures (not-false _ c12.if1.false) c10.grow-walks.ensures c21.graph.ensures c7.if2.false
     (rw c6.kept_node.ensures at c3.add-edges.ensures) c.if3.false
 
-pub closure-rule-spec : {M : Type 1} → statement M
-closure-rule-spec =
+pub closure_rule_spec : {M : Type 1} → statement M
+closure_rule_spec =
     tie.close
     (tie.spec
     slice-aggregate-graph

@@ -56,8 +56,8 @@ same_length c = search rules
 returns : tie.Need-returns invariant-loop decreases-loop
 returns c = acyclic_over c.before.before.before.before.before.before.requires c.before.before.loop.invariant c.if1.false
 
-pub copy-acyclic-spec : {M : Type 1} → statement M
-copy-acyclic-spec =
+pub copy_acyclic_spec : {M : Type 1} → statement M
+copy_acyclic_spec =
     tie.close
     (tie.spec
     invariant-loop

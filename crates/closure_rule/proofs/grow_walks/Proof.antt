@@ -58,8 +58,8 @@ same-length-2 c = search rules
 returns-2 : tie.Need-returns-2 invariant-loop decreases-loop
 returns-2 c = walks_over c.before.before.before.before.requires c.before.loop.invariant c.loop-test.false
 
-pub grow-walks-spec : {M : Type 1} → statement M
-grow-walks-spec =
+pub grow_walks_spec : {M : Type 1} → statement M
+grow_walks_spec =
     tie.close
     (tie.spec
     invariant-loop

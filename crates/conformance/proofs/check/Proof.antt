@@ -61,8 +61,8 @@ returns-4 c =
     let c12 = c10.before.before in
     no_breach _ _ _ _ c12.read.ensures _ _ c10.outcome2.given.1 _ c8.read2.ensures _ _ c6.n.given.1 _ c2.first_breach.ensures c.enum_told.given.1
 
-pub check-spec : {M : Type 1} → statement M
-check-spec =
+pub check_spec : {M : Type 1} → statement M
+check_spec =
     tie.close
     (tie.spec
     read-requires

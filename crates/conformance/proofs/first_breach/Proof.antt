@@ -23,8 +23,8 @@ returns c = search breach_of_kind
 returns-2 : tie.Need-returns-2
 returns-2 c = search breach_of_link
 
-pub first-breach-spec : {M : Type 1} → statement M
-first-breach-spec =
+pub first_breach_spec : {M : Type 1} → statement M
+first_breach_spec =
     tie.close
     (tie.spec
     first-unknown-requires

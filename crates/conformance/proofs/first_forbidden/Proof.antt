@@ -63,8 +63,8 @@ returns-2 c =
     let c8 = c7.before in
     link_forbidden _ _ _ _ c8.loop.invariant _ c7.next-link.ensures _ _ _ _ c5.from.given.1 _ _ c3.kind_at.ensures c2.kind-at2.ensures _ c.before.permits.ensures c.if1.false
 
-pub first-forbidden-spec : {M : Type 1} → statement M
-first-forbidden-spec =
+pub first_forbidden_spec : {M : Type 1} → statement M
+first_forbidden_spec =
     tie.close
     (tie.spec
     invariant-loop

@@ -45,8 +45,8 @@ loop-again c =
 returns-2 : tie.Need-returns-2 invariant-loop decreases-loop
 returns-2 c = search kinds_end
 
-pub first-unknown-spec : {M : Type 1} → statement M
-first-unknown-spec =
+pub first_unknown_spec : {M : Type 1} → statement M
+first_unknown_spec =
     tie.close
     (tie.spec
     invariant-loop

@@ -20,5 +20,5 @@ returns-2 : tie.Need-returns-2
 unfolding field_size tag_length rows
 returns-2 c = rw c.enum-told2.given.1 refl
 
-pub join-size-spec : {M : Type 1} → statement M
-join-size-spec = tie.close (tie.spec enum_told enum-told-2 returns returns-2)
+pub join_size_spec : {M : Type 1} → statement M
+join_size_spec = tie.close (tie.spec enum_told enum-told-2 returns returns-2)

@@ -20,5 +20,5 @@ same_length c = search rules
 returns : tie.Need-returns
 returns c = wrote_more c.before.before.before.before.before.before.put-head.ensures c.before.before.put_two.ensures
 
-pub put-count-spec : {M : Type 1} → statement M
-put-count-spec = tie.close (tie.spec put-head-requires put-two-requires same_length returns)
+pub put_count_spec : {M : Type 1} → statement M
+put_count_spec = tie.close (tie.spec put-head-requires put-two-requires same_length returns)

@@ -45,8 +45,8 @@ returns c =
     rw (← c18.short.ensures, ← c13.short2.ensures, ← c8.short3.ensures, ← c3.short4.ensures)
     (wrote_more c17.put_two.ensures (wrote_more c12.put-two2.ensures (wrote_more c7.put-two3.ensures c2.put-two4.ensures)))
 
-pub put-eight-spec : {M : Type 1} → statement M
-put-eight-spec =
+pub put_eight_spec : {M : Type 1} → statement M
+put_eight_spec =
     tie.close
     (tie.spec
     short-requires

@@ -17,5 +17,5 @@ same_length c = search rules
 returns : tie.Need-returns
 returns c = wrote_more c.before.before.before.before.before.before.put_byte.ensures c.before.before.put_two.ensures
 
-pub put-head-spec : {M : Type 1} → statement M
-put-head-spec = tie.close (tie.spec put-byte-requires put-two-requires same_length returns)
+pub put_head_spec : {M : Type 1} → statement M
+put_head_spec = tie.close (tie.spec put-byte-requires put-two-requires same_length returns)

@@ -28,8 +28,8 @@ same-length-2 c = search rules
 returns-2 : tie.Need-returns-2
 returns-2 c = rw c.before.before.before.before.before.via.given.1 c.before.before.put-through.ensures
 
-pub put-join-spec : {M : Type 1} → statement M
-put-join-spec =
+pub put_join_spec : {M : Type 1} → statement M
+put_join_spec =
     tie.close
     (tie.spec
     enum_told

@@ -23,5 +23,5 @@ returns c =
     let c11 = c6.before.before.before.before.before in
     member_wrote _ _ c11.args.n c11.args.k c11.args.from c11.args.to c6.put-open.ensures c2.put-symbols.ensures
 
-pub put-member-spec : {M : Type 1} → statement M
-put-member-spec = tie.close (tie.spec put-open-requires put-symbols-requires same_length returns)
+pub put_member_spec : {M : Type 1} → statement M
+put_member_spec = tie.close (tie.spec put-open-requires put-symbols-requires same_length returns)

@@ -81,8 +81,8 @@ same_length c = along_length c.before.loop.invariant.along ∙ wrote_length c.be
 returns : tie.Need-returns invariant-loop decreases-loop
 returns c = placed_end c.before.loop.invariant c.before.before.before.before.put_count.ensures c.loop-test.false
 
-pub put-members-spec : {M : Type 1} → statement M
-put-members-spec =
+pub put_members_spec : {M : Type 1} → statement M
+put_members_spec =
     tie.close
     (tie.spec
     invariant-loop

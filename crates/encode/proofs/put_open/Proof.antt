@@ -33,8 +33,8 @@ returns c =
     let c14 = c10.before.before.before.before in
     wrote_more (wrote_more c14.put-head.ensures c10.put_byte.ensures) (wrote_more c6.put-eight.ensures c2.put-eight2.ensures)
 
-pub put-open-spec : {M : Type 1} → statement M
-put-open-spec =
+pub put_open_spec : {M : Type 1} → statement M
+put_open_spec =
     tie.close
     (tie.spec
     put-head-requires

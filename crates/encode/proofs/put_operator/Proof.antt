@@ -20,5 +20,5 @@ same_length c = search rules
 returns : tie.Need-returns
 returns c = wrote_more c.before.before.before.before.before.before.put-head.ensures c.before.before.put_byte.ensures
 
-pub put-operator-spec : {M : Type 1} → statement M
-put-operator-spec = tie.close (tie.spec put-head-requires put-byte-requires same_length returns)
+pub put_operator_spec : {M : Type 1} → statement M
+put_operator_spec = tie.close (tie.spec put-head-requires put-byte-requires same_length returns)

@@ -32,7 +32,7 @@ returns c =
     let d = c6.before.direction_number.ensures in
     rw (← d) (wrote_more (wrote_more c11.put-head.ensures c6.put_byte.ensures) c2.put-byte2.ensures)
 
-pub put-step-spec : {M : Type 1} → statement M
-put-step-spec =
+pub put_step_spec : {M : Type 1} → statement M
+put_step_spec =
     tie.close
     (tie.spec put-head-requires direction-number-requires put-byte-requires put-byte-requires-2 same_length returns)

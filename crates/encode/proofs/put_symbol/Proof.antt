@@ -78,8 +78,8 @@ returns-4 c =
     let c6 = c4.before.before in
     rw (given_bytes _ _ (decoded c6.decode.ensures c4.enum-told2.given.1)) c2.put-operator2.ensures
 
-pub put-symbol-spec : {M : Type 1} → statement M
-put-symbol-spec =
+pub put_symbol_spec : {M : Type 1} → statement M
+put_symbol_spec =
     tie.close
     (tie.spec
     decode-requires

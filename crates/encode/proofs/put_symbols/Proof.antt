@@ -50,8 +50,8 @@ same_length c = along_length c.before.loop.invariant.along
 returns : tie.Need-returns invariant-loop decreases-loop
 returns c = symbols_end c.before.loop.invariant c.loop-test.false
 
-pub put-symbols-spec : {M : Type 1} → statement M
-put-symbols-spec =
+pub put_symbols_spec : {M : Type 1} → statement M
+put_symbols_spec =
     tie.close
     (tie.spec
     invariant-loop

@@ -20,5 +20,5 @@ same_length c = search rules
 returns : tie.Need-returns
 returns c = wrote_more c.before.before.before.before.before.before.put-head.ensures c.before.before.put-eight.ensures
 
-pub put-through-spec : {M : Type 1} → statement M
-put-through-spec = tie.close (tie.spec put-head-requires put-eight-requires same_length returns)
+pub put_through_spec : {M : Type 1} → statement M
+put_through_spec = tie.close (tie.spec put-head-requires put-eight-requires same_length returns)

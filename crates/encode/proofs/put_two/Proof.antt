@@ -28,8 +28,8 @@ returns c =
     let c8 = c7.before in
     rw (← c8.low.ensures, ← c3.low2.ensures) (wrote_more c7.put_byte.ensures c2.put-byte2.ensures)
 
-pub put-two-spec : {M : Type 1} → statement M
-put-two-spec =
+pub put_two_spec : {M : Type 1} → statement M
+put_two_spec =
     tie.close
     (tie.spec
     low-requires

@@ -47,8 +47,8 @@ returns-4 : tie.Need-returns-4
 unfolding field_size tag_length rows
 returns-4 c = let e = size_of _ (decoded c.before.before.decode.ensures c.enum-told3.given.1) in (sym e, omega arith)
 
-pub symbol-size-spec : {M : Type 1} → statement M
-symbol-size-spec =
+pub symbol_size_spec : {M : Type 1} → statement M
+symbol_size_spec =
     tie.close
     (tie.spec
     decode-requires

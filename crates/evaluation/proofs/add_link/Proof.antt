@@ -33,8 +33,8 @@ same-length-2 c = search rules
 returns-3 : tie.Need-returns-3
 returns-3 c = rw c.before.before.before.before.enum-told2.given.1 (made_reverse _ _ _ _ c.before.before.before.before.before.before.if1.false c.before.before.set-pair2.ensures)
 
-pub add-link-spec : {M : Type 1} → statement M
-add-link-spec =
+pub add_link_spec : {M : Type 1} → statement M
+add_link_spec =
     tie.close
     (tie.spec
     returns

@@ -61,8 +61,8 @@ loop-again c =
     let c8 = c7.before in
     passing_more c8.loop.invariant _ c7.next-link.ensures _ _ _ _ c5.from.given.1 c2.add-link.ensures
 
-pub add-links-spec : {M : Type 1} → statement M
-add-links-spec =
+pub add_links_spec : {M : Type 1} → statement M
+add_links_spec =
     tie.close
     (tie.spec
     invariant-loop

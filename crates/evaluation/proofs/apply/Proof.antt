@@ -151,8 +151,8 @@ returns-4 c =
     let x = decoded c6.decode.ensures c4.enum_told.given.1 in
     applied_closure r.0 c9.args.b _ x (fits_one r.0 x r.1).below c2.closure.ensures
 
-pub apply-spec : {M : Type 1} → statement M
-apply-spec =
+pub apply_spec : {M : Type 1} → statement M
+apply_spec =
     tie.close
     (tie.spec
     mul-z

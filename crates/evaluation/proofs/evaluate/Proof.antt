@@ -62,8 +62,8 @@ same_length c = search rules
 returns : tie.Need-returns invariant-loop decreases-loop
 returns c p e = going_end _ _ _ _ _ _ _ (omega arith) c.before.loop.invariant.1 p e
 
-pub evaluate-spec : {M : Type 1} → statement M
-evaluate-spec =
+pub evaluate_spec : {M : Type 1} → statement M
+evaluate_spec =
     tie.close
     (tie.spec
     invariant-loop

@@ -28,5 +28,5 @@ returns c =
     let a = c7.args in
     join_plain c7.requires.2 a.p a.q c2.join.ensures
 
-pub join-spec : {M : Type 1} → statement M
-join-spec = tie.close (tie.spec slice-aggregate-join join-requires same_length returns)
+pub join_spec : {M : Type 1} → statement M
+join_spec = tie.close (tie.spec slice-aggregate-join join-requires same_length returns)

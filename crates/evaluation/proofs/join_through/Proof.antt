@@ -38,8 +38,8 @@ returns c =
     let a = c10.args in
     join_kinds c10.requires.2 a.p a.q a.set c6.kind-mask.ensures c2.join.ensures
 
-pub join-through-spec : {M : Type 1} → statement M
-join-through-spec =
+pub join_through_spec : {M : Type 1} → statement M
+join_through_spec =
     tie.close
     (tie.spec
     slice-aggregate-kind-mask

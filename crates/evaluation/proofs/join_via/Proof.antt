@@ -28,8 +28,8 @@ same-length-2 c = search rules
 returns-2 : tie.Need-returns-2
 returns-2 c = rw c.before.before.before.before.before.via.given.1 c.before.before.join-through.ensures
 
-pub join-via-spec : {M : Type 1} → statement M
-join-via-spec =
+pub join_via_spec : {M : Type 1} → statement M
+join_via_spec =
     tie.close
     (tie.spec
     enum_told

@@ -61,8 +61,8 @@ same_length c = search rules
 returns : tie.Need-returns invariant-loop decreases-loop
 returns c = let e : c.before.loop.i ≡ c.before.before.before.before.args.w = omega arith in rw e at c.before.loop.invariant.1
 
-pub kind-mask-spec : {M : Type 1} → statement M
-kind-mask-spec =
+pub kind_mask_spec : {M : Type 1} → statement M
+kind_mask_spec =
     tie.close
     (tie.spec
     invariant-loop

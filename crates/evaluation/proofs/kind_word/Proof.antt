@@ -61,8 +61,8 @@ loop-again c =
 returns : tie.Need-returns invariant-loop decreases-loop
 returns c = let e : c.before.loop.i ≡ c.before.before.before.args.m = omega arith in rw e at c.before.loop.invariant.1
 
-pub kind-word-spec : {M : Type 1} → statement M
-kind-word-spec =
+pub kind_word_spec : {M : Type 1} → statement M
+kind_word_spec =
     tie.close
     (tie.spec
     invariant-loop

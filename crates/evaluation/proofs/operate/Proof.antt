@@ -52,8 +52,8 @@ same-length-4 c = search rules
 returns-4 : tie.Need-returns-4
 returns-4 c = rw c.before.before.before.before.enum-told4.given.1 c.before.before.branch_left.ensures
 
-pub operate-spec : {M : Type 1} → statement M
-operate-spec =
+pub operate_spec : {M : Type 1} → statement M
+operate_spec =
     tie.close
     (tie.spec
     enum_told

@@ -129,9 +129,9 @@ body_meets {𝓤 = 𝓤} 𝓛 mem run 𝓣 known-body-at =
     walk_Meets 𝓛 body.ended stayed (Goes-none 𝓛 1 B yes (λ κs x f. refl), tt) (body.clauses 𝓛 mem run) (WpFn 𝓤 𝓛.H 𝓣.C 𝓣.Λ code.function) (WpFn-mono 𝓤 𝓛.H 𝓛.laws 𝓣 code.function)
     (body_walks 𝓛 mem run 𝓣.C 𝓣.Λ (fm_of 𝓤 𝓛.H 𝓛.laws 𝓣) known-body-at)
 
-pub body-spec : {M : Type 1} → stated.statement M
+pub body_spec : {M : Type 1} → stated.statement M
 unfolding code.routine tables_of
-body-spec 𝓤 𝓛 𝓜 𝓡 =
+body_spec 𝓤 𝓛 𝓜 𝓡 =
     entered 𝓤 𝓛.H (triple_of 𝓛 body.signature (body.spec 𝓛 𝓜.mem 𝓡.run))
     (tables 𝓤 𝓛.H 𝓜 𝓡 code.env).C (tables 𝓤 𝓛.H 𝓜 𝓡 code.env).Λ #reader·body code.function (code.unfolded 𝓤 𝓛.H 𝓜 𝓡)
     (body_meets 𝓛 𝓜.mem 𝓡.run (tables_of 𝓤 𝓛.H 𝓜 (tables 𝓤 𝓛.H 𝓜 𝓡 code.env))

@@ -167,9 +167,9 @@ body_at_meets {𝓤 = 𝓤} 𝓛 mem run 𝓣 known-new known-body =
     (WpFn 𝓤 𝓛.H 𝓣.C 𝓣.Λ code.function) (WpFn-mono 𝓤 𝓛.H 𝓛.laws 𝓣 code.function)
     (body_at_walks 𝓛 mem run 𝓣.C 𝓣.Λ (fm_of 𝓤 𝓛.H 𝓛.laws 𝓣) known-new known-body)
 
-pub body-at-spec : {M : Type 1} → stated.statement M
+pub body_at_spec : {M : Type 1} → stated.statement M
 unfolding code.routine tables_of
-body-at-spec 𝓤 𝓛 𝓜 𝓡 =
+body_at_spec 𝓤 𝓛 𝓜 𝓡 =
     entered 𝓤 𝓛.H (triple_of 𝓛 whole.signature (whole.spec 𝓛 𝓜.mem 𝓡.run))
     (tables 𝓤 𝓛.H 𝓜 𝓡 code.env).C (tables 𝓤 𝓛.H 𝓜 𝓡 code.env).Λ #reader·body-at code.function (code.unfolded 𝓤 𝓛.H 𝓜 𝓡)
     (body_at_meets 𝓛 𝓜.mem 𝓡.run (tables_of 𝓤 𝓛.H 𝓜 (tables 𝓤 𝓛.H 𝓜 𝓡 code.env))

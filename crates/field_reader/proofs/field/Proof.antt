@@ -195,9 +195,9 @@ field_meets {𝓤 = 𝓤} 𝓛 mem run 𝓣 known-new known_next =
     (WpFn-mono 𝓤 𝓛.H 𝓛.laws 𝓣 code.function)
     (field_walks 𝓛 mem run 𝓣.C 𝓣.Λ (fm_of 𝓤 𝓛.H 𝓛.laws 𝓣) known-new known_next)
 
-pub field-spec : {M : Type 1} → stated.statement M
+pub field_spec : {M : Type 1} → stated.statement M
 unfolding code.routine tables_of
-field-spec 𝓤 𝓛 𝓜 𝓡 =
+field_spec 𝓤 𝓛 𝓜 𝓡 =
     entered 𝓤 𝓛.H (triple_of 𝓛 field.signature (field.spec 𝓛 𝓜.mem 𝓡.run))
     (tables 𝓤 𝓛.H 𝓜 𝓡 code.env).C (tables 𝓤 𝓛.H 𝓜 𝓡 code.env).Λ #reader·field code.function (code.unfolded 𝓤 𝓛.H 𝓜 𝓡)
     (field_meets 𝓛 𝓜.mem 𝓡.run (tables_of 𝓤 𝓛.H 𝓜 (tables 𝓤 𝓛.H 𝓜 𝓡 code.env))

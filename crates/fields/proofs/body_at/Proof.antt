@@ -72,8 +72,8 @@ returns-4 : tie.Need-returns-4
 unfolding body_in
 returns-4 c = rw (← c.before.before.before.step-at.ensures, c.before.enum-told3.given.1)
 
-pub body-at-spec : {M : Type 1} → statement M
-body-at-spec =
+pub body_at_spec : {M : Type 1} → statement M
+body_at_spec =
     tie.close
     (tie.spec
     step-at-requires

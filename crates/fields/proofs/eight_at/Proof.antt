@@ -60,8 +60,8 @@ returns : tie.Need-returns
 unfolding eight
 returns c = search rules
 
-pub eight-at-spec : {M : Type 1} → statement M
-eight-at-spec =
+pub eight_at_spec : {M : Type 1} → statement M
+eight_at_spec =
     tie.close
     (tie.spec
     two-requires

@@ -16,5 +16,5 @@ judge-requires c κs = search rules
 returns : tie.Need-returns
 returns c = c.judge.ensures ∙ ap (judged _ _) c.before.step-at.ensures ∙ judged_is _ _ _
 
-pub field-spec : {M : Type 1} → statement M
-field-spec = tie.close (tie.spec step-at-requires judge-requires returns)
+pub field_spec : {M : Type 1} → statement M
+field_spec = tie.close (tie.spec step-at-requires judge-requires returns)

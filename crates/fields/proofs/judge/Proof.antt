@@ -79,8 +79,8 @@ returns-10 c =
     let n = number_2 c.before.before.before.before.before.args.due v.0.0 v.0.1.0 (λ e. c.match3.rest.0.1 (m ∙ e)) (λ e. c.match3.rest.1 (m ∙ e)) in
     simp (v.1, n.0, n.1)
 
-pub judge-spec : {M : Type 1} → statement M
-judge-spec =
+pub judge_spec : {M : Type 1} → statement M
+judge_spec =
     tie.close
     (tie.spec
     enum_told

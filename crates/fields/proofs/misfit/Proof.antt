@@ -41,6 +41,6 @@ returns-4 c =
     let a = c.before.before.before.before.args in
     sym (by_row a.due a.tag a.len _ c.before.before.before.row_of.ensures ∙ simp (sym c.before.before.row-due.ensures ∙ c.before.if1.false, c.if3.false))
 
-pub misfit-spec : {M : Type 1} → statement M
-misfit-spec =
+pub misfit_spec : {M : Type 1} → statement M
+misfit_spec =
     tie.close (tie.spec row-of-requires row-due-requires returns returns-2 returns-3 returns-4)

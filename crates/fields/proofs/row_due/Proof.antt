@@ -14,5 +14,5 @@ allows-requires c κs = search rules
 returns-2 : tie.Need-returns-2
 returns-2 c = simp (ne_eqb _ _ c.before.if1.false) c.allows.ensures
 
-pub row-due-spec : {M : Type 1} → statement M
-row-due-spec = tie.close (tie.spec returns allows-requires returns-2)
+pub row_due_spec : {M : Type 1} → statement M
+row_due_spec = tie.close (tie.spec returns allows-requires returns-2)

@@ -104,8 +104,8 @@ returns-12 c =
       ne_eqb 0x45 _ (λ e. n.1 (sym e)),
     ))
 
-pub row-of-spec : {M : Type 1} → statement M
-row-of-spec =
+pub row_of_spec : {M : Type 1} → statement M
+row_of_spec =
     tie.close
     (tie.spec
     array-copy-out-result

@@ -9,5 +9,5 @@ returns c = simp c.if1.true
 returns-2 : tie.Need-returns-2
 returns-2 c = simp c.if1.false
 
-pub rows-due-spec : {M : Type 1} → statement M
-rows-due-spec = tie.close (tie.spec returns returns-2)
+pub rows_due_spec : {M : Type 1} → statement M
+rows_due_spec = tie.close (tie.spec returns returns-2)

@@ -49,8 +49,8 @@ returns-4 : tie.Need-returns-4
 unfolding raw_at
 returns-4 c = simp (le-ltb _ _ c.before.if3.false, ← c.before.before.two.ensures, le-ltb _ _ c.before.before.before.if2.false, lt-leb _ _ c.before.before.before.before.if1.false)
 
-pub step-at-spec : {M : Type 1} → statement M
-step-at-spec =
+pub step_at_spec : {M : Type 1} → statement M
+step_at_spec =
     tie.close
     (tie.spec
     returns

@@ -145,8 +145,8 @@ same-length-3 c = search rules
 returns-3 : tie.Need-returns-3 invariant-loop decreases-loop
 returns-3 c = running_end c.before.before.before.loop.invariant.0 c.before.before.before.loop.invariant.1 c.before.before.loop-test.false
 
-pub infer-spec : {M : Type 1} → statement M
-infer-spec =
+pub infer_spec : {M : Type 1} → statement M
+infer_spec =
     tie.close
     (tie.spec
     invariant-loop

@@ -30,8 +30,8 @@ returns-3 c = rw c.enum-told3.given.1
 returns-4 : tie.Need-returns-4
 returns-4 c = rw c.enum-told4.given.1
 
-pub origin-spec : {M : Type 1} → statement M
-origin-spec =
+pub origin_spec : {M : Type 1} → statement M
+origin_spec =
     tie.close
     (tie.spec
     enum_told

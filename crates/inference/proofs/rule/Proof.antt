@@ -65,8 +65,8 @@ same-length-4 c = search rules
 returns-4 : tie.Need-returns-4
 returns-4 c = rw c.before.before.before.before.before.enum-told2.given.1 c.before.before.closure-rule.ensures
 
-pub rule-spec : {M : Type 1} → statement M
-rule-spec =
+pub rule_spec : {M : Type 1} → statement M
+rule_spec =
     tie.close
     (tie.spec
     enum-known-k

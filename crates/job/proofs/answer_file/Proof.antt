@@ -86,8 +86,8 @@ returns-2 c =
     let c31 = c26.before.before.before.before.before in
     answered c31.requires.0 c26.file_in.ensures c20.read-into.ensures c13.count.given.1 c4.set-members.ensures
 
-pub answer-file-spec : {M : Type 1} → statement M
-answer-file-spec =
+pub answer_file_spec : {M : Type 1} → statement M
+answer_file_spec =
     tie.close
     (tie.spec
     file-in-requires

@@ -14,5 +14,5 @@ slice-aggregate-result c = sym (length-take-le _ _ c.before.requires)
 returns : tie.Need-returns
 returns c = search rules
 
-pub file-in-spec : {M : Type 1} → statement M
-file-in-spec = tie.close (tie.spec slice-aggregate-result returns)
+pub file_in_spec : {M : Type 1} → statement M
+file_in_spec = tie.close (tie.spec slice-aggregate-result returns)

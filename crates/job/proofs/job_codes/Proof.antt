@@ -102,8 +102,8 @@ returns-4 c =
     codes_filed r.0 r.1 c22.first-unnamed.ensures c21.if1.false _ c20.first_breach.ensures c18.enum_told.given.1 c15.narrow-named.ensures _ _ c9.members.given.1 r.3
     c4.answer-file.ensures
 
-pub job-codes-spec : {M : Type 1} → statement M
-job-codes-spec =
+pub job_codes_spec : {M : Type 1} → statement M
+job_codes_spec =
     tie.close
     (tie.spec
     first-unnamed-requires

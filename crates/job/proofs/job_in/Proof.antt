@@ -62,8 +62,8 @@ returns-2 c =
     let r = c22.requires in
     settles_rest (stands r.1 r.2 c16.row_words.ensures) _ c15.work_need.ensures c14.if1.false c10.job-words.ensures c2.clear.ensures
 
-pub job-in-spec : {M : Type 1} → statement M
-job-in-spec =
+pub job_in_spec : {M : Type 1} → statement M
+job_in_spec =
     tie.close
     (tie.spec
     row-words-requires

@@ -35,8 +35,8 @@ returns-2 c =
     let c16 = c10.before.before.before.before.before.before in
     fills_rest c16.requires.1 c10.if1.false c6.job-codes.ensures
 
-pub job-words-spec : {M : Type 1} → statement M
-job-words-spec =
+pub job_words_spec : {M : Type 1} → statement M
+job_words_spec =
     tie.close
     (tie.spec
     mul-need

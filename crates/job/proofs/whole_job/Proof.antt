@@ -98,8 +98,8 @@ returns-4 c =
     let (cs, g) = told_question _ _ _ c22.read2.ensures _ c20.read4.given.1 in
     with_plain _ _ _ _ _ _ (files_read _ _ _ _ _ _ S d.reads cs g.reads _ _ _ _ _ (accepted_file _ _ c18.read5.ensures _ _ c16.n.given.1) (taken d g) (tells d) c6.job-in.ensures)
 
-pub whole-job-spec : {M : Type 1} → statement M
-whole-job-spec =
+pub whole_job_spec : {M : Type 1} → statement M
+whole_job_spec =
     tie.close
     (tie.spec
     read-requires

@@ -19,5 +19,5 @@ returns c = need_of_answer _ c.if1.true
 returns-2 : tie.Need-returns-2
 returns-2 c = need_of_narrowing _ c.if1.false
 
-pub work-need-spec : {M : Type 1} → statement M
-work-need-spec = tie.close (tie.spec mul_words mul-words-2 returns returns-2)
+pub work_need_spec : {M : Type 1} → statement M
+work_need_spec = tie.close (tie.spec mul_words mul-words-2 returns returns-2)

@@ -37,7 +37,7 @@ returns-2 c =
     let c6 = c3.before.before.before in
     tells_acyclic _ _ _ c6.requires.1 c6.requires.2 (sym c3.has.ensures ∙ c2.if1.false) c.has2.ensures
 
-pub acyclic-spec : {M : Type 1} → statement M
-acyclic-spec =
+pub acyclic_spec : {M : Type 1} → statement M
+acyclic_spec =
     tie.close
     (tie.spec cast-i add-has has-requires returns cast-j add-has-2 has-requires-2 returns-2)

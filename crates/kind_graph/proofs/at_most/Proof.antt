@@ -41,8 +41,8 @@ loop-again c = (omega arith, at_most_more c.before.before.before.before.args.bes
 returns-2 : tie.Need-returns-2 invariant-loop decreases-loop
 returns-2 c = decides_yes (at_most_all c.before.before.args.best.now c.before.loop.i c.loop-test.false c.before.loop.invariant.1)
 
-pub at-most-spec : {M : Type 1} → statement M
-at-most-spec =
+pub at_most_spec : {M : Type 1} → statement M
+at_most_spec =
     tie.close
     (tie.spec
     invariant-loop

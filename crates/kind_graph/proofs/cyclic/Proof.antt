@@ -56,8 +56,8 @@ same_length c = search rules
 returns : tie.Need-returns invariant-loop decreases-loop
 returns c = let e : c.before.loop.z ≡ 64 = omega arith in rw e at (row_then (row_zero c.before.before.before.before.clear.ensures) c.before.loop.invariant.1)
 
-pub cyclic-spec : {M : Type 1} → statement M
-cyclic-spec =
+pub cyclic_spec : {M : Type 1} → statement M
+cyclic_spec =
     tie.close
     (tie.spec
     invariant-loop

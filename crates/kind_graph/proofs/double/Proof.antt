@@ -26,8 +26,8 @@ same_length c = search rules
 returns : tie.Need-returns
 returns c = row_is c.before.before.copy2.ensures c.before.before.before.before.before.before.copy.ensures.bit
 
-pub double-spec : {M : Type 1} → statement M
-double-spec =
+pub double_spec : {M : Type 1} → statement M
+double_spec =
     tie.close
     (tie.spec
     slice-aggregate-copy

@@ -19,5 +19,5 @@ add-result-2 c = search rules
 returns-2 : tie.Need-returns-2
 returns-2 c = extended_more _ _ c.if1.false
 
-pub extend-spec : {M : Type 1} → statement M
-extend-spec = tie.close (tie.spec returns add-result add-result-2 returns-2)
+pub extend_spec : {M : Type 1} → statement M
+extend_spec = tie.close (tie.spec returns add-result add-result-2 returns-2)

@@ -47,8 +47,8 @@ same_length c = search rules
 returns : tie.Need-returns invariant-loop decreases-loop
 returns c = round_end c.before.before.before.before.before.before.requires.0 c.if1.false c.before.before.loop.invariant.2
 
-pub first-round-spec : {M : Type 1} → statement M
-first-round-spec =
+pub first_round_spec : {M : Type 1} → statement M
+first_round_spec =
     tie.close
     (tie.spec
     invariant-loop

@@ -45,8 +45,8 @@ returns c =
     let c19 = c15.before.before.before.before in
     linked c19.edges.ensures c15.closure.ensures c10.cyclic.ensures c7.double.ensures c2.join.ensures
 
-pub graph-spec : {M : Type 1} → statement M
-graph-spec =
+pub graph_spec : {M : Type 1} → statement M
+graph_spec =
     tie.close
     (tie.spec
     edges-requires

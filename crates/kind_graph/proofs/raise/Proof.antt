@@ -31,7 +31,7 @@ returns c = raised_set c.before.before.before.requires c.if1.true
 returns-2 : tie.Need-returns-2
 returns-2 c = raised_not c.if1.false
 
-pub raise-spec : {M : Type 1} → statement M
-raise-spec =
+pub raise_spec : {M : Type 1} → statement M
+raise_spec =
     tie.close
     (tie.spec cast-i mul-if1 slice-read-if1 mul-best slice-write-best same_length returns returns-2)

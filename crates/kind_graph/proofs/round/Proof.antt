@@ -67,8 +67,8 @@ same_length c = search rules
 returns : tie.Need-returns invariant-loop decreases-loop
 returns c = round_end c.before.before.before.before.before.before.before.requires.0 c.if1.false c.before.before.loop.invariant.2
 
-pub round-spec : {M : Type 1} → statement M
-round-spec =
+pub round_spec : {M : Type 1} → statement M
+round_spec =
     tie.close
     (tie.spec
     invariant-loop

@@ -87,8 +87,8 @@ loop-again c =
 returns-4 : tie.Need-returns-4 invariant-loop decreases-loop
 returns-4 c = rounds_over c.before.loop.invariant.1 (omega (arith, c.loop-test.false))
 
-pub walks-short-spec : {M : Type 1} → statement M
-walks-short-spec =
+pub walks_short_spec : {M : Type 1} → statement M
+walks_short_spec =
     tie.close
     (tie.spec
     invariant-loop

@@ -30,5 +30,5 @@ returns c =
     let c10 = c6.before.before.before.before in
     set_taken c10.args.kinds.now c10.args.set c6.clear.ensures c2.take-word.ensures
 
-pub records-of-spec : {M : Type 1} → statement M
-records-of-spec = tie.close (tie.spec clear-requires take-word-requires same_length returns)
+pub records_of_spec : {M : Type 1} → statement M
+records_of_spec = tie.close (tie.spec clear-requires take-word-requires same_length returns)

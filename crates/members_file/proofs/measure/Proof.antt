@@ -57,8 +57,8 @@ loop-again c =
 returns : tie.Need-returns invariant-loop decreases-loop
 returns c = count_over c.before.before.before.before.before.requires c.before.loop.invariant c.loop-test.false
 
-pub measure-spec : {M : Type 1} → statement M
-measure-spec =
+pub measure_spec : {M : Type 1} → statement M
+measure_spec =
     tie.close
     (tie.spec
     invariant-loop

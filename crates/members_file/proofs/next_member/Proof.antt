@@ -27,7 +27,7 @@ same-length-2 c = search rules
 returns : tie.Need-returns
 returns c = entry_is c.before.before.before.before.before.before.before.before.before.run.ensures c.before.before.number-symbols.ensures
 
-pub next-member-spec : {M : Type 1} → statement M
-next-member-spec =
+pub next_member_spec : {M : Type 1} → statement M
+next_member_spec =
     tie.close
     (tie.spec run-requires number-symbols-requires add-t19 same_length same-length-2 returns)

@@ -39,8 +39,8 @@ returns-4 c = by_symbol _ _ (decoded c.before.before.decode.ensures c.enum-told3
 returns-5 : tie.Need-returns-5
 returns-5 c = by_symbol _ _ (decoded c.before.before.decode.ensures c.enum-told4.given.1)
 
-pub number-spec : {M : Type 1} → statement M
-number-spec =
+pub number_spec : {M : Type 1} → statement M
+number_spec =
     tie.close
     (tie.spec
     decode-requires

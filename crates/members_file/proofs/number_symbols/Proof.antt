@@ -64,8 +64,8 @@ same_length c = search rules
 returns : tie.Need-returns invariant-loop decreases-loop
 returns c = going_over c.before.loop.invariant c.loop-test.false
 
-pub number-symbols-spec : {M : Type 1} → statement M
-number-symbols-spec =
+pub number_symbols_spec : {M : Type 1} → statement M
+number_symbols_spec =
     tie.close
     (tie.spec
     invariant-loop

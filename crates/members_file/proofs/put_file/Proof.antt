@@ -81,8 +81,8 @@ returns c =
     let c10 = c4.before.before.before.before.before.before in
     fill_over c10.requires c.before.loop.invariant c4.put_count.ensures c.loop-test.false
 
-pub put-file-spec : {M : Type 1} → statement M
-put-file-spec =
+pub put_file_spec : {M : Type 1} → statement M
+put_file_spec =
     tie.close
     (tie.spec
     invariant-loop

@@ -45,8 +45,8 @@ same_length c = search rules
 returns : tie.Need-returns invariant-loop decreases-loop
 returns c = arrange_over c.before.before.before.before.before.requires c.before.loop.invariant c.loop-test.false
 
-pub arrange-spec : {M : Type 1} → statement M
-arrange-spec =
+pub arrange_spec : {M : Type 1} → statement M
+arrange_spec =
     tie.close
     (tie.spec
     invariant-loop

@@ -51,8 +51,8 @@ returns c =
     let c15 = c10.before.before.before.before.before in
     c.precedes.ensures ∙ ap₂ before? (expanded_codes c15.requires.0 c10.expand.ensures refl) (expanded_codes c15.requires.1 c5.expand2.ensures refl)
 
-pub before-spec : {M : Type 1} → statement M
-before-spec =
+pub before_spec : {M : Type 1} → statement M
+before_spec =
     tie.close
     (tie.spec
     slice-aggregate-expand

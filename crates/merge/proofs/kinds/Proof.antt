@@ -32,5 +32,5 @@ returns c = record {
   to_is = shl_singleton _ c.before.before.load.ensures.to_small ∙ ap (λ (n : Node). singleton n.to.0) c.before.before.load.ensures.is;
 }
 
-pub kinds-spec : {M : Type 1} → statement M
-kinds-spec = tie.close (tie.spec load-requires cast-t4 shl-t5 cast-t6 shl-t7 returns)
+pub kinds_spec : {M : Type 1} → statement M
+kinds_spec = tie.close (tie.spec load-requires cast-t4 shl-t5 cast-t6 shl-t7 returns)

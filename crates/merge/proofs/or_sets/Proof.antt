@@ -52,8 +52,8 @@ same_length c = search rules
 returns : tie.Need-returns invariant-loop decreases-loop
 returns c = or_over _ c.before.loop.invariant.1 c.before.loop.invariant.0 c.loop-test.false
 
-pub or-sets-spec : {M : Type 1} → statement M
-or-sets-spec =
+pub or_sets_spec : {M : Type 1} → statement M
+or_sets_spec =
     tie.close
     (tie.spec
     invariant-loop

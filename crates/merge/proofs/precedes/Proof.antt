@@ -77,8 +77,8 @@ loop-again c =
 returns-4 : tie.Need-returns-4 invariant-loop decreases-loop
 returns-4 c = let x = c.before.before.args in sym (c.before.loop.invariant.1 ∙ past x.a.now x.b.now c.before.loop.k x.n x.m c.loop-test.false)
 
-pub precedes-spec : {M : Type 1} → statement M
-precedes-spec =
+pub precedes_spec : {M : Type 1} → statement M
+precedes_spec =
     tie.close
     (tie.spec
     invariant-loop

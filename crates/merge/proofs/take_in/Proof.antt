@@ -72,8 +72,8 @@ returns-3 c =
     let c20 = c13.before.before.before.before.before.before.before in
     taken_in c20.requires refl c13.expand.ensures refl c9.precedes.ensures c8.if1.false c6.precedes2.ensures c5.if2.false c2.or-sets.ensures
 
-pub take-in-spec : {M : Type 1} → statement M
-take-in-spec =
+pub take_in_spec : {M : Type 1} → statement M
+take_in_spec =
     tie.close
     (tie.spec
     slice-aggregate-expand

@@ -34,8 +34,8 @@ returns-2 c = simp (← c.rows-due2.ensures, c.before.before.st.given.1)
 returns-3 : tie.Need-returns-3
 returns-3 c = simp (← c.symbols-due.ensures, c.before.before.st2.given.1)
 
-pub due-spec : {M : Type 1} → statement M
-due-spec =
+pub due_spec : {M : Type 1} → statement M
+due_spec =
     tie.close
     (tie.spec
     enum_told

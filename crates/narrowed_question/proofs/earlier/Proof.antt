@@ -90,8 +90,8 @@ loop-again c =
 returns-4 : tie.Need-returns-4 invariant-loop decreases-loop
 returns-4 c = first_ends _ _ _ _ _ _ c.before.loop.invariant.1.1.1.1 c.before.loop.invariant.1.1.0 c.before.loop.invariant.1.1.1.0 c.loop-test.false
 
-pub earlier-spec : {M : Type 1} → statement M
-earlier-spec =
+pub earlier_spec : {M : Type 1} → statement M
+earlier_spec =
     tie.close
     (tie.spec
     invariant-loop

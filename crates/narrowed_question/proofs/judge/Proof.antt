@@ -31,8 +31,8 @@ returns-2 c = simp c.before.before.st.given.1 c.open-member.ensures
 returns-3 : tie.Need-returns-3
 returns-3 c = simp c.before.before.st2.given.1 c.grow.ensures
 
-pub judge-spec : {M : Type 1} → statement M
-judge-spec =
+pub judge_spec : {M : Type 1} → statement M
+judge_spec =
     tie.close
     (tie.spec
     enum_told

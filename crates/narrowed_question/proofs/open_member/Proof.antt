@@ -34,8 +34,8 @@ returns-3 : tie.Need-returns-3
 unfolding open_of
 returns-3 c = simp (← c.eight-at2.ensures, ← c.before.eight-at.ensures, le-leb _ _ c.before.before.if2.false, le-leb _ _ c.before.before.before.if1.false)
 
-pub open-member-spec : {M : Type 1} → statement M
-open-member-spec =
+pub open_member_spec : {M : Type 1} → statement M
+open_member_spec =
     tie.close
     (tie.spec
     shared-slice-read-n

@@ -339,8 +339,8 @@ returns-3 c =
     into_refused (turn_order c15.loop.invariant.0 _ _ _ _ (sym c14.look.ensures ∙ ap turn_said c12.c2.given.1)
     (rw (← c8.keep2.ensures.0) (sym c1.earlier.ensures ∙ c.if1.false)))
 
-pub read-into-spec : {M : Type 1} → statement M
-read-into-spec =
+pub read_into_spec : {M : Type 1} → statement M
+read_into_spec =
     tie.close
     (tie.spec
     invariant-loop

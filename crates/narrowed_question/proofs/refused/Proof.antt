@@ -9,5 +9,5 @@ returns : tie.Need-returns
 unfolding padded
 returns c = (refl, record { count = refl; sizes = refl; from = refl; to = refl; numbers = refl; sets = refl })
 
-pub refused-spec : {M : Type 1} → statement M
-refused-spec = tie.close (tie.spec returns)
+pub refused_spec : {M : Type 1} → statement M
+refused_spec = tie.close (tie.spec returns)

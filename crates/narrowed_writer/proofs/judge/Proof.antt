@@ -104,8 +104,8 @@ returns-3 c =
 returns-4 : tie.Need-returns-4 invariant-loop decreases-loop
 returns-4 c = members_end c.before.before.loop.invariant.0 c.if2.false
 
-pub judge-spec : {M : Type 1} → statement M
-judge-spec =
+pub judge_spec : {M : Type 1} → statement M
+judge_spec =
     tie.close
     (tie.spec
     invariant-loop

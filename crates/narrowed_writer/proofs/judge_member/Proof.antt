@@ -25,6 +25,6 @@ returns-3 : tie.Need-returns-3
 unfolding member_verdict field_size tag_length rows
 returns-3 c = simp (le-leb _ _ c.before.if2.false, le-leb _ _ c.before.before.if1.false) c.judge-path.ensures
 
-pub judge-member-spec : {M : Type 1} → statement M
-judge-member-spec =
+pub judge_member_spec : {M : Type 1} → statement M
+judge_member_spec =
     tie.close (tie.spec returns returns-2 add-judge-path judge-path-requires returns-3)

@@ -71,8 +71,8 @@ loop-again c =
 returns-2 : tie.Need-returns-2 invariant-loop decreases-loop
 returns-2 c = path_ends c.before.before.loop.invariant.0 (omega (arith, c.if1.false))
 
-pub judge-path-spec : {M : Type 1} → statement M
-judge-path-spec =
+pub judge_path_spec : {M : Type 1} → statement M
+judge_path_spec =
     tie.close
     (tie.spec
     invariant-loop

@@ -33,8 +33,8 @@ returns-2 : tie.Need-returns-2
 unfolding offered
 returns-2 c = simp (c.if1.false, ← c.before.is-symbol.ensures)
 
-pub offer-spec : {M : Type 1} → statement M
-offer-spec =
+pub offer_spec : {M : Type 1} → statement M
+offer_spec =
     tie.close
     (tie.spec
     is-symbol-requires

@@ -30,8 +30,8 @@ returns-2 c =
     codes_named c.before.before.before.before.before.before.before.before.requires.0 c.before.before.before.before.before.first-unnamed.ensures
     c.before.before.before.before.if1.false c.before.before.count-named.ensures
 
-pub count-codes-spec : {M : Type 1} → statement M
-count-codes-spec =
+pub count_codes_spec : {M : Type 1} → statement M
+count_codes_spec =
     tie.close
     (tie.spec
     first-unnamed-requires

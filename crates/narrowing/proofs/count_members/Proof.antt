@@ -29,8 +29,8 @@ measure-requires c κs = measuring c.before.before.before.before.before.before.r
 returns : tie.Need-returns
 returns c = counted c.before.before.before.before.before.before.before.requires (length-replicate {A = ℕ} 128 0) c.before.before.before.arrange.ensures c.measure.ensures
 
-pub count-members-spec : {M : Type 1} → statement M
-count-members-spec =
+pub count_members_spec : {M : Type 1} → statement M
+count_members_spec =
     tie.close
     (tie.spec
     sub-n

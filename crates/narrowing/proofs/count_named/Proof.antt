@@ -44,8 +44,8 @@ returns-2 c =
     c.before.before.before.before.before.before.before.before.before.before.before.requires.1 c.before.before.before.before.before.before.before.infer.ensures _ _
     c.before.before.before.s.given.1 c.count-members.ensures
 
-pub count-named-spec : {M : Type 1} → statement M
-count-named-spec =
+pub count_named_spec : {M : Type 1} → statement M
+count_named_spec =
     tie.close
     (tie.spec
     infer-requires

@@ -42,8 +42,8 @@ loop-again c = search_on _ _ _ c.before.before.before.before.before.before.requi
 returns-2 : tie.Need-returns-2 invariant-loop decreases-loop
 returns-2 c = search_over _ _ _ c.before.before.before.requires c.before.loop.invariant c.loop-test.false
 
-pub first-unnamed-spec : {M : Type 1} → statement M
-first-unnamed-spec =
+pub first_unnamed_spec : {M : Type 1} → statement M
+first_unnamed_spec =
     tie.close
     (tie.spec
     invariant-loop

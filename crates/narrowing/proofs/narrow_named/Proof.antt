@@ -24,7 +24,7 @@ same-length-2 c = search rules
 returns : tie.Need-returns
 returns c = named_filed c.before.before.before.before.before.before.before.count-named.ensures c.before.before.put-members.ensures
 
-pub narrow-named-spec : {M : Type 1} → statement M
-narrow-named-spec =
+pub narrow_named_spec : {M : Type 1} → statement M
+narrow_named_spec =
     tie.close
     (tie.spec count-named-requires put-members-requires same_length same-length-2 returns)

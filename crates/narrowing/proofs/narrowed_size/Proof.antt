@@ -21,5 +21,5 @@ same_length c = search rules
 returns : tie.Need-returns
 returns c = size_told c.before.before.before.before.before.before.before.prepare.ensures c.before.before.before.clear.ensures
 
-pub narrowed-size-spec : {M : Type 1} → statement M
-narrowed-size-spec = tie.close (tie.spec prepare-requires clear-requires same_length returns)
+pub narrowed_size_spec : {M : Type 1} → statement M
+narrowed_size_spec = tie.close (tie.spec prepare-requires clear-requires same_length returns)

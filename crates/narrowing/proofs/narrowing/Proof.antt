@@ -30,8 +30,8 @@ returns c =
     file_told c.before.before.before.before.before.before.before.before.before.before.before.before.before.before.before.prepare.ensures c.before.before.clear.ensures
     c.before.before.before.before.before.before.put-members.ensures
 
-pub narrowing-spec : {M : Type 1} → statement M
-narrowing-spec =
+pub narrowing_spec : {M : Type 1} → statement M
+narrowing_spec =
     tie.close
     (tie.spec
     prepare-requires

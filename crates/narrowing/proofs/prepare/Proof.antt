@@ -79,8 +79,8 @@ returns-4 c =
     files_read _ _ _ S d.reads cs g.reads _ _ c12.read4.given.0.0 _ _ 8192 need_is c.before.before.before.before.before.before.before.before.before.before.if1.false
     (taken d g) (handed d) c.before.before.before.count-codes.ensures
 
-pub prepare-spec : {M : Type 1} → statement M
-prepare-spec =
+pub prepare_spec : {M : Type 1} → statement M
+prepare_spec =
     tie.close
     (tie.spec
     read-requires

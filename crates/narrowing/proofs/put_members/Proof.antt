@@ -33,8 +33,8 @@ returns-3 c =
     put_filed _ _ c.before.before.before.before.before.before.before.before.before.outcome2.given.1 c.before.before.before.before.before.before.before.if1.false
     c.before.before.put-file.ensures
 
-pub put-members-spec : {M : Type 1} → statement M
-put-members-spec =
+pub put_members_spec : {M : Type 1} → statement M
+put_members_spec =
     tie.close
     (tie.spec
     enum-known-outcome

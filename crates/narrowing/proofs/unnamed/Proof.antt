@@ -36,8 +36,8 @@ returns-3 c = unnamed_op _ (decoded c.before.before.decode.ensures c.enum-told2.
 returns-4 : tie.Need-returns-4
 returns-4 c = unnamed_closure _ (decoded c.before.before.decode.ensures c.enum-told3.given.1)
 
-pub unnamed-spec : {M : Type 1} → statement M
-unnamed-spec =
+pub unnamed_spec : {M : Type 1} → statement M
+unnamed_spec =
     tie.close
     (tie.spec
     decode-requires

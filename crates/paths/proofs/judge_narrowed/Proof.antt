@@ -23,6 +23,6 @@ returns c = judged_refused _ _ _ _ (refused_narrowed _ _ _ c.before.before.befor
 returns-2 : tie.Need-returns-2
 returns-2 c = judged_accepted _ _ _ (told_narrowed _ _ _ c.before.before.read.ensures _ c.enum_told.given.1).1
 
-pub judge-narrowed-spec : {M : Type 1} → statement M
-judge-narrowed-spec =
+pub judge_narrowed_spec : {M : Type 1} → statement M
+judge_narrowed_spec =
     tie.close (tie.spec read-requires enum-known-outcome enum_told returns returns-2)

@@ -24,6 +24,6 @@ returns c = judged_refused _ _ _ _ (refused_question _ _ _ c.before.before.befor
 returns-2 : tie.Need-returns-2
 returns-2 c = judged_accepted _ _ _ (told_question _ _ _ c.before.before.read.ensures _ c.enum_told.given.1).1.reads
 
-pub judge-question-spec : {M : Type 1} → statement M
-judge-question-spec =
+pub judge_question_spec : {M : Type 1} → statement M
+judge_question_spec =
     tie.close (tie.spec read-requires enum-known-outcome enum_told returns returns-2)

@@ -24,5 +24,5 @@ returns c = judged_refused _ _ _ _ (refused_file _ _ c.before.before.before.read
 returns-2 : tie.Need-returns-2
 returns-2 c = judged_accepted _ _ _ (accepted_file _ _ c.before.before.read.ensures _ _ c.enum_told.given.1)
 
-pub judge-register-spec : {M : Type 1} → statement M
-judge-register-spec = tie.close (tie.spec read-requires enum-known-r enum_told returns returns-2)
+pub judge_register_spec : {M : Type 1} → statement M
+judge_register_spec = tie.close (tie.spec read-requires enum-known-r enum_told returns returns-2)

@@ -24,6 +24,6 @@ returns c = judged_refused _ _ _ _ (refused_sheet _ _ _ c.before.before.before.r
 returns-2 : tie.Need-returns-2
 returns-2 c = judged_accepted _ _ _ (told_sheet _ _ _ c.before.before.read.ensures _ _ c.enum_told.given.1).1.reads
 
-pub judge-sheet-spec : {M : Type 1} → statement M
-judge-sheet-spec =
+pub judge_sheet_spec : {M : Type 1} → statement M
+judge_sheet_spec =
     tie.close (tie.spec read-requires enum-known-outcome enum_told returns returns-2)

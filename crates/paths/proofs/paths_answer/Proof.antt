@@ -20,6 +20,6 @@ same-length-2 c = search rules
 returns : tie.Need-returns
 returns c = tells_call c.tell.ensures c.before.before.before.before.before.before.before.plain_answer.ensures
 
-pub paths-answer-spec : {M : Type 1} → statement M
-paths-answer-spec =
+pub paths_answer_spec : {M : Type 1} → statement M
+paths_answer_spec =
     tie.close (tie.spec plain-answer-requires tell-requires same_length same-length-2 returns)

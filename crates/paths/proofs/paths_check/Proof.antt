@@ -13,5 +13,5 @@ tell-requires c κs = search rules
 returns : tie.Need-returns
 returns c = rw c.before.before.before.check.ensures at c.tell.ensures
 
-pub paths-check-spec : {M : Type 1} → statement M
-paths-check-spec = tie.close (tie.spec check-requires tell-requires returns)
+pub paths_check_spec : {M : Type 1} → statement M
+paths_check_spec = tie.close (tie.spec check-requires tell-requires returns)

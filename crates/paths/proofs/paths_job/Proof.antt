@@ -29,8 +29,8 @@ returns c =
       record { accepted = λ z. let (x, e) = t.only z in h.1.accepted x e; answer_is = λ z. let (x, e) = t.only z in h.1.answer x e },
     )
 
-pub paths-job-spec : {M : Type 1} → statement M
-paths-job-spec =
+pub paths_job_spec : {M : Type 1} → statement M
+paths_job_spec =
     tie.close
     (tie.spec
     whole-job-requires

@@ -20,6 +20,6 @@ same-length-2 c = search rules
 returns : tie.Need-returns
 returns c = tells_call c.tell-file.ensures c.before.before.before.before.before.before.before.narrowing.ensures
 
-pub paths-narrow-spec : {M : Type 1} → statement M
-paths-narrow-spec =
+pub paths_narrow_spec : {M : Type 1} → statement M
+paths_narrow_spec =
     tie.close (tie.spec narrowing-requires tell-file-requires same_length same-length-2 returns)

@@ -17,6 +17,6 @@ same_length c = search rules
 returns : tie.Need-returns
 returns c = tells_call c.tell-file.ensures c.before.before.before.before.before.narrowed-size.ensures
 
-pub paths-narrow-bytes-spec : {M : Type 1} → statement M
-paths-narrow-bytes-spec =
+pub paths_narrow_bytes_spec : {M : Type 1} → statement M
+paths_narrow_bytes_spec =
     tie.close (tie.spec narrowed-size-requires tell-file-requires same_length returns)

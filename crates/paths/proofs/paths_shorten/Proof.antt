@@ -17,5 +17,5 @@ same_length c = search rules
 returns : tie.Need-returns
 returns c = tells_output c.tell-file.ensures c.before.before.before.before.before.shorten.ensures
 
-pub paths-shorten-spec : {M : Type 1} → statement M
-paths-shorten-spec = tie.close (tie.spec shorten-requires tell-file-requires same_length returns)
+pub paths_shorten_spec : {M : Type 1} → statement M
+paths_shorten_spec = tie.close (tie.spec shorten-requires tell-file-requires same_length returns)

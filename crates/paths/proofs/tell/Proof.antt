@@ -20,5 +20,5 @@ returns c = tells_accepted c.enum_told.given.1
 returns-2 : tie.Need-returns-2
 returns-2 c = tells_refused c.before.before.before.before.o.given.1 c.tell-refusal.ensures
 
-pub tell-spec : {M : Type 1} → statement M
-tell-spec = tie.close (tie.spec enum_told enum-known-o tell-refusal-requires returns returns-2)
+pub tell_spec : {M : Type 1} → statement M
+tell_spec = tie.close (tie.spec enum_told enum-known-o tell-refusal-requires returns returns-2)

@@ -20,6 +20,6 @@ returns c = tells_written c.before.o.given.1
 returns-2 : tie.Need-returns-2
 returns-2 c = tells_unwritten c.before.before.before.before.o2.given.1 c.tell-refusal.ensures
 
-pub tell-file-spec : {M : Type 1} → statement M
-tell-file-spec =
+pub tell_file_spec : {M : Type 1} → statement M
+tell_file_spec =
     tie.close (tie.spec enum-known-o enum-known-o-2 tell-refusal-requires returns returns-2)

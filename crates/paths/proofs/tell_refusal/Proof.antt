@@ -28,8 +28,8 @@ returns c =
     let c4 = c3.before in
     tells_same (c.wide2.ensures.0 ∙ c.before.number_of.ensures) c4.place_of.ensures (c2.wide.ensures.0 ∙ c3.source_number.ensures)
 
-pub tell-refusal-spec : {M : Type 1} → statement M
-tell-refusal-spec =
+pub tell_refusal_spec : {M : Type 1} → statement M
+tell_refusal_spec =
     tie.close
     (tie.spec
     place-of-requires

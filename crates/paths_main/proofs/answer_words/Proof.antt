@@ -10,5 +10,5 @@ returns : tie.Need-returns
 unfolding zeros
 returns c = (refl, search rules)
 
-pub answer-words-spec : {M : Type 1} → statement M
-answer-words-spec = tie.close (tie.spec returns)
+pub answer_words_spec : {M : Type 1} → statement M
+answer_words_spec = tie.close (tie.spec returns)

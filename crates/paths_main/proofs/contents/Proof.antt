@@ -68,8 +68,8 @@ same-length-3 c = search rules
 returns-3 : tie.Need-returns-3 invariant-loop decreases-loop
 returns-3 c = prefix_len_of_le _ _ (omega arith)
 
-pub contents-spec : {M : Type 1} → statement M
-contents-spec =
+pub contents_spec : {M : Type 1} → statement M
+contents_spec =
     tie.close
     (tie.spec
     invariant-loop

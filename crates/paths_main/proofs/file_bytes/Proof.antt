@@ -10,5 +10,5 @@ returns : tie.Need-returns
 unfolding zeros
 returns c = (refl, search rules)
 
-pub file-bytes-spec : {M : Type 1} → statement M
-file-bytes-spec = tie.close (tie.spec returns)
+pub file_bytes_spec : {M : Type 1} → statement M
+file_bytes_spec = tie.close (tie.spec returns)

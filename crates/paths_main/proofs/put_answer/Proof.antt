@@ -65,8 +65,8 @@ returns-2 c =
     let c12 = c8.before.before.before.before in
     rw (is_answer _ _ _ c8.read.ensures c12.requires.0 _ _ _ c6.n.given.1 c3.row_words.ensures _) at c2.put-answer.ensures
 
-pub put-answer-spec : {M : Type 1} → statement M
-put-answer-spec =
+pub put_answer_spec : {M : Type 1} → statement M
+put_answer_spec =
     tie.close
     (tie.spec
     read-requires

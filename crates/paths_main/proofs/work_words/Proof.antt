@@ -10,5 +10,5 @@ returns : tie.Need-returns
 unfolding zeros
 returns c = (refl, search rules)
 
-pub work-words-spec : {M : Type 1} → statement M
-work-words-spec = tie.close (tie.spec returns)
+pub work_words_spec : {M : Type 1} → statement M
+work_words_spec = tie.close (tie.spec returns)

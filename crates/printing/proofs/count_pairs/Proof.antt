@@ -51,8 +51,8 @@ loop-again c =
 returns : tie.Need-returns invariant-loop decreases-loop
 returns c = counted_end c.before.loop.invariant.0 c.loop-test.false ∙ sym (count_pieces _ _)
 
-pub count-pairs-spec : {M : Type 1} → statement M
-count-pairs-spec =
+pub count_pairs_spec : {M : Type 1} → statement M
+count_pairs_spec =
     tie.close
     (tie.spec
     invariant-loop

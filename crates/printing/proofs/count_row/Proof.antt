@@ -48,8 +48,8 @@ returns c =
     let c3 = c.before.before.before in
     (counted_end c.before.loop.invariant.0 c.loop-test.false ∙ sym (ap length (filter_pieces _ (range c3.args.n))), omega (arith, c.before.loop.invariant.0.within))
 
-pub count-row-spec : {M : Type 1} → statement M
-count-row-spec =
+pub count_row_spec : {M : Type 1} → statement M
+count_row_spec =
     tie.close
     (tie.spec
     invariant-loop

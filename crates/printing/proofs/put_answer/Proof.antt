@@ -70,8 +70,8 @@ returns c =
     let c17 = c12.before.before.before.before.before in
     wrote_more c17.put-number.ensures (wrote_more (rw c12.count-pairs.ensures at c11.put-number2.ensures) (wrote_more c6.put-text.ensures c2.put-pairs.ensures))
 
-pub put-answer-spec : {M : Type 1} → statement M
-put-answer-spec =
+pub put_answer_spec : {M : Type 1} → statement M
+put_answer_spec =
     tie.close
     (tie.spec
     slice-aggregate-put-number

@@ -31,8 +31,8 @@ returns c =
     let c8 = c5.before.before.before in
     rw (c5.decimal.ensures.1.1 ∙ fewest_decimal _ _ c8.ranges.n.fits c5.decimal.ensures.1.0) at c2.put-text.ensures
 
-pub put-decimal-spec : {M : Type 1} → statement M
-put-decimal-spec =
+pub put_decimal_spec : {M : Type 1} → statement M
+put_decimal_spec =
     tie.close
     (tie.spec
     decimal-requires

@@ -17,5 +17,5 @@ returns c = rw c.before.before.before.before.if1.true c.before.before.put-line.e
 returns-2 : tie.Need-returns-2
 returns-2 c = rw c.if1.false (wrote_none _ _)
 
-pub put-if-spec : {M : Type 1} → statement M
-put-if-spec = tie.close (tie.spec put-line-requires same_length returns returns-2)
+pub put_if_spec : {M : Type 1} → statement M
+put_if_spec = tie.close (tie.spec put-line-requires same_length returns returns-2)

@@ -45,8 +45,8 @@ returns c =
     let c12 = c7.before.before.before.before.before in
     wrote_more c12.put-decimal.ensures (wrote_more c7.put-number.ensures c2.put-text.ensures)
 
-pub put-line-spec : {M : Type 1} → statement M
-put-line-spec =
+pub put_line_spec : {M : Type 1} → statement M
+put_line_spec =
     tie.close
     (tie.spec
     put-decimal-requires

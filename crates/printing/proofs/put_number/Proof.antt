@@ -20,5 +20,5 @@ same_length c = search rules
 returns : tie.Need-returns
 returns c = wrote_more c.before.before.before.before.before.before.put-text.ensures c.before.before.put-decimal.ensures
 
-pub put-number-spec : {M : Type 1} → statement M
-put-number-spec = tie.close (tie.spec put-text-requires put-decimal-requires same_length returns)
+pub put_number_spec : {M : Type 1} → statement M
+put_number_spec = tie.close (tie.spec put-text-requires put-decimal-requires same_length returns)

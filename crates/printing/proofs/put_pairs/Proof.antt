@@ -54,8 +54,8 @@ same_length c = filling_length c.before.loop.invariant.filling
 returns : tie.Need-returns invariant-loop decreases-loop
 returns c = pieces_end c.before.loop.invariant c.loop-test.false
 
-pub put-pairs-spec : {M : Type 1} → statement M
-put-pairs-spec =
+pub put_pairs_spec : {M : Type 1} → statement M
+put_pairs_spec =
     tie.close
     (tie.spec
     invariant-loop

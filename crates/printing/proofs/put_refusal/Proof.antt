@@ -83,8 +83,8 @@ returns c =
     wrote_more (rw (c18.wide.ensures.0 ∙ c19.number_of.ensures) at c17.put-number.ensures)
     (wrote_more c13.put-source.ensures (wrote_more (rw c8.place_of.ensures at c7.put-number2.ensures) c2.put-text.ensures))
 
-pub put-refusal-spec : {M : Type 1} → statement M
-put-refusal-spec =
+pub put_refusal_spec : {M : Type 1} → statement M
+put_refusal_spec =
     tie.close
     (tie.spec
     slice-aggregate-put-number

@@ -54,8 +54,8 @@ same_length c = filling_length c.before.loop.invariant.filling
 returns : tie.Need-returns invariant-loop decreases-loop
 returns c = pieces_end c.before.loop.invariant c.loop-test.false
 
-pub put-row-spec : {M : Type 1} → statement M
-put-row-spec =
+pub put_row_spec : {M : Type 1} → statement M
+put_row_spec =
     tie.close
     (tie.spec
     invariant-loop

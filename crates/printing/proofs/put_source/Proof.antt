@@ -79,8 +79,8 @@ same-length-5 c = search rules
 returns-5 : tie.Need-returns-5
 returns-5 c = rw c.before.before.before.before.before.enum-told5.given.1 c.before.before.put-text5.ensures
 
-pub put-source-spec : {M : Type 1} → statement M
-put-source-spec =
+pub put_source_spec : {M : Type 1} → statement M
+put_source_spec =
     tie.close
     (tie.spec
     enum_told

@@ -44,8 +44,8 @@ same_length c = filling_length c.before.loop.invariant.2
 returns : tie.Need-returns invariant-loop decreases-loop
 returns c = bytes_end c.before.loop.i c.before.loop.invariant.2 (omega arith)
 
-pub put-text-spec : {M : Type 1} → statement M
-put-text-spec =
+pub put_text_spec : {M : Type 1} → statement M
+put_text_spec =
     tie.close
     (tie.spec
     invariant-loop

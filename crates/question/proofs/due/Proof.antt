@@ -24,7 +24,7 @@ returns c = simp (← c.rows_due.ensures, c.before.enum_told.given.1)
 returns-2 : tie.Need-returns-2
 returns-2 c = simp (← c.symbols-due.ensures, c.before.before.st.given.1)
 
-pub due-spec : {M : Type 1} → statement M
-due-spec =
+pub due_spec : {M : Type 1} → statement M
+due_spec =
     tie.close
     (tie.spec enum_told rows-due-requires enum-known-st symbols-due-requires returns returns-2)

@@ -37,8 +37,8 @@ loop-again c = counting_next _ c.before.before.before.loop.invariant c.before.be
 returns : tie.Need-returns invariant-loop decreases-loop
 returns c = counting_end c.before.loop.invariant c.loop-test.false
 
-pub measure-spec : {M : Type 1} → statement M
-measure-spec =
+pub measure_spec : {M : Type 1} → statement M
+measure_spec =
     tie.close
     (tie.spec
     invariant-loop

@@ -29,8 +29,8 @@ returns c =
     let a = c.before.before.before.before.before.before.before in
     question_put _ a.before.before.before.before.requires.0 a.put_count.ensures c.before.before.put-symbols.ensures
 
-pub put-question-spec : {M : Type 1} → statement M
-put-question-spec =
+pub put_question_spec : {M : Type 1} → statement M
+put_question_spec =
     tie.close
     (tie.spec
     cast-n

@@ -33,8 +33,8 @@ returns-3 : tie.Need-returns-3
 unfolding rows_of rows
 returns-3 c = simp (← c.rows-due3.ensures, ne_eqb _ _ c.before.if1.false, c.before.before.before.before.st.given.1)
 
-pub due-at-spec : {M : Type 1} → statement M
-due-at-spec =
+pub due_at_spec : {M : Type 1} → statement M
+due_at_spec =
     tie.close
     (tie.spec
     enum_told

@@ -22,7 +22,7 @@ returns c = simp c.before.enum_told.given.1 c.judge-head.ensures
 returns-2 : tie.Need-returns-2
 returns-2 c = simp c.before.before.st.given.1 c.judge-entry.ensures
 
-pub judge-spec : {M : Type 1} → statement M
-judge-spec =
+pub judge_spec : {M : Type 1} → statement M
+judge_spec =
     tie.close
     (tie.spec enum_told judge-head-requires enum-known-st judge-entry-requires returns returns-2)

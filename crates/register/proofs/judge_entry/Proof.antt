@@ -21,5 +21,5 @@ returns-2 : tie.Need-returns-2
 unfolding entry_of
 returns-2 c = simp (ne_eqb _ _ c.before.if1.false) c.judge-kind.ensures
 
-pub judge-entry-spec : {M : Type 1} → statement M
-judge-entry-spec = tie.close (tie.spec judge-link-requires returns judge-kind-requires returns-2)
+pub judge_entry_spec : {M : Type 1} → statement M
+judge_entry_spec = tie.close (tie.spec judge-link-requires returns judge-kind-requires returns-2)

@@ -27,5 +27,5 @@ returns-3 : tie.Need-returns-3
 unfolding head_of
 returns-3 c = simp (le-leb _ _ c.if2.false, le-leb _ _ c.before.if1.false, ← c.before.before.two2.ensures, ← c.before.before.before.two.ensures)
 
-pub judge-head-spec : {M : Type 1} → statement M
-judge-head-spec = tie.close (tie.spec two-requires two-requires-2 returns returns-2 returns-3)
+pub judge_head_spec : {M : Type 1} → statement M
+judge_head_spec = tie.close (tie.spec two-requires two-requires-2 returns returns-2 returns-3)

@@ -22,5 +22,5 @@ returns-2 : tie.Need-returns-2
 unfolding kind_of
 returns-2 c = simp (lt-ltb _ _ c.before.if1.false)
 
-pub judge-kind-spec : {M : Type 1} → statement M
-judge-kind-spec = tie.close (tie.spec shared-slice-read-if1 returns sub-t8 returns-2)
+pub judge_kind_spec : {M : Type 1} → statement M
+judge_kind_spec = tie.close (tie.spec shared-slice-read-if1 returns sub-t8 returns-2)

@@ -66,8 +66,8 @@ returns-5 c =
     let c9 = c8.before in
     simp (le-leb _ _ c.before.if4.false, ← c3.key_of.ensures.0, lt-ltb _ _ c4.if3.false, ← c5.two2.ensures, lt-ltb _ _ c6.if2.false, lt-ltb _ _ c8.if1.false, ← c9.two.ensures)
 
-pub judge-link-spec : {M : Type 1} → statement M
-judge-link-spec =
+pub judge_link_spec : {M : Type 1} → statement M
+judge_link_spec =
     tie.close
     (tie.spec
     two-requires

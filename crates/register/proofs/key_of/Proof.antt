@@ -43,8 +43,8 @@ returns : tie.Need-returns
 unfolding key
 returns c = search rules
 
-pub key-of-spec : {M : Type 1} → statement M
-key-of-spec =
+pub key_of_spec : {M : Type 1} → statement M
+key_of_spec =
     tie.close
     (tie.spec
     two-requires

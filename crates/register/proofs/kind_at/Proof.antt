@@ -17,5 +17,5 @@ shared-slice-read-t6 c = (kind_lies _ _ c.before.requires).0
 returns : tie.Need-returns
 returns c = (kind_lies _ _ c.before.requires).1
 
-pub kind-at-spec : {M : Type 1} → statement M
-kind-at-spec = tie.close (tie.spec mul-t3 add-t4 shared-slice-read-t6 returns)
+pub kind_at_spec : {M : Type 1} → statement M
+kind_at_spec = tie.close (tie.spec mul-t3 add-t4 shared-slice-read-t6 returns)

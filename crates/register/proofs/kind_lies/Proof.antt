@@ -39,8 +39,8 @@ returns-4 c = λ e. record {
   len = sym c.two.ensures ∙ eqb-true _ _ e;
 }
 
-pub kind-lies-spec : {M : Type 1} → statement M
-kind-lies-spec =
+pub kind_lies_spec : {M : Type 1} → statement M
+kind_lies_spec =
     tie.close
     (tie.spec
     returns

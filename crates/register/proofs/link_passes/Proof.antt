@@ -24,5 +24,5 @@ returns-5 c =
     let c3 = c2.before in
     λ e. record { due = omega (arith, c3.if1.false); low = omega (arith, c2.if2.false); high = omega (arith, c.before.if3.false); label = omega (arith, c.if4.false); to = ltb-true _ _ e }
 
-pub link-passes-spec : {M : Type 1} → statement M
-link-passes-spec = tie.close (tie.spec returns returns-2 returns-3 returns-4 returns-5)
+pub link_passes_spec : {M : Type 1} → statement M
+link_passes_spec = tie.close (tie.spec returns returns-2 returns-3 returns-4 returns-5)

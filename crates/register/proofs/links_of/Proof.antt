@@ -27,6 +27,6 @@ add-t6 c = search rules
 returns : tie.Need-returns
 returns c = links_start _ _ c.before.before.before.requires (omega (arith, c.before.two.ensures)) c.two2.ensures
 
-pub links-of-spec : {M : Type 1} → statement M
-links-of-spec =
+pub links_of_spec : {M : Type 1} → statement M
+links_of_spec =
     tie.close (tie.spec two-requires cast-records two-requires-2 cast-left mul-t5 add-t6 returns)

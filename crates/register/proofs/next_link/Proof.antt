@@ -45,8 +45,8 @@ returns-2 c =
     next_more _ _ c.before.before.before.before.before.before.before.requires c.before.before.before.before.if1.false _ _ _ _
     c.before.before.before.two.ensures refl c.before.two2.ensures refl refl
 
-pub next-link-spec : {M : Type 1} → statement M
-next-link-spec =
+pub next_link_spec : {M : Type 1} → statement M
+next_link_spec =
     tie.close
     (tie.spec
     returns

@@ -14,5 +14,5 @@ past-links-requires c κs = (passed_on _ _ c.past-kinds.ensures c.before.before.
 returns : tie.Need-returns
 returns c = passed_both _ _ c.before.past-kinds.ensures c.past_links.ensures
 
-pub past-spec : {M : Type 1} → statement M
-past-spec = tie.close (tie.spec past-kinds-requires past-links-requires returns)
+pub past_spec : {M : Type 1} → statement M
+past_spec = tie.close (tie.spec past-kinds-requires past-links-requires returns)

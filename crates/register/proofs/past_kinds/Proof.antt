@@ -70,8 +70,8 @@ loop-again c =
 returns-2 : tie.Need-returns-2 invariant-loop decreases-loop
 returns-2 c = search rules
 
-pub past-kinds-spec : {M : Type 1} → statement M
-past-kinds-spec =
+pub past_kinds_spec : {M : Type 1} → statement M
+past_kinds_spec =
     tie.close
     (tie.spec
     invariant-loop

@@ -75,8 +75,8 @@ sub-t11 c = c.before.before.loop.invariant.base
 returns-3 : tie.Need-returns-3 invariant-loop decreases-loop
 returns-3 c = c.before.before.loop.invariant.passed
 
-pub past-links-spec : {M : Type 1} → statement M
-past-links-spec =
+pub past_links_spec : {M : Type 1} → statement M
+past_links_spec =
     tie.close
     (tie.spec
     invariant-loop

@@ -22,5 +22,5 @@ returns c = search rules
 returns-2 : tie.Need-returns-2
 returns-2 c = simp c.before.before.before.st.given.1
 
-pub sizes-spec : {M : Type 1} → statement M
-sizes-spec = tie.close (tie.spec enum_told enum-known-st cast-t4 cast-t5 returns returns-2)
+pub sizes_spec : {M : Type 1} → statement M
+sizes_spec = tie.close (tie.spec enum_told enum-known-st cast-t4 cast-t5 returns returns-2)

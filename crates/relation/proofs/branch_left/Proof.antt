@@ -61,8 +61,8 @@ same_length c = search rules
 returns : tie.Need-returns invariant-loop decreases-loop
 returns c = made_all c.before.loop.invariant.1 (omega arith)
 
-pub branch-left-spec : {M : Type 1} → statement M
-branch-left-spec =
+pub branch_left_spec : {M : Type 1} → statement M
+branch_left_spec =
     tie.close
     (tie.spec
     invariant-loop

@@ -31,8 +31,8 @@ returns c =
     let c10 = c6.before.before.before.before in
     branched c10.args.q c10.requires.4 c6.sources.ensures c2.keep-targets.ensures
 
-pub branch-right-spec : {M : Type 1} → statement M
-branch-right-spec =
+pub branch_right_spec : {M : Type 1} → statement M
+branch_right_spec =
     tie.close
     (tie.spec
     slice-aggregate-sources

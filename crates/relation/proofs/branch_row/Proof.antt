@@ -37,6 +37,6 @@ returns-2 c =
     let a = c.before.before.before.before.args in
     branch_no _ a.d a.s a.n _ c.before.before.before.before.requires.4 (omega arith) (sym c.before.any.ensures ∙ c.if1.false)
 
-pub branch-row-spec : {M : Type 1} → statement M
-branch-row-spec =
+pub branch_row_spec : {M : Type 1} → statement M
+branch_row_spec =
     tie.close (tie.spec any-requires merge-within-requires same_length returns same-length-2 returns-2)

@@ -33,8 +33,8 @@ returns c =
     let a = c12.args in
     words_put a.row.now 0 a.work.now a.q a.w a.mask.now a.m 16 0 a.n c6.take_row.ensures c2.copy.ensures (omega arith) (omega arith) c12.requires.5
 
-pub follow-spec : {M : Type 1} → statement M
-follow-spec =
+pub follow_spec : {M : Type 1} → statement M
+follow_spec =
     tie.close
     (tie.spec
     slice-aggregate-take-row

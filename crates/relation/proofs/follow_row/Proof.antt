@@ -33,8 +33,8 @@ returns c =
     let a = c11.args in
     words_put a.work.now a.d a.work.now a.q a.w a.mask.now 0 16 a.d a.n c6.take_row.ensures c2.copy.ensures (omega arith) (omega arith) c11.requires.5
 
-pub follow-row-spec : {M : Type 1} → statement M
-follow-row-spec =
+pub follow_row_spec : {M : Type 1} → statement M
+follow_row_spec =
     tie.close
     (tie.spec
     slice-aggregate-take-row

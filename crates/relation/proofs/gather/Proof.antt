@@ -63,8 +63,8 @@ same-length-6 c = search rules
 returns-6 : tie.Need-returns-6
 returns-6 c = search rules
 
-pub gather-spec : {M : Type 1} → statement M
-gather-spec =
+pub gather_spec : {M : Type 1} → statement M
+gather_spec =
     tie.close
     (tie.spec
     take-aside-requires

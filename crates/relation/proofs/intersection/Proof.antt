@@ -21,6 +21,6 @@ same_length c = search rules
 returns : tie.Need-returns
 returns c = both_whole ◌&&◌ c.before.before.before.before.before.args.q c.before.before.merge-within.ensures
 
-pub intersection-spec : {M : Type 1} → statement M
-intersection-spec =
+pub intersection_spec : {M : Type 1} → statement M
+intersection_spec =
     tie.close (tie.spec mul-merge-within merge-within-requires same_length returns)

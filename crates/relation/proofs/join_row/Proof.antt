@@ -29,7 +29,7 @@ same-length-2 c = search rules
 returns-2 : tie.Need-returns-2
 returns-2 c = let a = c.before.before.before.before.before.args in row_none a.work.now a.mask.now a.d a.q a.n a.w (sym c.before.any.ensures ∙ c.if1.false) (omega arith)
 
-pub join-row-spec : {M : Type 1} → statement M
-join-row-spec =
+pub join_row_spec : {M : Type 1} → statement M
+join_row_spec =
     tie.close
     (tie.spec any-requires follow-row-requires same_length returns same-length-2 returns-2)

@@ -50,8 +50,8 @@ same_length c = search rules
 returns : tie.Need-returns invariant-loop decreases-loop
 returns c = made_all c.before.loop.invariant.1 (omega arith)
 
-pub keep-targets-spec : {M : Type 1} → statement M
-keep-targets-spec =
+pub keep_targets_spec : {M : Type 1} → statement M
+keep_targets_spec =
     tie.close
     (tie.spec
     invariant-loop

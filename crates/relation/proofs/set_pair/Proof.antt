@@ -25,5 +25,5 @@ returns c =
     let c5 = c2.before.before.before in
     made_pair c5.args.t (c2.set.ensures c5.args.w (omega arith)) c5.requires.2
 
-pub set-pair-spec : {M : Type 1} → statement M
-set-pair-spec = tie.close (tie.spec mul-set add-set set-requires same_length returns)
+pub set_pair_spec : {M : Type 1} → statement M
+set_pair_spec = tie.close (tie.spec mul-set add-set set-requires same_length returns)

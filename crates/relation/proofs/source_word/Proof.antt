@@ -58,8 +58,8 @@ loop-again c =
 returns : tie.Need-returns invariant-loop decreases-loop
 returns c = let e : c.before.loop.i ≡ c.before.before.before.args.m = omega arith in rw e at c.before.loop.invariant.1
 
-pub source-word-spec : {M : Type 1} → statement M
-source-word-spec =
+pub source_word_spec : {M : Type 1} → statement M
+source_word_spec =
     tie.close
     (tie.spec
     invariant-loop

@@ -59,8 +59,8 @@ same_length c = search rules
 returns : tie.Need-returns invariant-loop decreases-loop
 returns c = let e : c.before.loop.i ≡ c.before.before.before.before.args.w = omega arith in rw e at c.before.loop.invariant.2
 
-pub sources-spec : {M : Type 1} → statement M
-sources-spec =
+pub sources_spec : {M : Type 1} → statement M
+sources_spec =
     tie.close
     (tie.spec
     invariant-loop

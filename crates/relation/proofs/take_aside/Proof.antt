@@ -32,8 +32,8 @@ returns c =
     let a = c6.before.before.before.before.args in
     word_aside a.work.now 16 a.q a.w a.g a.v c6.take-bits.ensures c2.unite.ensures (omega arith)
 
-pub take-aside-spec : {M : Type 1} → statement M
-take-aside-spec =
+pub take_aside_spec : {M : Type 1} → statement M
+take_aside_spec =
     tie.close
     (tie.spec
     slice-aggregate-take-bits

@@ -72,8 +72,8 @@ same_length c = search rules
 returns : tie.Need-returns invariant-loop decreases-loop
 returns c = word_all _ _ _ _ _ _ c.before.loop.invariant.2 (sym c.before.loop.invariant.1 ∙ c.loop-test.false) (omega arith)
 
-pub take-bits-spec : {M : Type 1} → statement M
-take-bits-spec =
+pub take_bits_spec : {M : Type 1} → statement M
+take_bits_spec =
     tie.close
     (tie.spec
     invariant-loop

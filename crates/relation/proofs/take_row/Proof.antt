@@ -69,8 +69,8 @@ same_length c = search rules
 returns : tie.Need-returns invariant-loop decreases-loop
 returns c = let e : c.before.loop.i ≡ c.before.before.before.before.before.before.args.w = omega arith in rw e at c.before.loop.invariant.1
 
-pub take-row-spec : {M : Type 1} → statement M
-take-row-spec =
+pub take_row_spec : {M : Type 1} → statement M
+take_row_spec =
     tie.close
     (tie.spec
     invariant-loop

@@ -20,5 +20,5 @@ returns c = search rules
 returns-2 : tie.Need-returns-2
 returns-2 c = let a = c.before.before.before.args in word_empty a.row.now a.work.now a.q a.w a.g a.v c.if1.false
 
-pub take-some-spec : {M : Type 1} → statement M
-take-some-spec = tie.close (tie.spec take-word-requires same_length returns returns-2)
+pub take_some_spec : {M : Type 1} → statement M
+take_some_spec = tie.close (tie.spec take-word-requires same_length returns returns-2)

@@ -27,7 +27,7 @@ same-length-2 c = search rules
 returns-2 : tie.Need-returns-2
 returns-2 c = search rules
 
-pub take-word-spec : {M : Type 1} → statement M
-take-word-spec =
+pub take_word_spec : {M : Type 1} → statement M
+take_word_spec =
     tie.close
     (tie.spec take-bits-requires same_length returns gather-requires same-length-2 returns-2)

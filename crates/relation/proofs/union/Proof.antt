@@ -21,5 +21,5 @@ same_length c = search rules
 returns : tie.Need-returns
 returns c = both_whole ◌||◌ c.before.before.before.before.before.args.q c.before.before.merge-within.ensures
 
-pub union-spec : {M : Type 1} → statement M
-union-spec = tie.close (tie.spec mul-merge-within merge-within-requires same_length returns)
+pub union_spec : {M : Type 1} → statement M
+union_spec = tie.close (tie.spec mul-merge-within merge-within-requires same_length returns)

@@ -24,5 +24,5 @@ returns : tie.Need-returns
 unfolding row_bit
 returns c = c.bit.ensures
 
-pub has-spec : {M : Type 1} → statement M
-has-spec = tie.close (tie.spec add-bit mul-bit shared-slice-read-bit bit-requires returns)
+pub has_spec : {M : Type 1} → statement M
+has_spec = tie.close (tie.spec add-bit mul-bit shared-slice-read-bit bit-requires returns)

@@ -73,8 +73,8 @@ same_length c = search rules
 returns : tie.Need-returns invariant-loop decreases-loop
 returns c = let a = c.before.before.before.args in row_merged a.words.now a.s a.how (wrote_all c.before.loop.invariant.1 (omega arith))
 
-pub merge-within-spec : {M : Type 1} → statement M
-merge-within-spec =
+pub merge_within_spec : {M : Type 1} → statement M
+merge_within_spec =
     tie.close
     (tie.spec
     invariant-loop

@@ -20,5 +20,5 @@ returns c = put_yes {b = c.before.before.before.before.before.before.args.b} _ c
 returns-2 : tie.Need-returns-2
 returns-2 c = put_no {b = c.before.before.args.b} _ _ c.if1.false
 
-pub set-if-spec : {M : Type 1} → statement M
-set-if-spec = tie.close (tie.spec set-requires same_length returns returns-2)
+pub set_if_spec : {M : Type 1} → statement M
+set_if_spec = tie.close (tie.spec set-requires same_length returns returns-2)

@@ -74,8 +74,8 @@ same_length c = search rules
 returns : tie.Need-returns invariant-loop decreases-loop
 returns c = row_masked _ _ _ (wrote_all c.before.loop.invariant.1 (omega arith))
 
-pub unite-masked-spec : {M : Type 1} → statement M
-unite-masked-spec =
+pub unite_masked_spec : {M : Type 1} → statement M
+unite_masked_spec =
     tie.close
     (tie.spec
     invariant-loop

@@ -32,8 +32,8 @@ same_length c = search rules
 returns : tie.Need-returns
 returns c = put_none _ _ _ _ c.before.before.before.requires c.without-bit.ensures
 
-pub unset-spec : {M : Type 1} → statement M
-unset-spec =
+pub unset_spec : {M : Type 1} → statement M
+unset_spec =
     tie.close
     (tie.spec
     add_a

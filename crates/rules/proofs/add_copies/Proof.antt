@@ -62,8 +62,8 @@ same-length-2 c = search rules
 returns-2 : tie.Need-returns-2 invariant-loop decreases-loop
 returns-2 c = copies_over c.before.before.before.before.before.requires c.before.before.loop.invariant c.if1.false
 
-pub add-copies-spec : {M : Type 1} → statement M
-add-copies-spec =
+pub add_copies_spec : {M : Type 1} → statement M
+add_copies_spec =
     tie.close
     (tie.spec
     invariant-loop

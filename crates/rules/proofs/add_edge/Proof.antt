@@ -36,7 +36,7 @@ returns-2 c =
     let c11 = c5.before.before.before.before.before.before in
     edge_added c11.requires c5.has.ensures (not-false _ c4.if1.false) c2.add.ensures
 
-pub add-edge-spec : {M : Type 1} → statement M
-add-edge-spec =
+pub add_edge_spec : {M : Type 1} → statement M
+add_edge_spec =
     tie.close
     (tie.spec cast-has cast-has-2 has-requires returns add-requires same_length returns-2)

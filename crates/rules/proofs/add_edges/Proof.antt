@@ -58,8 +58,8 @@ same-length-2 c = search rules
 returns-2 : tie.Need-returns-2 invariant-loop decreases-loop
 returns-2 c = ranging_over c.before.loop.invariant c.loop-test.false
 
-pub add-edges-spec : {M : Type 1} → statement M
-add-edges-spec =
+pub add_edges_spec : {M : Type 1} → statement M
+add_edges_spec =
     tie.close
     (tie.spec
     invariant-loop

@@ -73,8 +73,8 @@ same-length-2 c = search rules
 returns-3 : tie.Need-returns-3 invariant-loop decreases-loop
 returns-3 c = ranging_over c.before.loop.invariant c.loop-test.false
 
-pub add-edges-from-spec : {M : Type 1} → statement M
-add-edges-from-spec =
+pub add_edges_from_spec : {M : Type 1} → statement M
+add_edges_from_spec =
     tie.close
     (tie.spec
     invariant-loop

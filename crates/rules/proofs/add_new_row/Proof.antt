@@ -30,8 +30,8 @@ same-length-2 c = search rules
 returns-2 : tie.Need-returns-2
 returns-2 c = search rules
 
-pub add-new-row-spec : {M : Type 1} → statement M
-add-new-row-spec =
+pub add_new_row_spec : {M : Type 1} → statement M
+add_new_row_spec =
     tie.close
     (tie.spec
     add-repeats

@@ -57,8 +57,8 @@ returns-2 c =
     let c13 = c9.before.before.before.before in
     pair_added c13.requires c9.load.ensures c7.load2.ensures c6.fits2.ensures (not-false _ c5.if1.false) (rw c3.paired.ensures at c2.add.ensures)
 
-pub add-pair-spec : {M : Type 1} → statement M
-add-pair-spec =
+pub add_pair_spec : {M : Type 1} → statement M
+add_pair_spec =
     tie.close
     (tie.spec
     load-requires

@@ -40,8 +40,8 @@ returns-5 : tie.Need-returns-5
 unfolding fitting
 returns-5 c = rw c.before.before.enum-told4.given.1
 
-pub fits-spec : {M : Type 1} → statement M
-fits-spec =
+pub fits_spec : {M : Type 1} → statement M
+fits_spec =
     tie.close
     (tie.spec
     enum_told

@@ -35,7 +35,7 @@ returns-4 : tie.Need-returns-4
 unfolding giving
 returns-4 c = rw c.before.enum-told4.given.1
 
-pub last-spec : {M : Type 1} → statement M
-last-spec =
+pub last_spec : {M : Type 1} → statement M
+last_spec =
     tie.close
     (tie.spec enum_told enum-told-2 enum-told-3 enum-told-4 returns returns-2 returns-3 returns-4)

@@ -60,8 +60,8 @@ returns-4 : tie.Need-returns-4
 unfolding of_two
 returns-4 c = rw c.before.before.before.before.enum-told4.given.1 c.before.before.pair-rule3.ensures
 
-pub op-rule-spec : {M : Type 1} → statement M
-op-rule-spec =
+pub op_rule_spec : {M : Type 1} → statement M
+op_rule_spec =
     tie.close
     (tie.spec
     enum_told

@@ -74,8 +74,8 @@ returns-3 c =
     let c8 = c4.before.before.before.before in
     rule_over c8.args.o c8.requires c2.loop.invariant (sym c4.rows_short.ensures ∙ not-false _ c3.if1.false) c.if2.false
 
-pub pair-rule-spec : {M : Type 1} → statement M
-pair-rule-spec =
+pub pair_rule_spec : {M : Type 1} → statement M
+pair_rule_spec =
     tie.close
     (tie.spec
     invariant-loop

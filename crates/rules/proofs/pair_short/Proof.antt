@@ -24,5 +24,5 @@ add-result-2 c = search rules
 returns-2 : tie.Need-returns-2
 returns-2 c = rw (sym c.before.before.before.fits2.ensures ∙ not-false _ c.before.before.if1.false)
 
-pub pair-short-spec : {M : Type 1} → statement M
-pair-short-spec = tie.close (tie.spec fits-requires returns add-result add-result-2 returns-2)
+pub pair_short_spec : {M : Type 1} → statement M
+pair_short_spec = tie.close (tie.spec fits-requires returns add-result add-result-2 returns-2)

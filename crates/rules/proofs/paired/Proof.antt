@@ -23,5 +23,5 @@ add-t10 c = search rules
 returns : tie.Need-returns
 returns c = rw (c.before.before.pair_code.ensures, c.before.before.before.last.ensures)
 
-pub paired-spec : {M : Type 1} → statement M
-paired-spec = tie.close (tie.spec last-requires pair-code-requires add-t9 add-t10 returns)
+pub paired_spec : {M : Type 1} → statement M
+paired_spec = tie.close (tie.spec last-requires pair-code-requires add-t9 add-t10 returns)

@@ -20,5 +20,5 @@ returns c = found_row c.before.enum_told.given.1 c.stands_alike.ensures
 returns-2 : tie.Need-returns-2
 returns-2 c = not_found _ _ _ _ _
 
-pub repeats-spec : {M : Type 1} → statement M
-repeats-spec = tie.close (tie.spec enum_told stands-alike-requires returns returns-2)
+pub repeats_spec : {M : Type 1} → statement M
+repeats_spec = tie.close (tie.spec enum_told stands-alike-requires returns returns-2)

@@ -53,8 +53,8 @@ loop-again c =
 returns : tie.Need-returns invariant-loop decreases-loop
 returns c = row_over c.before.loop.invariant.1 c.loop-test.false
 
-pub reverse-row-spec : {M : Type 1} → statement M
-reverse-row-spec =
+pub reverse_row_spec : {M : Type 1} → statement M
+reverse_row_spec =
     tie.close
     (tie.spec
     invariant-loop

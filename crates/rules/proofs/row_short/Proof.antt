@@ -56,8 +56,8 @@ loop-again c =
 returns-2 : tie.Need-returns-2 invariant-loop decreases-loop
 returns-2 c = row_shorter c.before.before.before.before.before.before.requires.0 c.before.before.loop.invariant c.if1.false
 
-pub row-short-spec : {M : Type 1} → statement M
-row-short-spec =
+pub row_short_spec : {M : Type 1} → statement M
+row_short_spec =
     tie.close
     (tie.spec
     invariant-loop

@@ -45,8 +45,8 @@ loop-again c =
 returns-2 : tie.Need-returns-2 invariant-loop decreases-loop
 returns-2 c = rows_shorter c.before.before.before.before.before.requires.0 c.before.before.loop.invariant c.if1.false
 
-pub rows-short-spec : {M : Type 1} → statement M
-rows-short-spec =
+pub rows_short_spec : {M : Type 1} → statement M
+rows_short_spec =
     tie.close
     (tie.spec
     invariant-loop

@@ -37,8 +37,8 @@ loop-again c = search rules
 returns-2 : tie.Need-returns-2 invariant-loop decreases-loop
 returns-2 c = none_alike _ _ _ _
 
-pub stands-alike-spec : {M : Type 1} → statement M
-stands-alike-spec =
+pub stands_alike_spec : {M : Type 1} → statement M
+stands_alike_spec =
     tie.close
     (tie.spec
     invariant-loop

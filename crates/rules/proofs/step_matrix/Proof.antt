@@ -49,8 +49,8 @@ same_length c = search rules
 returns : tie.Need-returns invariant-loop decreases-loop
 returns c = let e : c.before.loop.a ≡ c.before.before.before.args.kinds = omega arith in rw e at c.before.loop.invariant.1
 
-pub step-matrix-spec : {M : Type 1} → statement M
-step-matrix-spec =
+pub step_matrix_spec : {M : Type 1} → statement M
+step_matrix_spec =
     tie.close
     (tie.spec
     invariant-loop

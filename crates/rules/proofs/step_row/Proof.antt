@@ -33,8 +33,8 @@ returns c = rw c.before.before.enum_told.given.1 (forward_row _ _ _ _ c.before.w
 returns-2 : tie.Need-returns-2
 returns-2 c = rw c.before.enum-told2.given.1 c.reverse-row.ensures
 
-pub step-row-spec : {M : Type 1} → statement M
-step-row-spec =
+pub step_row_spec : {M : Type 1} → statement M
+step_row_spec =
     tie.close
     (tie.spec
     enum_told

@@ -51,8 +51,8 @@ returns-2 c =
     let c12 = c8.before.before.before.before in
     step_made c12.requires c8.step-matrix.ensures (rw c6.encode.ensures at c3.add-edges.ensures) c.if1.false
 
-pub step-rule-spec : {M : Type 1} → statement M
-step-rule-spec =
+pub step_rule_spec : {M : Type 1} → statement M
+step_rule_spec =
     tie.close
     (tie.spec
     slice-aggregate-step-matrix

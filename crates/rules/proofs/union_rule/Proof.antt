@@ -42,8 +42,8 @@ returns-3 c =
     let c12 = c8.before.before.before.before in
     union_made c12.requires c8.add-copies.ensures c5.if1.false c3.add-copies2.ensures c.if2.false
 
-pub union-rule-spec : {M : Type 1} → statement M
-union-rule-spec =
+pub union_rule_spec : {M : Type 1} → statement M
+union_rule_spec =
     tie.close
     (tie.spec
     add-copies-requires

@@ -16,5 +16,5 @@ returns c = search rules
 returns-2 : tie.Need-returns-2
 returns-2 c = simp c.before.st.given.1
 
-pub accepted-spec : {M : Type 1} → statement M
-accepted-spec = tie.close (tie.spec enum_told enum-known-st returns returns-2)
+pub accepted_spec : {M : Type 1} → statement M
+accepted_spec = tie.close (tie.spec enum_told enum-known-st returns returns-2)

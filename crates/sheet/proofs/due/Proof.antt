@@ -25,7 +25,7 @@ returns-2 : tie.Need-returns-2
 unfolding rows_of rows
 returns-2 c = simp (← c.rows-due2.ensures, c.before.before.before.st.given.1)
 
-pub due-spec : {M : Type 1} → statement M
-due-spec =
+pub due_spec : {M : Type 1} → statement M
+due_spec =
     tie.close
     (tie.spec enum_told rows-due-requires enum-known-st rows-due-requires-2 returns returns-2)

@@ -24,7 +24,7 @@ returns : tie.Need-returns
 unfolding tabled?
 returns c = rw (← c.before.before.before.word_of.ensures.0) c.bit.ensures
 
-pub permits-spec : {M : Type 1} → statement M
-permits-spec =
+pub permits_spec : {M : Type 1} → statement M
+permits_spec =
     tie.close
     (tie.spec word-of-requires mul-bit element-copy-out-bit cast-bit bit-requires returns)

@@ -26,8 +26,8 @@ same_length c = search rules
 returns : tie.Need-returns
 returns c = puts _ c.before.before.before.before.before.before.before.shorten-codes.ensures c.before.before.write.ensures
 
-pub put-shortened-spec : {M : Type 1} → statement M
-put-shortened-spec =
+pub put_shortened_spec : {M : Type 1} → statement M
+put_shortened_spec =
     tie.close
     (tie.spec
     shorten-codes-requires

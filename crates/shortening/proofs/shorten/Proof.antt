@@ -31,8 +31,8 @@ returns-2 c =
     let o = c.before.before.before.before.before.before.before.before in
     shortened (told_question _ _ _ o.before.before.read.ensures _ o.outcome2.given.1).1 _ c.before.before.put-shortened.ensures
 
-pub shorten-spec : {M : Type 1} → statement M
-shorten-spec =
+pub shorten_spec : {M : Type 1} → statement M
+shorten_spec =
     tie.close
     (tie.spec
     read-requires

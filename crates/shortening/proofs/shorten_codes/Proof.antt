@@ -112,8 +112,8 @@ returns c =
     let (q, h) = c.before.loop.invariant in
     leaves q.0 q.1 h.fits.start_in h.fits.out_size (pass_end h c.loop-test.false)
 
-pub shorten-codes-spec : {M : Type 1} → statement M
-shorten-codes-spec =
+pub shorten_codes_spec : {M : Type 1} → statement M
+shorten_codes_spec =
     tie.close
     (tie.spec
     invariant-loop

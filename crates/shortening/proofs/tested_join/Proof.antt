@@ -17,5 +17,5 @@ returns c = rw c.enum_told.given.1 refl
 returns-2 : tie.Need-returns-2
 returns-2 c = rw c.enum-told2.given.1 refl
 
-pub tested-join-spec : {M : Type 1} → statement M
-tested-join-spec = tie.close (tie.spec enum_told enum-told-2 returns returns-2)
+pub tested_join_spec : {M : Type 1} → statement M
+tested_join_spec = tie.close (tie.spec enum_told enum-told-2 returns returns-2)

@@ -32,8 +32,8 @@ returns-8 c = sym (through_number _ _ c.before.if2.false c.match.keys6)
 returns-9 : tie.Need-returns-9
 returns-9 c = let n = c.match.rest in sym (closure_number _ _ c.before.if2.false n.0.0.0.0.0.1 n.0.0.0.0.1 n.0.0.0.1 n.0.0.1 n.0.1 n.1)
 
-pub decode-spec : {M : Type 1} → statement M
-decode-spec =
+pub decode_spec : {M : Type 1} → statement M
+decode_spec =
     tie.close
     (tie.spec
     returns

@@ -18,5 +18,5 @@ returns c = search rules
 returns-2 : tie.Need-returns-2
 returns-2 c = sym (back _ c.if1.false)
 
-pub direction-in-spec : {M : Type 1} → statement M
-direction-in-spec = tie.close (tie.spec returns returns-2)
+pub direction_in_spec : {M : Type 1} → statement M
+direction_in_spec = tie.close (tie.spec returns returns-2)

@@ -48,8 +48,8 @@ returns-3 c = rw c.before.before.before.x3.given.1 (c.plain2.ensures ∙ ap (λ 
 returns-4 : tie.Need-returns-4
 returns-4 c = rw c.before.enum_told.given.1 c.plain3.ensures
 
-pub encode-spec : {M : Type 1} → statement M
-encode-spec =
+pub encode_spec : {M : Type 1} → statement M
+encode_spec =
     tie.close
     (tie.spec
     enum-known-x

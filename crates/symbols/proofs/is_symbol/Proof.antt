@@ -18,5 +18,5 @@ returns : tie.Need-returns
 unfolding symbol?
 returns c = ap (λ x. eqb x.number c.before.before.before.args.number) (c.before.encode.ensures ∙ ap number_symbol c.before.before.decode.ensures)
 
-pub is-symbol-spec : {M : Type 1} → statement M
-is-symbol-spec = tie.close (tie.spec decode-requires encode-requires returns)
+pub is_symbol_spec : {M : Type 1} → statement M
+is_symbol_spec = tie.close (tie.spec decode-requires encode-requires returns)

@@ -20,5 +20,5 @@ returns c = rw c.before.enum_told.given.1 c.plain.ensures
 returns-2 : tie.Need-returns-2
 returns-2 c = rw c.before.via.given.1 refl
 
-pub join-number-spec : {M : Type 1} → statement M
-join-number-spec = tie.close (tie.spec enum_told plain-requires enum-known-via returns returns-2)
+pub join_number_spec : {M : Type 1} → statement M
+join_number_spec = tie.close (tie.spec enum_told plain-requires enum-known-via returns returns-2)

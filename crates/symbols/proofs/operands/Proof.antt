@@ -16,5 +16,5 @@ returns : tie.Need-returns
 unfolding arity
 returns c = c.operands_of.ensures ∙ ap operands c.before.decode.ensures
 
-pub operands-spec : {M : Type 1} → statement M
-operands-spec = tie.close (tie.spec decode-requires operands-of-requires returns)
+pub operands_spec : {M : Type 1} → statement M
+operands_spec = tie.close (tie.spec decode-requires operands-of-requires returns)

@@ -36,8 +36,8 @@ returns-3 : tie.Need-returns-3
 unfolding operator_of
 returns-3 c = simp (lt-leb _ _ c.if1.false)
 
-pub operator-in-spec : {M : Type 1} → statement M
-operator-in-spec =
+pub operator_in_spec : {M : Type 1} → statement M
+operator_in_spec =
     tie.close
     (tie.spec
     shared-slice-read-if1

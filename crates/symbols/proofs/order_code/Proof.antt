@@ -13,5 +13,5 @@ returns-2 : tie.Need-returns-2
 unfolding order_code
 returns-2 c = simp (ne_eqb _ _ c.if1.false)
 
-pub order-code-spec : {M : Type 1} → statement M
-order-code-spec = tie.close (tie.spec returns returns-2)
+pub order_code_spec : {M : Type 1} → statement M
+order_code_spec = tie.close (tie.spec returns returns-2)

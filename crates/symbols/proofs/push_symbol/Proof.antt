@@ -27,5 +27,5 @@ returns-3 c =
     let a = c.before.before.before.before.if1.false in
     ⊎_elim (λ w. simp (le-ltb _ _ a, eq-eqb _ _ w.0.taken, eq-eqb _ _ w.1.left)) (λ w. simp (le-ltb _ _ a, ne_eqb _ _ w.left)) c.before.if2.branch
 
-pub push-symbol-spec : {M : Type 1} → statement M
-push-symbol-spec = tie.close (tie.spec returns add-depth returns-2 sub-t8 returns-3)
+pub push_symbol_spec : {M : Type 1} → statement M
+push_symbol_spec = tie.close (tie.spec returns add-depth returns-2 sub-t8 returns-3)

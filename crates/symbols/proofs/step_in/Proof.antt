@@ -48,8 +48,8 @@ returns-3 : tie.Need-returns-3
 unfolding step_of
 returns-3 c = simp (le-ltb _ _ c.if1.false)
 
-pub step-in-spec : {M : Type 1} → statement M
-step-in-spec =
+pub step_in_spec : {M : Type 1} → statement M
+step_in_spec =
     tie.close
     (tie.spec
     shared-slice-read-if1

@@ -20,5 +20,5 @@ returns c = rw c.enum_told.given.1 refl
 returns-2 : tie.Need-returns-2
 returns-2 c = rw c.before.enum-told2.given.1 refl
 
-pub step-number-spec : {M : Type 1} → statement M
-step-number-spec = tie.close (tie.spec enum_told enum-told-2 add-result returns returns-2)
+pub step_number_spec : {M : Type 1} → statement M
+step_number_spec = tie.close (tie.spec enum_told enum-told-2 add-result returns returns-2)

@@ -39,8 +39,8 @@ returns-3 c =
     let c3 = c2.before in
     simp (ne_eqb _ _ c3.if1.false, ne_eqb _ _ c2.if2.false) (ap got (c.join_number.ensures ∙ ap (λ m. number_symbol (s_join (through m))) c.before.eight-at.ensures))
 
-pub symbol-in-spec : {M : Type 1} → statement M
-symbol-in-spec =
+pub symbol_in_spec : {M : Type 1} → statement M
+symbol_in_spec =
     tie.close
     (tie.spec
     step-in-requires

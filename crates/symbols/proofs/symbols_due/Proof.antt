@@ -12,5 +12,5 @@ returns : tie.Need-returns
 unfolding rows_of rows
 returns c = c.rows_due.ensures
 
-pub symbols-due-spec : {M : Type 1} → statement M
-symbols-due-spec = tie.close (tie.spec rows-due-requires returns)
+pub symbols_due_spec : {M : Type 1} → statement M
+symbols_due_spec = tie.close (tie.spec rows-due-requires returns)

@@ -35,8 +35,8 @@ call-in-requires c κs = search rules
 returns : tie.Need-returns
 returns c = search rules
 
-pub run-answer-spec : {M : Type 1} → statement M
-run-answer-spec =
+pub run_answer_spec : {M : Type 1} → statement M
+run_answer_spec =
     tie.close
     (tie.spec
     two-at-requires

@@ -43,8 +43,8 @@ returns c = search rules
 returns-2 : tie.Need-returns-2
 returns-2 c = search rules
 
-pub run-register-spec : {M : Type 1} → statement M
-run-register-spec =
+pub run_register_spec : {M : Type 1} → statement M
+run_register_spec =
     tie.close
     (tie.spec
     read-requires

@@ -21,8 +21,8 @@ write-into-requires c κs = search rules
 returns : tie.Need-returns
 returns c = search rules
 
-pub run-writer-spec : {M : Type 1} → statement M
-run-writer-spec =
+pub run_writer_spec : {M : Type 1} → statement M
+run_writer_spec =
     tie.close
     (tie.spec
     two-at-requires

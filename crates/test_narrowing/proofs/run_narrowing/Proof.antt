@@ -44,8 +44,8 @@ call-in-requires c κs = search rules
 returns : tie.Need-returns
 returns c = search rules
 
-pub run-narrowing-spec : {M : Type 1} → statement M
-run-narrowing-spec =
+pub run_narrowing_spec : {M : Type 1} → statement M
+run_narrowing_spec =
     tie.close
     (tie.spec
     two-at-requires

@@ -28,6 +28,6 @@ returns c = let room = field_room _ _ _ _ (sym c.before.before.before.step-at.en
 returns-2 : tie.Need-returns-2
 returns-2 c = search rules
 
-pub field-at-spec : {M : Type 1} → statement M
-field-at-spec =
+pub field_at_spec : {M : Type 1} → statement M
+field_at_spec =
     tie.close (tie.spec step-at-requires enum-known-tag add-f cast_f add-f-2 returns returns-2)

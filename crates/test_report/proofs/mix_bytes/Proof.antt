@@ -36,8 +36,8 @@ loop-again c = search rules
 returns : tie.Need-returns invariant-loop decreases-loop
 returns c = search rules
 
-pub mix-bytes-spec : {M : Type 1} → statement M
-mix-bytes-spec =
+pub mix_bytes_spec : {M : Type 1} → statement M
+mix_bytes_spec =
     tie.close
     (tie.spec
     invariant-loop

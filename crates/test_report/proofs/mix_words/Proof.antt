@@ -36,8 +36,8 @@ loop-again c = search rules
 returns : tie.Need-returns invariant-loop decreases-loop
 returns c = search rules
 
-pub mix-words-spec : {M : Type 1} → statement M
-mix-words-spec =
+pub mix_words_spec : {M : Type 1} → statement M
+mix_words_spec =
     tie.close
     (tie.spec
     invariant-loop

@@ -47,8 +47,8 @@ first-requires-2 c κs =
 returns-2 : tie.Need-returns-2
 returns-2 c = ahead_first c.before.before.before.before.before.before.args.work.now _ c.before.before.before.before.before.before.args.unseen.now c.first2.ensures
 
-pub ahead-spec : {M : Type 1} → statement M
-ahead-spec =
+pub ahead_spec : {M : Type 1} → statement M
+ahead_spec =
     tie.close
     (tie.spec
     first-requires

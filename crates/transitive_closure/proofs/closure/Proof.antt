@@ -128,8 +128,8 @@ returns c =
     let i = c.before.loop.invariant in
     stage_all (stage_then c.before.before.before.before.before.before.before.before.before.before.walk.ensures i.0) (pending_none _ _ i.1 (omega (arith, c.loop-test.false)))
 
-pub closure-spec : {M : Type 1} → statement M
-closure-spec =
+pub closure_spec : {M : Type 1} → statement M
+closure_spec =
     tie.close
     (tie.spec
     invariant-loop

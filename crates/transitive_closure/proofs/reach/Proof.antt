@@ -88,8 +88,8 @@ returns c =
     let i = c1.loop.invariant in
     record { kept = kept_trans c4.copy2.ensures.kept i.1 (omega arith) (omega arith) (omega arith) (omega arith); bit = growing_all c14.requires.0 i.2 (i.3 c.loop-test.false) }
 
-pub reach-spec : {M : Type 1} → statement M
-reach-spec =
+pub reach_spec : {M : Type 1} → statement M
+reach_spec =
     tie.close
     (tie.spec
     invariant-loop

@@ -62,8 +62,8 @@ returns c =
     took_word {m = 16} a.work.now a.b a.i a.v c12.gather.ensures c8.unite.ensures c3.exclude.ensures (omega arith) (omega arith)
     (omega (arith, c3.exclude.ensures.kept.len))
 
-pub take-all-finished-spec : {M : Type 1} → statement M
-take-all-finished-spec =
+pub take_all_finished_spec : {M : Type 1} → statement M
+take_all_finished_spec =
     tie.close
     (tie.spec
     slice-aggregate-gather

@@ -33,7 +33,7 @@ returns c =
     let c15 = c10.before.before.before.before.before in
     took_finished c15.args.work.now c15.args.d c15.args.k c10.unite.ensures c6.exclude.ensures c2.unset.ensures c15.requires.3
 
-pub take-finished-spec : {M : Type 1} → statement M
-take-finished-spec =
+pub take_finished_spec : {M : Type 1} → statement M
+take_finished_spec =
     tie.close
     (tie.spec unite-requires exclude-requires unset-requires same_length same-length-2 returns)

@@ -27,6 +27,6 @@ returns c =
     let c11 = c6.before.before.before.before.before in
     record { row = c6.unite.ensures; left = c2.unset.ensures c11.args.w c11.requires.3 }
 
-pub take-pending-spec : {M : Type 1} → statement M
-take-pending-spec =
+pub take_pending_spec : {M : Type 1} → statement M
+take_pending_spec =
     tie.close (tie.spec unite-requires unset-requires same_length same-length-2 returns)

@@ -60,8 +60,8 @@ returns c =
 returns-2 : tie.Need-returns-2
 returns-2 c = grown_none c.before.before.before.before.before.before.before.before.before.before.requires.1
 
-pub take-rest-spec : {M : Type 1} → statement M
-take-rest-spec =
+pub take_rest_spec : {M : Type 1} → statement M
+take_rest_spec =
     tie.close
     (tie.spec
     mul-v

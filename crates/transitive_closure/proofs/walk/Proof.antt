@@ -102,8 +102,8 @@ same-length-3 c = search rules
 returns : tie.Need-returns invariant-loop decreases-loop
 returns c = c.before.loop.invariant.0
 
-pub walk-spec : {M : Type 1} → statement M
-walk-spec =
+pub walk_spec : {M : Type 1} → statement M
+walk_spec =
     tie.close
     (tie.spec
     invariant-loop

@@ -240,8 +240,8 @@ expand_returns_4 t c =
     let c22 = c17.before.before.before.before.before in
     kept_done c22.requires.1 _ c17.load.ensures.is (decoded c16.decode.ensures c14.enum-told4.given.1) c11.copy.ensures c4.mark4.ensures
 
-pub +expand-spec : {M : Type 1} → statement M
-+expand-spec = close μ-expand λ t. expand-lts.spec (callees t)
+pub expand_spec : {M : Type 1} → statement M
+expand_spec = close μ-expand λ t. expand-lts.spec (callees t)
     (expand_at t)
     expand.Post
     (expand_load_requires t)

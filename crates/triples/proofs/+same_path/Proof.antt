@@ -305,8 +305,8 @@ same_path_returns_11 t c =
     same_kept c12.requires.1.0 c12.requires.1.1 c8.load.ensures.is c7.load2.ensures.is c4.if2.false (decoded c3.decode.ensures c.before.enum-told4.given.1)
     c.same_codes.ensures
 
-pub +same-path-spec : {M : Type 1} → statement M
-+same-path-spec = close μ-same-path λ t. same-path-lts.spec (callees t)
+pub same_path_spec : {M : Type 1} → statement M
+same_path_spec = close μ-same-path λ t. same-path-lts.spec (callees t)
     (same_path_at t)
     same_path.Post
     (same_path_returns t)

@@ -63,8 +63,8 @@ returns-3 c =
     let j : c.before.loop.j ≡ c3.args.n = omega arith in
     rw m (decides_yes (rw j at c.before.loop.invariant.1))
 
-pub same-codes-spec : {M : Type 1} → statement M
-same-codes-spec =
+pub same_codes_spec : {M : Type 1} → statement M
+same_codes_spec =
     tie.close
     (tie.spec
     invariant-loop

@@ -60,8 +60,8 @@ returns-2 : tie.Need-returns-2 invariant-loop decreases-loop
 returns-2 c = let a = c.before.before.before.before.args in
     sym (c.before.loop.invariant.2 ∙ look_end a.question.now a.words.now (triple? (triple_of a.question.now a.words.now a.u)) a.s c.before.loop.j (omega arith))
 
-pub stands-spec : {M : Type 1} → statement M
-stands-spec =
+pub stands_spec : {M : Type 1} → statement M
+stands_spec =
     tie.close
     (tie.spec
     invariant-loop

@@ -35,8 +35,8 @@ loop-again c = search rules
 returns : tie.Need-returns invariant-loop decreases-loop
 returns c = search rules
 
-pub mix-kinds-spec : {M : Type 1} → statement M
-mix-kinds-spec =
+pub mix_kinds_spec : {M : Type 1} → statement M
+mix_kinds_spec =
     tie.close
     (tie.spec
     invariant-loop

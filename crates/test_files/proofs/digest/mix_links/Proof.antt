@@ -56,8 +56,8 @@ loop-again c =
     let c8 = c7.before in
     still_on _ _ c8.loop.invariant _ c7.next-link.ensures _ _ _ _ c5.from.given.1
 
-pub mix-links-spec : {M : Type 1} → statement M
-mix-links-spec =
+pub mix_links_spec : {M : Type 1} → statement M
+mix_links_spec =
     tie.close
     (tie.spec
     invariant-loop

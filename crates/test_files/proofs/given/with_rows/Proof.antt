@@ -71,8 +71,8 @@ loop-again c = search rules
 returns-2 : tie.Need-returns-2 invariant-loop decreases-loop
 returns-2 c = search rules
 
-pub with-rows-spec : {M : Type 1} → statement M
-with-rows-spec =
+pub with_rows_spec : {M : Type 1} → statement M
+with_rows_spec =
     tie.close
     (tie.spec
     invariant-loop

@@ -56,8 +56,8 @@ loop-again c = search rules
 returns : tie.Need-returns invariant-loop decreases-loop
 returns c = search rules
 
-pub with-symbols-spec : {M : Type 1} → statement M
-with-symbols-spec =
+pub with_symbols_spec : {M : Type 1} → statement M
+with_symbols_spec =
     tie.close
     (tie.spec
     invariant-loop

@@ -170,6 +170,7 @@ insert_place t (u ∷ us) lt lu = go (ahead? u t) refl (insert_place t us lt (λ
     go false e rest = front u t (lu u (here refl)) lt e (grouped us)
 
 single_linked : (ts : List Triple) → ((t : Triple) → In t ts → T (links? 64 t.path)) → (n : Member) → In n (map of_triple ts) → Linked n
+single_linked [] h n i = elim i [ ]
 single_linked (t ∷ ts) h n (here e) = subst Linked (sym e) (h t (here refl))
 single_linked (t ∷ ts) h n (there i) = single_linked ts (λ u j. h u (there j)) n i
 

@@ -1,2 +1,0 @@
--- what a reader owns, for each walk
-pub mod Held

@@ -127,7 +127,7 @@ fn member_route(
     bases: &mut [usize],
     masks: &mut [u64],
 ) -> usize
-    requires ground { Ground register.now n w × (28 * (n * w) ≤ length work.old) × (first + size ≤ length numbers.now) × (first + size ≤ length sets.now) × (size ≤ 48)
+    requires grounded { Ground register.now n w × (28 * (n * w) ≤ length work.old) × (first + size ≤ length numbers.now) × (first + size ≤ length sets.now) × (size ≤ 48)
         × (length bases.old ≡ 24) × (length masks.old ≡ 384) }
     requires make_path { MakePath numbers.now sets.now size first }
     requires held { Held (register_in register.now) n w held.old work.old × KindRows (register_in register.now) n w kinds.now }
@@ -162,7 +162,7 @@ fn add_member(
     work: &mut [u64],
     answer: &mut [u64],
 )
-    requires ground { Ground register.now n w × (28 * (n * w) ≤ length work.old) × (n * w ≤ length answer.old) × (first + size ≤ length numbers.now) × (first + size ≤ length sets.now) ×
+    requires grounded { Ground register.now n w × (28 * (n * w) ≤ length work.old) × (n * w ≤ length answer.old) × (first + size ≤ length numbers.now) × (first + size ≤ length sets.now) ×
         (size ≤ 48) }
     requires make_path { MakePath numbers.now sets.now size first }
     requires held { Held (register_in register.now) n w held.old work.old × KindRows (register_in register.now) n w kinds.now }

@@ -121,7 +121,7 @@ fn link(
     masks: &mut [u64],
     j: usize,
 ) -> bool
-    requires ground { Ground register.now n w × (28 * (n * w) ≤ length work.old) × Held (register_in register.now) n w held.old work.old × IsStep number
+    requires grounded { Ground register.now n w × (28 * (n * w) ≤ length work.old) × Held (register_in register.now) n w held.old work.old × IsStep number
         × KindRows (register_in register.now) n w kinds.now }
     requires j_bound { (j < 23) × (length bases.old ≡ 24) × (length masks.old ≡ 384) }
     ensures { Held (register_in register.now) n w held.new work.new × StillHeld held.old held.new
@@ -154,7 +154,7 @@ fn lay(
     bases: &mut [usize],
     masks: &mut [u64],
 ) -> bool
-    requires ground { Ground register.now n w × (28 * (n * w) ≤ length work.old) × Held (register_in register.now) n w held.old work.old
+    requires grounded { Ground register.now n w × (28 * (n * w) ≤ length work.old) × Held (register_in register.now) n w held.old work.old
         × KindRows (register_in register.now) n w kinds.now }
     requires chained { Chained numbers.now first m × (first + 2 * m < length numbers.now) × (first + 2 * m < length sets.now) × (m < 24) × (length bases.old ≡ 24) × (length masks.old ≡ 384) }
     ensures { Held (register_in register.now) n w held.new work.new × Kept (24 * (n * w)) (28 * (n * w)) work.old work.new
@@ -192,7 +192,7 @@ pub fn route(
     bases: &mut [usize],
     masks: &mut [u64],
 ) -> bool
-    requires ground { Ground register.now n w × (28 * (n * w) ≤ length work.old) × Held (register_in register.now) n w held.old work.old
+    requires grounded { Ground register.now n w × (28 * (n * w) ≤ length work.old) × Held (register_in register.now) n w held.old work.old
         × KindRows (register_in register.now) n w kinds.now }
     requires size_in_bounds { (first + size ≤ length numbers.now) × (first + size ≤ length sets.now) × (size ≤ 48) × (length bases.old ≡ 24) × (length masks.old ≡ 384) }
     ensures { Held (register_in register.now) n w held.new work.new × Kept (24 * (n * w)) (28 * (n * w)) work.old work.new

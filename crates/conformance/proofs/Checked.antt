@@ -24,7 +24,6 @@ use Rattle.register.specs.declared.Outcome as register·Outcome
 use Rattle.register.specs.declared.Outcome.TheVariants as register·outcome
 use Rattle.register.specs.Form.{register_form, register_in}
 use Rattle.register.specs.Contract.{outcome_said as register-said, sized as register-sizes}
-use Rattle.register.specs.LinksAhead.{Accepted}
 use Rattle.register.proofs.AcceptedRegister.{accepted_register, Limits}
 use Rattle.register.proofs.ReaderOutcome.{refused_file, accepted_file}
 use Rattle.conformance.specs.declared.Failing.{Failing}

@@ -215,7 +215,7 @@ pub fn evaluate(
     first: usize,
     count: usize,
 )
-    requires ground { Ground register.now n w × (24 * (n * w) ≤ length work.old) × (first + count ≤ length numbers.now) × (first + count ≤ length sets.now) × (count ≤ 48) }
+    requires grounded { Ground register.now n w × (24 * (n * w) ≤ length work.old) × (first + count ≤ length numbers.now) × (first + count ≤ length sets.now) × (count ≤ 48) }
     requires make_path { MakePath numbers.now sets.now count first }
     ensures { (p : PathExpr) → path_of (symbols_in numbers.now sets.now count first) ≡ some p
         → Evaluated (register_in register.now) n w work.old work.new p }

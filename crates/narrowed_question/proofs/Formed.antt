@@ -5,7 +5,6 @@ use mathlib.Core.Path.{◌≡◌, refl, sym, ap, ap₂, ◌∙◌, subst}
 use mathlib.Core.List.Memᴰ.{head as here}
 use mathlib.Core.List.Memᴰ.{tail as there}
 use mathlib.Core.List.{List, [], ◌∷◌, map, Memᴰ as In}
-use mathlib.Core.Option.{some}
 use lib.Dec.{T}
 use lib.ListN.{length, length-map}
 use native.Mathlib.Omega.{arith}

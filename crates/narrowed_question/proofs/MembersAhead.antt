@@ -6,7 +6,6 @@ use mathlib.Core.Bool.{true}
 use mathlib.Core.List.{List, [], ◌∷◌, ◌++◌, append_assoc}
 use lib.ListN.{length, get_or, drop}
 use Rattle.theory.specs.PathExpr.{before?}
-use Rattle.fields.specs.declared.File.TheVariants as file
 use Rattle.fields.specs.Reading.{word, eight}
 use Rattle.symbols.specs.Symbols.{Numbered}
 use Rattle.symbols.specs.declared.Stack.{Stack}

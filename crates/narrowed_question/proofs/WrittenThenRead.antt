@@ -8,7 +8,6 @@ use lib.ListN.{length, take, drop}
 use native.Mathlib.Omega.{arith}
 use borrow.Author.Tests.{le-leb, eq-eqb, ne_eqb}
 use Rattle.theory.specs.PathExpr.{before?}
-use Rattle.fields.specs.declared.File.TheVariants as file
 use Rattle.symbols.specs.declared.Stack.{Stack}
 use Rattle.theory.specs.Result.{Result, got}
 use Rattle.fields.specs.Table.{rows, rows_of}

@@ -1,7 +1,6 @@
 -- What the code needs on the way: nothing that is handed on rests on it.
 -- Assumes nothing.
 use Rattle.std.specs.Prelude.{◌≡◌, ℕ, ◌+◌, ◌<◌}
-use Rattle.theory.specs.Register.{records}
 use Rattle.fields.specs.Table.{tag_length}
 use Rattle.theory.specs.Result.{Result, got}
 use Rattle.fields.specs.Contract.{refusal_said}

@@ -1,0 +1,11 @@
+-- `register::read` meets its contract: what is read so far is what the definition has read of it (`Reading`), and each field comes closer to the file's end.
+use Rattle.register.proofs.Loop.{Reading}
+use lib.ListN.{length}
+use Prim.Native.Nat.{◌-◌}
+use Rattle.register.proofs.read.Given as goal
+
+abbrev pub invariant-loop-r : goal.invariant-loop-r
+invariant-loop-r l = Reading l.s l.st l.at
+
+abbrev pub decreases-loop-r : goal.decreases-loop-r
+decreases-loop-r l = length l.s - l.at

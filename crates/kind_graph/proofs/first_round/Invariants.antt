@@ -1,0 +1,14 @@
+-- `kind_graph::first_round` meets its contract: the numbers so far, raised by the nodes from i on, are the start raised by the whole part; a node's size is that of its path.
+use Rattle.kind_graph.proofs.Rounds.{Going, round_start, round_next, round_end, size_is}
+use Rattle.kind_graph.specs.Sizes.{size_of}
+use Rattle.triples.specs.Parts.{part_of, triples_in}
+use borrow.Author.Rules.{rules}
+use Prim.Native.Nat.{◌-◌, ◌≤◌}
+use native.Mathlib.Omega.{arith}
+use Rattle.kind_graph.proofs.first_round.Given as goal
+
+abbrev pub invariant-loop-i : goal.invariant-loop-i
+invariant-loop-i l = (l.xs.start ≤ l.i) × (l.i ≤ l.xs.end) × Going size_of (triples_in l.question l.words l.xs) (part_of l.question l.words l.i (l.xs.end - l.i)) l.initial.next l.next
+
+abbrev pub decreases-loop-i : goal.decreases-loop-i
+decreases-loop-i l = l.xs.end - l.i

@@ -1,0 +1,15 @@
+-- `kind_graph::walks_short` meets its contract: each round has the largest walks of one triple more, and after a round without a walk there are none.
+use Rattle.kind_graph.proofs.Rounds.{Rounds, first_long, rounds_start, rounds_turn, rounds_long, rounds_over, rounds_none, rounds_small}
+use Rattle.triples.specs.Parts.{triples_in}
+use borrow.Author.Tests.{not-true, not-false}
+use mathlib.Core.Path.{refl}
+use borrow.Author.Rules.{rules}
+use Prim.Native.Nat.{◌-◌, ◌≤◌}
+use native.Mathlib.Omega.{arith}
+use Rattle.kind_graph.proofs.walks_short.Given as goal
+
+abbrev pub invariant-loop-n : goal.invariant-loop-n
+invariant-loop-n l = (l.n ≤ 24) × Rounds (triples_in l.question l.words l.xs) l.n l.best
+
+abbrev pub decreases-loop-n : goal.decreases-loop-n
+decreases-loop-n l = 24 - l.n

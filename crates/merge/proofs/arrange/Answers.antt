@@ -1,0 +1,22 @@
+-- `merge::arrange` meets its contract: it is an insertion sort from the last node to the first, in which those from s + i on always stand sorted at i to n.
+-- Assumes nothing.
+use Rattle.merge.specs.Arranging.{Arranged}
+use Rattle.merge.proofs.Sorting.{arrange_start, arrange_asks, arrange_turn, arrange_over}
+use borrow.Author.Rules.{rules}
+use native.Mathlib.Omega.{arith}
+use Rattle.merge.proofs.arrange.Goals as goal
+
+pub loop-i-init : goal.loop-i-init
+loop-i-init c = arrange_start c.requires
+
+pub overflow_add-s : goal.overflow_add-s
+overflow_add-s c = omega (arith, c.requires.in_use, c.requires.in_table, c.loop-i.invariant.in_n)
+
+pub place-requires : goal.place-requires
+place-requires c = arrange_asks c.requires c.loop-i.invariant c.loop-i-test.true
+
+pub loop-i-preserved : goal.loop-i-preserved
+loop-i-preserved c = arrange_turn c.requires c.loop-i.invariant c.loop-i-test.true c.place.ensures
+
+pub returns : goal.returns
+returns c = arrange_over c.requires c.loop-i.invariant c.loop-i-test.false

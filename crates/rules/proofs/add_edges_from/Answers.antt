@@ -1,0 +1,27 @@
+-- `rules::add_edges_from` meets its contract: a turn adds the triple to kind b, where the matrix has it, and those to the kinds after b are left; a word of 0 has none.
+-- Assumes nothing.
+use Rattle.rules.specs.Outcome.{with_new}
+use Rattle.rules.proofs.Edges.{from_start, from_skipped, edge_asks}
+use Rattle.rules.proofs.Ranging.{Ranging, ranging_turn, ranging_many, ranging_over}
+use Rattle.rules.specs.EdgeTriples.{edge_at, edges_from, leaf_path}
+use borrow.Author.Rules.{rules}
+use Prim.Native.Nat.{◌+◌, ◌-◌}
+use Rattle.rules.proofs.add_edges_from.Goals as goal
+
+pub returns-then-matrix-a-eq0 : goal.returns-then-matrix-a-eq0
+returns-then-matrix-a-eq0 c = from_skipped c.requires.0 _ c.if-matrix-a-eq0.true
+
+pub loop-b-init : goal.loop-b-init
+loop-b-init c = from_start c.requires.0 _
+
+pub add_edge-count-requires : goal.add_edge-count-requires
+add_edge-count-requires c = edge_asks c.requires.0 c.loop-b.invariant c.requires.1 c.loop-b-test.true
+
+pub returns-then-count-gt-MOST : goal.returns-then-count-gt-MOST
+returns-then-count-gt-MOST c = ranging_many c.loop-b.invariant c.loop-b-test.true c.add_edge-count.ensures c.if-count-gt-MOST.true
+
+pub loop-b-preserved : goal.loop-b-preserved
+loop-b-preserved c = ranging_turn c.loop-b.invariant c.loop-b-test.true c.add_edge-count.ensures c.if-count-gt-MOST.false
+
+pub returns : goal.returns
+returns c = ranging_over c.loop-b.invariant c.loop-b-test.false

@@ -1,0 +1,11 @@
+-- `rules::alike` meets its contract: it tells true only of nodes whose from kinds are equal and whose paths `same_path` finds equal.
+-- Assumes nothing.
+use Rattle.rules.proofs.Repeating.{not_alike, alike_paths}
+use borrow.Author.Rules.{rules}
+use Rattle.rules.proofs.alike.Goals as goal
+
+pub returns-then-load : goal.returns-then-load
+returns-then-load c = not_alike _ _ _ _
+
+pub returns : goal.returns
+returns c = alike_paths c.load.ensures c.load-2.ensures c.if-load.false c.same_path.ensures

@@ -1,0 +1,32 @@
+-- `rules::pair_rule` meets its contract: leaving repeats out changes no path, so 13 is judged over all candidates; then a turn adds one row, and the rows after it are left.
+-- Assumes nothing.
+use mathlib.Core.Path.{sym, ◌∙◌}
+use borrow.Author.Tests.{not-true, not-false}
+use Rattle.rules.proofs.PairRule.{RowsGrowing, rule_table, rule_long, rule_start, rule_asks, rule_turn, rule_many, rule_over}
+use borrow.Author.Rules.{rules}
+use Prim.Native.Nat.{◌-◌}
+use Rattle.rules.proofs.pair_rule.Goals as goal
+
+pub rows_short-requires : goal.rows_short-requires
+rows_short-requires c = rule_table c.args.o c.requires
+
+pub returns-then-not-rows_short : goal.returns-then-not-rows_short
+returns-then-not-rows_short c = rule_long c.args.o c.requires (sym c.rows_short.ensures ∙ c.if-not-rows_short.true)
+
+pub loop-i-init : goal.loop-i-init
+loop-i-init c = rule_start c.args.o c.requires (sym c.rows_short.ensures ∙ c.if-not-rows_short.false)
+
+pub add_new_row-count-requires : goal.add_new_row-count-requires
+add_new_row-count-requires c = rule_asks c.args.o c.requires c.loop-i.invariant c.loop-i-test.true
+
+pub returns-then-count-gt-MOST : goal.returns-then-count-gt-MOST
+returns-then-count-gt-MOST c =
+    rule_many c.args.o c.requires c.loop-i.invariant c.loop-i-test.true c.add_new_row-count.ensures (sym c.rows_short.ensures ∙ c.if-not-rows_short.false) c.if-count-gt-MOST.true
+
+pub loop-i-preserved : goal.loop-i-preserved
+loop-i-preserved c =
+    rule_turn c.args.o c.requires c.loop-i.invariant c.loop-i-test.true c.add_new_row-count.ensures c.if-count-gt-MOST.false
+
+pub returns : goal.returns
+returns c =
+    rule_over c.args.o c.requires c.loop-i.invariant (sym c.rows_short.ensures ∙ c.if-not-rows_short.false) c.loop-i-test.false

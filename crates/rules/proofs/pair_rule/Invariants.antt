@@ -1,0 +1,13 @@
+-- `rules::pair_rule` meets its contract: leaving repeats out changes no path, so 13 is judged over all candidates; then a turn adds one row, and the rows after it are left.
+use mathlib.Core.Path.{sym, ◌∙◌}
+use borrow.Author.Tests.{not-true, not-false}
+use Rattle.rules.proofs.PairRule.{RowsGrowing, rule_table, rule_long, rule_start, rule_asks, rule_turn, rule_many, rule_over}
+use borrow.Author.Rules.{rules}
+use Prim.Native.Nat.{◌-◌}
+use Rattle.rules.proofs.pair_rule.Given as goal
+
+abbrev pub invariant-loop-i : goal.invariant-loop-i
+invariant-loop-i l = RowsGrowing l.question l.initial.words l.words l.o l.s l.count l.xs.start l.xs.end l.ys.start l.ys.end l.i
+
+abbrev pub decreases-loop-i : goal.decreases-loop-i
+decreases-loop-i l = l.xs.end - l.i

@@ -1,0 +1,21 @@
+-- `rules::row_short` meets its contract: while each pair passed is short, the row is short if the rest of it is; one long pair makes the row long.
+-- Assumes nothing.
+use borrow.Author.Tests.{not-true, not-false}
+use Rattle.rules.proofs.Rows.{RowLeft, row_left, row_long, row_goes, row_shorter}
+use borrow.Author.Rules.{rules}
+use Prim.Native.Nat.{◌-◌}
+use Rattle.rules.proofs.row_short.Goals as goal
+
+pub loop-j-init : goal.loop-j-init
+loop-j-init c = row_left _ _ _ _ _ _ c.requires.2.ordered
+
+pub returns-then-not-pair_short : goal.returns-then-not-pair_short
+returns-then-not-pair_short c =
+    row_long c.requires.0 c.loop-j.invariant c.requires.1 c.requires.2 c.loop-j-test.true c.load-x.ensures c.load-y.ensures c.pair_short.ensures c.if-not-pair_short.true
+
+pub loop-j-preserved : goal.loop-j-preserved
+loop-j-preserved c =
+    row_goes c.requires.0 c.loop-j.invariant c.requires.1 c.requires.2 c.loop-j-test.true c.load-x.ensures c.load-y.ensures c.pair_short.ensures c.if-not-pair_short.false
+
+pub returns : goal.returns
+returns c = row_shorter c.requires.0 c.loop-j.invariant c.loop-j-test.false

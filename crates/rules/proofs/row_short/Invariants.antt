@@ -1,0 +1,12 @@
+-- `rules::row_short` meets its contract: while each pair passed is short, the row is short if the rest of it is; one long pair makes the row long.
+use borrow.Author.Tests.{not-true, not-false}
+use Rattle.rules.proofs.Rows.{RowLeft, row_left, row_long, row_goes, row_shorter}
+use borrow.Author.Rules.{rules}
+use Prim.Native.Nat.{◌-◌}
+use Rattle.rules.proofs.row_short.Given as goal
+
+abbrev pub invariant-loop-j : goal.invariant-loop-j
+invariant-loop-j l = RowLeft l.question l.words l.o l.i l.ys.start l.ys.end l.j
+
+abbrev pub decreases-loop-j : goal.decreases-loop-j
+decreases-loop-j l = l.ys.end - l.j

@@ -1,0 +1,16 @@
+-- `rules::stands_alike` meets its contract: a node that is alike is found, and where none is said to be, nothing is claimed.
+-- Assumes nothing.
+use Rattle.rules.proofs.Repeating.{has_below, none_alike, one_alike}
+use borrow.Author.Rules.{rules}
+use Prim.Native.Nat.{◌≤◌}
+use native.Mathlib.Omega.{arith}
+use Rattle.rules.proofs.stands_alike.Goals as goal
+
+pub alike-requires : goal.alike-requires
+alike-requires c = (c.requires.0, has_below c.requires.0 (omega arith))
+
+pub returns-then-alike : goal.returns-then-alike
+returns-then-alike c = one_alike (omega arith) (omega arith) c.alike.ensures c.if-alike.true
+
+pub returns : goal.returns
+returns c = none_alike _ _ _ _

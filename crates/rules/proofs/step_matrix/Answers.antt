@@ -1,0 +1,19 @@
+-- `rules::step_matrix` meets its contract: the words before a are rows of the step's matrix, and each turn makes one row more.
+-- Assumes nothing.
+use mathlib.Core.Path.{◌≡◌}
+use Rattle.rules.proofs.Steps.{matrix_none, matrix_more}
+use Rattle.symbols.specs.Contract.{direction_said}
+use Rattle.rules.specs.StepTriples.{StepMatrix}
+use borrow.Author.Rules.{rules}
+use Prim.Native.Nat.{◌-◌, ◌≤◌}
+use native.Mathlib.Omega.{arith}
+use Rattle.rules.proofs.step_matrix.Goals as goal
+
+pub loop-a-init : goal.loop-a-init
+loop-a-init c = (omega arith, matrix_none _ _ _ _ c.requires.0)
+
+pub loop-a-preserved : goal.loop-a-preserved
+loop-a-preserved c = (omega arith, matrix_more c.loop-a.invariant.1 c.step_row.ensures c.loop-a-test.true c.requires.2)
+
+pub returns : goal.returns
+returns c = let e : c.loop-a.a ≡ c.args.kinds = omega arith in rw e at c.loop-a.invariant.1

@@ -1,6 +1,5 @@
 -- `rules::add_copies` meets its contract: a copy has the triple of its node, and the part with the copies still to come is at each turn the list that is due.
-use Rattle.rules.proofs.Copies.{CopiesGrowing, copies_start, copies_load, copies_asks, copies_turn, copies_many, copies_over}
-use borrow.Author.Rules.{rules}
+use Rattle.rules.proofs.Copies.{CopiesGrowing}
 use Prim.Native.Nat.{◌-◌}
 use Rattle.rules.proofs.add_copies.Given as goal
 

@@ -1,8 +1,6 @@
 -- `rules::add_edge` meets its contract: the node needs no other, so that from kind a to kind b it has its path; and where the matrix lacks the bit there is no triple to add.
 -- Assumes nothing.
 use Rattle.rules.proofs.Edges.{edge_skipped, edge_candidate, edge_added}
-use borrow.Author.Tests.{not-true, not-false}
-use borrow.Author.Rules.{rules}
 use Rattle.rules.proofs.add_edge.Goals as goal
 
 pub returns-then-not-has : goal.returns-then-not-has

@@ -1,9 +1,7 @@
 -- `rules::add_edges` meets its contract: a turn adds the triples from kind a, and those from the kinds after a are what is left to add.
 use Rattle.rules.specs.Outcome.{with_new}
-use Rattle.rules.proofs.Edges.{edges_start, from_asks}
-use Rattle.rules.proofs.Ranging.{Ranging, ranging_turn, ranging_many, ranging_over}
+use Rattle.rules.proofs.Ranging.{Ranging}
 use Rattle.rules.specs.EdgeTriples.{edges_from, edges_of, leaf_path}
-use borrow.Author.Rules.{rules}
 use Prim.Native.Nat.{◌+◌, ◌-◌}
 use Rattle.rules.proofs.add_edges.Given as goal
 

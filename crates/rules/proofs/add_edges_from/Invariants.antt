@@ -1,9 +1,7 @@
 -- `rules::add_edges_from` meets its contract: a turn adds the triple to kind b, where the matrix has it, and those to the kinds after b are left; a word of 0 has none.
 use Rattle.rules.specs.Outcome.{with_new}
-use Rattle.rules.proofs.Edges.{from_start, from_skipped, edge_asks}
-use Rattle.rules.proofs.Ranging.{Ranging, ranging_turn, ranging_many, ranging_over}
+use Rattle.rules.proofs.Ranging.{Ranging}
 use Rattle.rules.specs.EdgeTriples.{edge_at, edges_from, leaf_path}
-use borrow.Author.Rules.{rules}
 use Prim.Native.Nat.{◌+◌, ◌-◌}
 use Rattle.rules.proofs.add_edges_from.Given as goal
 

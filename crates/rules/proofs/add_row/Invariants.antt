@@ -1,6 +1,5 @@
 -- `rules::add_row` meets its contract: a turn adds what node i gives with node j, and the rest of the row is what is left; past 128 triples the whole has too many as well.
-use Rattle.rules.proofs.Rows.{RowGrowing, row_start, row_asks, row_turn, row_many, row_over}
-use borrow.Author.Rules.{rules}
+use Rattle.rules.proofs.Rows.{RowGrowing}
 use Prim.Native.Nat.{◌-◌}
 use Rattle.rules.proofs.add_row.Given as goal
 

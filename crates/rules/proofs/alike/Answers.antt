@@ -1,7 +1,6 @@
 -- `rules::alike` meets its contract: it tells true only of nodes whose from kinds are equal and whose paths `same_path` finds equal.
 -- Assumes nothing.
 use Rattle.rules.proofs.Repeating.{not_alike, alike_paths}
-use borrow.Author.Rules.{rules}
 use Rattle.rules.proofs.alike.Goals as goal
 
 pub returns-then-load : goal.returns-then-load

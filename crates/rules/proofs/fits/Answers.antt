@@ -2,7 +2,6 @@
 -- Assumes nothing.
 use borrow.Author.Tests.{eq-eqb, ne_eqb}
 use Rattle.rules.specs.PairRules.{fitting}
-use borrow.Author.Rules.{rules}
 use Rattle.rules.proofs.fits.Goals as goal
 
 pub returns-then-x-y : goal.returns-then-x-y

@@ -1,7 +1,6 @@
 -- `rules::last` meets its contract: the triple of both and of branch right ends where the first ends, that of branch left and of join where the second does.
 -- Assumes nothing.
 use Rattle.rules.specs.PairRules.{giving}
-use borrow.Author.Rules.{rules}
 use Rattle.rules.proofs.last.Goals as goal
 
 pub returns-in-Join : goal.returns-in-Join

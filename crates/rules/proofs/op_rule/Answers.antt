@@ -1,7 +1,6 @@
 -- `rules::op_rule` meets its contract: each operator has its rule: union copies both parts, the others make a triple of each pair that fits.
 -- Assumes nothing.
 use Rattle.rules.specs.PairRules.{of_two}
-use borrow.Author.Rules.{rules}
 use Rattle.rules.proofs.op_rule.Goals as goal
 
 pub union_rule-requires : goal.union_rule-requires

@@ -1,10 +1,7 @@
 -- `rules::pair_rule` meets its contract: leaving repeats out changes no path, so 13 is judged over all candidates; then a turn adds one row, and the rows after it are left.
 -- Assumes nothing.
 use mathlib.Core.Path.{sym, ◌∙◌}
-use borrow.Author.Tests.{not-true, not-false}
-use Rattle.rules.proofs.PairRule.{RowsGrowing, rule_table, rule_long, rule_start, rule_asks, rule_turn, rule_many, rule_over}
-use borrow.Author.Rules.{rules}
-use Prim.Native.Nat.{◌-◌}
+use Rattle.rules.proofs.PairRule.{rule_table, rule_long, rule_start, rule_asks, rule_turn, rule_many, rule_over}
 use Rattle.rules.proofs.pair_rule.Goals as goal
 
 pub rows_short-requires : goal.rows_short-requires

@@ -1,6 +1,5 @@
 -- `rules::paired` meets its contract: the size is that of both paths and the operator's symbol, and the to kind is the one that `last` gives.
 -- Assumes nothing.
-use borrow.Author.Rules.{rules}
 use Rattle.rules.proofs.paired.Goals as goal
 
 pub returns : goal.returns

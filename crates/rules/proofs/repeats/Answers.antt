@@ -1,6 +1,5 @@
 -- `rules::repeats` meets its contract: a branch left drops the to kind of its left triple, so two nodes with equal from kinds and paths give the same row with any part.
 -- Assumes nothing.
-use borrow.Author.Rules.{rules}
 use Rattle.rules.proofs.Repeating.{not_found, found_row}
 use Rattle.rules.proofs.repeats.Goals as goal
 

@@ -1,13 +1,8 @@
 -- `rules::reverse_row` meets its contract: a reverse step leads from kind a to those kinds from which the link leads to a.
-use mathlib.Core.Logic.{⊎_elim}
 use Rattle.theory.specs.PathExpr.{reverse}
-use Rattle.rows.proofs.Masks.{word_none}
 use Rattle.rows.specs.Row.{Word}
 use Rattle.rules.specs.StepTriples.{marked?}
-use Rattle.rules.proofs.Steps.{row_yes, row_no, row_over}
-use borrow.Author.Rules.{rules}
-use Prim.Native.Nat.{◌-◌, ◌≤◌}
-use native.Mathlib.Omega.{arith}
+use Prim.Native.Nat.{◌≤◌}
 use Rattle.rules.proofs.reverse_row.Given as goal
 
 abbrev pub invariant-loop-b : goal.invariant-loop-b

@@ -1,9 +1,6 @@
 -- `rules::row_short` meets its contract: while each pair passed is short, the row is short if the rest of it is; one long pair makes the row long.
 -- Assumes nothing.
-use borrow.Author.Tests.{not-true, not-false}
-use Rattle.rules.proofs.Rows.{RowLeft, row_left, row_long, row_goes, row_shorter}
-use borrow.Author.Rules.{rules}
-use Prim.Native.Nat.{◌-◌}
+use Rattle.rules.proofs.Rows.{row_left, row_long, row_goes, row_shorter}
 use Rattle.rules.proofs.row_short.Goals as goal
 
 pub loop-j-init : goal.loop-j-init

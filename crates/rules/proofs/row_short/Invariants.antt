@@ -1,7 +1,5 @@
 -- `rules::row_short` meets its contract: while each pair passed is short, the row is short if the rest of it is; one long pair makes the row long.
-use borrow.Author.Tests.{not-true, not-false}
-use Rattle.rules.proofs.Rows.{RowLeft, row_left, row_long, row_goes, row_shorter}
-use borrow.Author.Rules.{rules}
+use Rattle.rules.proofs.Rows.{RowLeft}
 use Prim.Native.Nat.{◌-◌}
 use Rattle.rules.proofs.row_short.Given as goal
 

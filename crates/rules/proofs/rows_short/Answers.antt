@@ -1,9 +1,6 @@
 -- `rules::rows_short` meets its contract: while each row passed is short, the whole is short if the rows after it are; one long row makes the whole long.
 -- Assumes nothing.
-use borrow.Author.Tests.{not-true, not-false}
-use Rattle.rules.proofs.Rows.{RowsLeft, rows_left, rows_long, rows_go, rows_shorter}
-use borrow.Author.Rules.{rules}
-use Prim.Native.Nat.{◌-◌}
+use Rattle.rules.proofs.Rows.{rows_left, rows_long, rows_go, rows_shorter}
 use Rattle.rules.proofs.rows_short.Goals as goal
 
 pub loop-i-init : goal.loop-i-init

@@ -1,7 +1,5 @@
 -- `rules::rows_short` meets its contract: while each row passed is short, the whole is short if the rows after it are; one long row makes the whole long.
-use borrow.Author.Tests.{not-true, not-false}
-use Rattle.rules.proofs.Rows.{RowsLeft, rows_left, rows_long, rows_go, rows_shorter}
-use borrow.Author.Rules.{rules}
+use Rattle.rules.proofs.Rows.{RowsLeft}
 use Prim.Native.Nat.{◌-◌}
 use Rattle.rules.proofs.rows_short.Given as goal
 

@@ -1,8 +1,5 @@
 -- `rules::stands_alike` meets its contract: a node that is alike is found, and where none is said to be, nothing is claimed.
-use Rattle.rules.proofs.Repeating.{has_below, none_alike, one_alike}
-use borrow.Author.Rules.{rules}
 use Prim.Native.Nat.{◌≤◌}
-use native.Mathlib.Omega.{arith}
 use Rattle.rules.proofs.stands_alike.Given as goal
 
 abbrev pub invariant-loop-j : goal.invariant-loop-j

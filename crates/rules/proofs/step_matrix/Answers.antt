@@ -2,10 +2,6 @@
 -- Assumes nothing.
 use mathlib.Core.Path.{◌≡◌}
 use Rattle.rules.proofs.Steps.{matrix_none, matrix_more}
-use Rattle.symbols.specs.Contract.{direction_said}
-use Rattle.rules.specs.StepTriples.{StepMatrix}
-use borrow.Author.Rules.{rules}
-use Prim.Native.Nat.{◌-◌, ◌≤◌}
 use native.Mathlib.Omega.{arith}
 use Rattle.rules.proofs.step_matrix.Goals as goal
 

@@ -1,11 +1,7 @@
 -- `rules::step_matrix` meets its contract: the words before a are rows of the step's matrix, and each turn makes one row more.
-use mathlib.Core.Path.{◌≡◌}
-use Rattle.rules.proofs.Steps.{matrix_none, matrix_more}
 use Rattle.symbols.specs.Contract.{direction_said}
 use Rattle.rules.specs.StepTriples.{StepMatrix}
-use borrow.Author.Rules.{rules}
-use Prim.Native.Nat.{◌-◌, ◌≤◌}
-use native.Mathlib.Omega.{arith}
+use Prim.Native.Nat.{◌≤◌}
 use Rattle.rules.proofs.step_matrix.Given as goal
 
 abbrev pub invariant-loop-a : goal.invariant-loop-a

@@ -1,6 +1,5 @@
 -- `rules::step_row` meets its contract: a forward step has the table's word, and a reverse one the link's bits with the two kinds swapped.
 -- Assumes nothing.
-use borrow.Author.Rules.{rules}
 use Rattle.rules.proofs.Steps.{forward_row}
 use Rattle.rules.proofs.step_row.Goals as goal
 

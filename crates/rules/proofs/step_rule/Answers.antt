@@ -1,7 +1,6 @@
 -- `rules::step_rule` meets its contract: the triples of the step's matrix are those that the table permits, and a path of one step is never over 48 symbols.
 -- Assumes nothing.
 use Rattle.rules.proofs.Steps.{step_asks, step_many, step_made}
-use borrow.Author.Rules.{rules}
 use Rattle.rules.proofs.step_rule.Goals as goal
 
 pub encode-requires : goal.encode-requires

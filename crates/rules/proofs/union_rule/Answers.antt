@@ -1,7 +1,6 @@
 -- `rules::union_rule` meets its contract: the candidates are one part and then the other, and no path of either is over 48 symbols long.
 -- Assumes nothing.
 use Rattle.rules.proofs.Unions.{first_asks, first_many, second_asks, union_many, union_made}
-use borrow.Author.Rules.{rules}
 use Rattle.rules.proofs.union_rule.Goals as goal
 
 pub add_copies-a-requires : goal.add_copies-a-requires

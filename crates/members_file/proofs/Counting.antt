@@ -6,8 +6,8 @@ use Prim.Native.Nat.{ℕ, suc, ◌+◌, ◌*◌, ◌<◌, ◌≤◌}
 use native.Mathlib.Nat.{zero-add}
 use native.Mathlib.Omega.{arith}
 use lib.ListN.{length, length-append}
-use Rattle.theory.specs.PathExpr.{postfix, size}
-use Rattle.theory.specs.Merging.{Member, members}
+use Rattle.theory.specs.PathExpr.{postfix}
+use Rattle.theory.specs.Merging.{Member}
 use Rattle.algorithms.specs.Sorting.{grouped}
 use Rattle.symbols.specs.Symbols.{Numbered, number_symbol}
 use Rattle.narrowed_question.specs.Form.{flat}

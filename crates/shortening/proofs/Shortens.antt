@@ -9,7 +9,7 @@ use lib.Dec.{T}
 use lib.ListN.{length, length-append}
 use lib.Seq.{sets}
 use Rattle.theory.specs.PathExpr.{Direction, Label, below?, Op, union, conjunction, branch_right, branch_left, PathExpr, step, join, op, closure}
-use Rattle.theory.specs.PathExpr.{Symbol, s_step, s_join, s_op, s_closure, postfix, code, step_code, codes, size, plain?, links?}
+use Rattle.theory.specs.PathExpr.{Symbol, s_step, s_join, s_op, s_closure, postfix, code, step_code, codes, plain?, links?}
 use Rattle.theory.specs.Postfix.{path_of}
 use Rattle.theory.specs.Simplification.{normal_form}
 use Rattle.theory.proofs.Tests.{and_left, and_right}

@@ -16,14 +16,9 @@ use Rattle.symbols.specs.Symbols.{symbol_numbered}
 use Rattle.fields.proofs.Bools.{onward_got, told_refused}
 use Rattle.fields.proofs.Padded.{pad_length}
 use Rattle.fields.specs.Writing.{Bytes}
-use Rattle.question.specs.declared.Outcome as question·Outcome
-use Rattle.question.specs.declared.Outcome.TheVariants as question·outcome
 use Rattle.question.specs.Form.{question_symbols}
 use Rattle.question.proofs.Paths.{accepted_question}
 use Rattle.question.proofs.ReaderOutcome.{Told}
-use Rattle.register.specs.declared.Outcome as register·Outcome
-use Rattle.register.specs.declared.Outcome.TheVariants as register·outcome
-use Rattle.register.specs.LinksAhead.{Accepted}
 use Rattle.narrowed_question.specs.declared.Outcome as narrowed·Outcome
 use Rattle.narrowed_question.specs.declared.Outcome.TheVariants as narrowed·outcome
 use Rattle.narrowed_question.specs.declared.Members.{Members}

@@ -5,7 +5,7 @@ use Rattle.std.proofs.lemmas.List.Edits.{sets}
 use Rattle.theory.specs.Words.{answer_words}
 use Rattle.fields.specs.declared.Outcome as declared·Outcome
 use Rattle.fields.specs.declared.Source.TheVariants as source
-use Rattle.fields.specs.Call.{Outcome, accepts, refuses}
+use Rattle.fields.specs.Call.{accepts, refuses}
 use Rattle.fields.specs.Contract.{outcome_said}
 use Rattle.narrowed_question.specs.declared.Members.{Members}
 use Rattle.narrowed_question.specs.Formed.{WellFormed}

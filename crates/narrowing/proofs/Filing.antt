@@ -12,7 +12,6 @@ use Rattle.fields.specs.declared.Refusal.{Refusal}
 use Rattle.fields.specs.declared.Refusal.TheVariants.{AreaShort}
 use Rattle.fields.specs.declared.Source.{Source}
 use Rattle.fields.specs.declared.Source.TheVariants as source
-use Rattle.fields.specs.declared.Written.{Written}
 use Rattle.fields.specs.declared.Written.TheVariants as written
 use Rattle.fields.specs.Call.{Outcome, accepts, refuses, output, Gives, Size, size}
 use Rattle.fields.specs.Contract.{number_of, place_of, written_said}

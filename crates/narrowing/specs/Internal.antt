@@ -3,7 +3,7 @@
 use Rattle.std.specs.Prelude.{◌≡◌, Bool, cond, ℕ, ◌+◌, ◌≤◌, length, take}
 use mathlib.Core.List.{List, Memᴰ as In}
 use Rattle.theory.specs.Sheet.{Sheet}
-use Rattle.theory.specs.Inference.{Triple, triples}
+use Rattle.theory.specs.Inference.{Triple}
 use Rattle.theory.specs.Merging.{Member}
 use Rattle.algorithms.specs.Sorting.{grouped}
 use Rattle.theory.specs.Narrowing.{Narrowing, link_fault, parted, narrow_symbols}

@@ -157,13 +157,10 @@ module _ {s q g work answer answer' area area' : List ℕ} {z : Size} (a : Accep
   pub plainly : ((plain_call q g work answer).outcome ≡ accepts tt) × (answer' ≡ (plain_call q g work answer).areas)
   plainly = let (p, k) = accepted_question q a.narrowing.codes a.narrowing.question_reads in is_plain p k
 
--- with what the code says
-pub with_plain : (s q g work answer area : List ℕ) {work' answer' area' : List ℕ} {o : Written} → Returns (job_call s q g work answer area) (written_said o) work' (results answer' area')
-    → Returns (job_call s q g work answer area) (written_said o) work' (results answer' area') × AnswersPlain (plain_call q g work answer) o answer'
-with_plain s q g work answer area j = (
-  j,
-  record {
-    accepted = λ z e. (plainly (accepted s q g work answer area z (sym (ap (λ x. x.outcome) j.is) ∙ e))).0;
-    answer = λ z e. ap (λ x. x.areas.answer) j.is ∙ (plainly (accepted s q g work answer area z (sym (ap (λ x. x.outcome) j.is) ∙ e))).1;
-  },
-)
+-- where the code accepts, the answer is the plain one
+pub plain_by : (s q g work answer area : List ℕ) {work' answer' area' : List ℕ} {o : Written} → Returns (job_call s q g work answer area) (written_said o) work' (results answer' area')
+    → AnswersPlain (plain_call q g work answer) o answer'
+plain_by s q g work answer area j = record {
+  accepted = λ z e. (plainly (accepted s q g work answer area z (sym (ap (λ x. x.outcome) j.is) ∙ e))).0;
+  answer = λ z e. ap (λ x. x.areas.answer) j.is ∙ (plainly (accepted s q g work answer area z (sym (ap (λ x. x.outcome) j.is) ∙ e))).1;
+}

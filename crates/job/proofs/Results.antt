@@ -17,7 +17,6 @@ use Rattle.theory.proofs.Members.{narrow_fits}
 use Rattle.theory.proofs.Demand3.{narrow_path}
 use Rattle.fields.specs.declared.Refusal.{Refusal}
 use Rattle.fields.specs.declared.Refusal.TheVariants.{UnnamedLink, Breach}
-use Rattle.fields.specs.declared.Outcome.TheVariants as outcome
 use Rattle.fields.specs.declared.Source.{Source}
 use Rattle.fields.specs.declared.Source.TheVariants as source
 use Rattle.fields.specs.declared.Written.{Written}
@@ -45,7 +44,6 @@ use Rattle.narrowing.proofs.WholeCalls.{links_unnamed, links_named, symbols_name
 use Rattle.fields.proofs.Filing.{file_written, within}
 use Rattle.narrowing.proofs.Accepted.{Filed, in_area_accepted}
 use Rattle.answer.specs.Calls.{members_of}
-use Rattle.answer.specs.Contract as answer·contract
 use Rattle.answer.proofs.TwoAnswers.{members_back}
 use Rattle.job.specs.Call.{Results, results, with_breach, narrow_checked, if_accepted, completed, larger}
 use Rattle.job.specs.Internal.{due, HasMembers, AnswersFile, TellsSheet, Asked, Completes}

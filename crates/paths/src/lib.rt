@@ -117,21 +117,14 @@ pub fn write(members: Members, area: &mut [u8]) -> narrowed_writer::Written
 // ---- check, narrowing, shortening, answers and the whole job, for C
 
 // Whether a register obeys a sheet.
-#[unsafe(no_mangle)]
-pub extern "C" fn paths_check(
-    sheet: &[u8],
-    register: &[u8],
-    first: &mut u64,
-    second: &mut u64,
-) -> u64
+pub fn paths_check(sheet: &[u8], register: &[u8], first: &mut u64, second: &mut u64) -> u64
     ensures { Tells no_more (check_of sheet.now register.now) (tells result first.new second.new) }
 {
     tell(conformance::check(sheet, register), first, second)
 }
 
 // Narrows a question by a sheet, and writes the file of the narrowed question.
-#[unsafe(no_mangle)]
-pub extern "C" fn paths_narrow(
+pub fn paths_narrow(
     sheet: &[u8],
     question: &[u8],
     work: &mut [u64],
@@ -150,8 +143,7 @@ pub extern "C" fn paths_narrow(
 }
 
 // The size of the file that narrowing writes, without any area for it; or the refusal that narrowing gives.
-#[unsafe(no_mangle)]
-pub extern "C" fn paths_narrow_bytes(
+pub fn paths_narrow_bytes(
     sheet: &[u8],
     question: &[u8],
     work: &mut [u64],
@@ -169,21 +161,14 @@ pub extern "C" fn paths_narrow_bytes(
 }
 
 // Shortens a question, and writes the file of the shortened one.
-#[unsafe(no_mangle)]
-pub extern "C" fn paths_shorten(
-    question: &[u8],
-    file: &mut [u8],
-    first: &mut u64,
-    second: &mut u64,
-) -> u64
+pub fn paths_shorten(question: &[u8], file: &mut [u8], first: &mut u64, second: &mut u64) -> u64
     ensures { TellsOutput of_size (shorten_call question.now file.old) (tells result first.new second.new) file.new }
 {
     tell_file(shortening::shorten(question, file), first, second)
 }
 
 // The pairs of a question on a register.
-#[unsafe(no_mangle)]
-pub extern "C" fn paths_answer(
+pub fn paths_answer(
     question: &[u8],
     register: &[u8],
     work: &mut [u64],
@@ -202,8 +187,7 @@ pub extern "C" fn paths_answer(
 }
 
 // The pairs of a narrowed question on a register.
-#[unsafe(no_mangle)]
-pub extern "C" fn paths_answer_narrowed(
+pub fn paths_answer_narrowed(
     narrowed: &[u8],
     register: &[u8],
     work: &mut [u64],
@@ -222,8 +206,7 @@ pub extern "C" fn paths_answer_narrowed(
 }
 
 // Narrows the question by the sheet, checks the register, writes the narrowed file and its answer on the register.
-#[unsafe(no_mangle)]
-pub extern "C" fn paths_job(
+pub fn paths_job(
     sheet: &[u8],
     question: &[u8],
     register: &[u8],

@@ -1,15 +1,16 @@
 // Runs the whole job on the files sheet, question and register of the working directory, and prints what came of it.
-// Assumed are the contracts of the C library's calls (crates libc and os): that they return, and keep to their buffers.
+// Assumed of std's files and standard output: that their calls return, and keep to their buffers.
 #![tactic(auto)]
 
-ghost use Rattle.std.specs.Prelude.{◌≡◌, ◌≤◌, length};
-ghost use Rattle.io.specs.Counts.{IsPrefixLen};
+ghost use Rattle.std.specs.Prelude.{◌≡◌, ◌<◌, ◌≤◌, length, take, IfSome};
 ghost use Rattle.register.specs.Form.{register_in};
 ghost use Rattle.encode.specs.BytesWritten.{BytesWritten};
 ghost use Rattle.paths_main.specs.Output.{zeros, printed, Prints, Printable, answer_of};
 
 use fields::{Source, Written};
-use libc::STDOUT_FILENO;
+use std::io::Read;
+use std::rt::Files;
+use std::{fs, io};
 
 // What is lent: the words of work that narrowing needs, the words of an answer for 128 records, and the bytes for the narrowed file.
 const WORK: usize = narrowing::NEED;
@@ -77,46 +78,49 @@ fn run(sheet: &[u8], question: &[u8], register: &[u8], out: &mut [u8]) -> usize
     }
 }
 
+// The most bytes of a file that are read.
+const ROOM: usize = 65536;
+
+fn room() -> [u8; ROOM]
+    ensures { 65536 ≡ length result }
+{
+    [0; ROOM]
+}
+
 // Reads a file to its end, up to the room's length, and returns the number of bytes; 0 where a read fails.
-fn contents(fd: i32, room: &mut [u8]) -> usize
-    ensures { IsPrefixLen result room.new }
+fn contents<R: Read>(file: &mut R, room: &mut [u8]) -> usize
+    ensures within { result ≤ length room.new }
+    ensures bytes { 0 < result → IfSome (R.remaining file.old) (λ xs. take result room.new ≡ take (length room.new) xs) }
 {
     let mut at = 0;
     while at < room.len() {
-        let got = libc::read(fd, &mut room[at..]);
-        if got < 0 {
-            return 0;
+        match file.read(&mut room[at..]) {
+            Ok(0) => return at,
+            Ok(more) => at += more,
+            Err(_) => return 0,
         }
-        let more = io::count(got, &room[at..]);
-        if more == 0 {
-            return at;
-        }
-        at += more;
     }
     at
 }
 
 // The first bytes of a file, up to the room's length; none of one that cannot be opened or read.
-fn load(name: &[u8], room: &mut [u8]) -> usize
-    ensures { IsPrefixLen result room.new }
+fn load<R: Files>(rt: &R, name: &str, room: &mut [u8]) -> usize
+    ensures { result ≤ length room.new }
 {
-    let fd = os::open_read(name);
-    if fd < 0 {
-        return 0;
+    match fs::open(rt, name) {
+        Ok(mut file) => contents(&mut file, room),
+        Err(_) => 0,
     }
-    let n = contents(fd, room);
-    libc::close(fd);
-    n
 }
 
-fn main() {
-    let mut sheet = io::large_buffer();
-    let mut question = io::large_buffer();
-    let mut register = io::large_buffer();
-    let s = load(b"sheet", &mut sheet);
-    let q = load(b"question", &mut question);
-    let r = load(b"register", &mut register);
+fn main(rt: HostRuntime) -> io::Result<()> {
+    let mut sheet = room();
+    let mut question = room();
+    let mut register = room();
+    let s = load(&rt, "sheet", &mut sheet);
+    let q = load(&rt, "question", &mut question);
+    let r = load(&rt, "register", &mut register);
     let mut out = page();
     let n = run(&sheet[..s], &question[..q], &register[..r], &mut out);
-    io::write_all(STDOUT_FILENO, &out[..n]);
+    rt.write_all(&out[..n])
 }

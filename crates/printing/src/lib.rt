@@ -11,6 +11,7 @@ ghost use Rattle.encode.specs.BytesWritten.{BytesWritten};
 ghost use Rattle.printing.specs.Text.{decimal, line, row_lines, lines, count, answer_text, in_source, refusal_text};
 
 use fields::{Refusal, Source};
+use itoa::Buffer;
 
 // The bytes of s.
 fn put_text(out: &mut [u8], at: usize, s: &[u8]) -> usize
@@ -24,17 +25,13 @@ fn put_text(out: &mut [u8], at: usize, s: &[u8]) -> usize
     a
 }
 
-// The most decimal digits of a word.
-const DIGITS: usize = 20;
-
 // The decimal digits of n.
 fn put_decimal(out: &mut [u8], at: usize, n: u64) -> usize
     requires { at + length (decimal n) ≤ length out.old }
     ensures { BytesWritten out.old out.new at result (decimal n) }
 {
-    let mut digits = [0u8; DIGITS];
-    let k = io::decimal(n, &mut digits);
-    put_text(out, at, &digits[..k])
+    let mut digits = Buffer::new();
+    put_text(out, at, digits.format(n).as_bytes())
 }
 
 // The bytes of s, and then the decimal digits of n.

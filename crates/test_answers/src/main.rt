@@ -1,10 +1,10 @@
 // Makes each call of standard input, and writes a line of what came of it: the check, the plain answer, the narrowed answer.
 // tests/test_answers.py makes the calls (stdin) and the lines that are due (stdout) from the reference program.
-// Assumed are the contracts of the C library's read and write (crate libc): that they return, and keep to their buffers.
+// Assumed of std's standard input and output: that their calls return, and keep to their buffers.
 #![tactic(auto)]
 
 use fields::Outcome;
-use libc::{STDIN_FILENO, STDOUT_FILENO};
+use std::io;
 use test_report::Files;
 
 // The tags of calls.
@@ -25,22 +25,18 @@ const WORK: usize = 11000;
 const ANSWER: usize = 400;
 
 // What a call says: number, file and place of a refusal.
-fn outcome(o: Outcome) {
+fn outcome(rt: &impl Print, o: Outcome) -> io::Result<()> {
     match o {
-        Outcome::Accepted => {
-            io::write_all(STDOUT_FILENO, b"accepted");
-        }
-        Outcome::Refused(source, r) => {
-            test_report::refused(source, r);
-        }
+        Outcome::Accepted => print!(rt; "accepted"),
+        Outcome::Refused(source, r) => test_report::refused(rt, source, r),
     }
 }
 
-fn run_check(s: &[u8], files: Files) {
+fn run_check(rt: &impl Print, s: &[u8], files: Files) -> io::Result<()> {
     let sheet = fields::body_at(s, files.sheet);
     let register = fields::body_at(s, files.register);
-    outcome(conformance::check(sheet, register));
-    io::write_all(STDOUT_FILENO, b"\n");
+    outcome(rt, conformance::check(sheet, register))?;
+    println!(rt)
 }
 
 fn call(tag: u8, s: &[u8], files: Files, work: &mut [u64], answer: &mut [u64]) -> Outcome {
@@ -51,45 +47,46 @@ fn call(tag: u8, s: &[u8], files: Files, work: &mut [u64], answer: &mut [u64]) -
     answer::narrowed_answer(fields::body_at(s, files.narrowed), register, work, answer)
 }
 
-fn call_in(tag: u8, s: &[u8], files: Files, work: &mut [u64], answer: &mut [u64]) {
+fn call_in(rt: &impl Print, tag: u8, s: &[u8], files: Files, work: &mut [u64], answer: &mut [u64]) -> io::Result<()> {
     test_report::mark(work);
     test_report::mark(answer);
-    outcome(call(tag, s, files, work, answer));
-    io::write_all(STDOUT_FILENO, b" ");
-    test_report::number(test_report::mix_words(0, work));
-    test_report::end(test_report::mix_words(0, answer));
+    outcome(rt, call(tag, s, files, work, answer))?;
+    print!(rt; " ")?;
+    test_report::number(rt, test_report::mix_words(0, work))?;
+    test_report::end(rt, test_report::mix_words(0, answer))
 }
 
-fn run_answer(tag: u8, s: &[u8], files: Files, sizes: &[u8]) {
+fn run_answer(rt: &impl Print, tag: u8, s: &[u8], files: Files, sizes: &[u8]) -> io::Result<()> {
     let mut work = [0u64; WORK];
     let mut answer = [0u64; ANSWER];
     let n = test_report::lent(test_report::two_at(sizes, WORK_IN), WORK);
     let m = test_report::lent(test_report::two_at(sizes, ANSWER_IN), ANSWER);
-    call_in(tag, s, files, &mut work[..n], &mut answer[..m]);
+    call_in(rt, tag, s, files, &mut work[..n], &mut answer[..m])
 }
 
-fn run(tag: u8, s: &[u8], files: Files, body: &[u8]) {
+fn run(rt: &impl Print, tag: u8, s: &[u8], files: Files, body: &[u8]) -> io::Result<()> {
     match tag {
-        CHECK => run_check(s, files),
-        PLAIN | NARROWED => run_answer(tag, s, files, body),
-        _ => (),
+        CHECK => run_check(rt, s, files),
+        PLAIN | NARROWED => run_answer(rt, tag, s, files, body),
+        _ => Ok(()),
     }
 }
 
 // Each field is a file, from there on, or a call.
-fn run_all(s: &[u8]) {
+fn run_all(rt: &impl Print, s: &[u8]) -> io::Result<()> {
     let mut files = test_report::no_files(s);
     let mut at = 0;
     while at < s.len() {
         let field = test_report::field_at(s, at);
         files = test_report::with_file(files, field.tag, at);
-        run(field.tag, s, files, fields::body_at(s, at));
+        run(rt, field.tag, s, files, fields::body_at(s, at))?;
         at = field.next;
     }
+    Ok(())
 }
 
-fn main() {
+fn main(rt: HostRuntime) -> io::Result<()> {
     let mut text = test_report::room();
-    let n = io::read_full(STDIN_FILENO, &mut text);
-    run_all(&text[..n]);
+    let n = test_report::fill(&mut rt.reader(), &mut text);
+    run_all(&rt, &text[..n])
 }

@@ -13,10 +13,8 @@ pub fn mix_kinds(d: u64, s: &[u8], n: usize) -> u64
     requires { n ≡ records (register_in s.now) }
 {
     let mut e = d;
-    let mut i = 0;
-    while i < n {
+    for i in 0..n {
         e = mix(e, wide(register::kind_at(s, i).0));
-        i += 1;
     }
     e
 }
@@ -39,7 +37,7 @@ pub fn mix_links(d: u64, s: &[u8]) -> u64
     }
 }
 
-pub fn mix_members(q: Members) -> u64 {
+pub fn mix_members(q: &Members) -> u64 {
     let d = mix_bytes(q.count as u64, &q.sizes);
     let e = mix_words(mix_words(d, &q.from), &q.to);
     mix_words(mix_bytes(e, &q.numbers), &q.sets)

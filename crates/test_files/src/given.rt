@@ -56,15 +56,13 @@ fn empty_members(count: usize) -> Members {
 
 fn with_rows(q: Members, s: &[u8], rows: usize) -> Members {
     let mut r = q;
-    let mut i = 0;
-    while i < MEMBERS {
+    for i in 0..MEMBERS {
         if rows <= i {
             return r;
         }
         r.sizes[i] = byte_at(s, ROWS_AT + ROW * i);
         r.from[i] = long_at(s, FROM_AT + ROW * i);
         r.to[i] = long_at(s, TO_AT + ROW * i);
-        i += 1;
     }
     r
 }
@@ -73,11 +71,9 @@ fn with_symbols(q: Members, s: &[u8], from: usize) -> Members
     requires { from < 4294967296 }
 {
     let mut r = q;
-    let mut i = 0;
-    while i < SYMBOLS {
+    for i in 0..SYMBOLS {
         r.numbers[i] = byte_at(s, from + SYMBOL * i);
         r.sets[i] = long_at(s, from + SYMBOL * i + 1);
-        i += 1;
     }
     r
 }

@@ -1,10 +1,10 @@
 // Makes each call of narrowing that standard input has, and writes a line of what came of it.
 // tests/test_narrowing.py makes the calls (stdin) and the lines that are due (stdout) from the reference program.
-// Assumed are the contracts of the C library's read and write (crate libc): that they return, and keep to their buffers.
+// Assumed of std's standard input and output: that their calls return, and keep to their buffers.
 #![tactic(auto)]
 
 use fields::Written;
-use libc::{STDIN_FILENO, STDOUT_FILENO};
+use std::io;
 use test_report::Files;
 
 // The tag of a call.
@@ -25,30 +25,24 @@ const WORK: usize = 8200;
 const FILE: usize = 70200;
 
 // What the call says: members and bytes of the file; or number, file and place of a refusal.
-fn outcome(o: Written) {
+fn outcome(rt: &impl Print, o: Written) -> io::Result<()> {
     match o {
-        Written::File(members, bytes) => {
-            io::write_all(STDOUT_FILENO, b"file ");
-            test_report::number(members as u64);
-            io::print_decimal(STDOUT_FILENO, bytes as u64);
-        }
-        Written::Refused(source, r) => {
-            test_report::refused(source, r);
-        }
+        Written::File(members, bytes) => print!(rt; "file {members} {bytes}"),
+        Written::Refused(source, r) => test_report::refused(rt, source, r),
     }
 }
 
-fn call_in(s: &[u8], files: Files, work: &mut [u64], file: &mut [u8]) {
+fn call_in(rt: &impl Print, s: &[u8], files: Files, work: &mut [u64], file: &mut [u8]) -> io::Result<()> {
     let sheet = fields::body_at(s, files.sheet);
     let question = fields::body_at(s, files.question);
     test_report::mark(work);
-    outcome(narrowing::narrowing(sheet, question, work, file));
-    io::write_all(STDOUT_FILENO, b" ");
-    test_report::number(test_report::mix_words(0, work));
-    test_report::end(test_report::mix_bytes(0, file));
+    outcome(rt, narrowing::narrowing(sheet, question, work, file))?;
+    print!(rt; " ")?;
+    test_report::number(rt, test_report::mix_words(0, work))?;
+    test_report::end(rt, test_report::mix_bytes(0, file))
 }
 
-fn run_narrowing(s: &[u8], files: Files, sizes: &[u8]) {
+fn run_narrowing(rt: &impl Print, s: &[u8], files: Files, sizes: &[u8]) -> io::Result<()> {
     let mut work = [0u64; WORK];
     let mut file = [test_report::LEFT; FILE];
     let n = test_report::lent(test_report::two_at(sizes, WORK_IN), WORK);
@@ -56,29 +50,31 @@ fn run_narrowing(s: &[u8], files: Files, sizes: &[u8]) {
         test_report::two_at(sizes, FILE_IN) * TWO_BYTES + test_report::two_at(sizes, FILE_REST_IN),
         FILE,
     );
-    call_in(s, files, &mut work[..n], &mut file[..m]);
+    call_in(rt, s, files, &mut work[..n], &mut file[..m])
 }
 
-fn run(tag: u8, s: &[u8], files: Files, body: &[u8]) {
+fn run(rt: &impl Print, tag: u8, s: &[u8], files: Files, body: &[u8]) -> io::Result<()> {
     if tag == NARROWING {
-        run_narrowing(s, files, body);
+        run_narrowing(rt, s, files, body)?;
     }
+    Ok(())
 }
 
 // Each field is a file, from there on, or a call.
-fn run_all(s: &[u8]) {
+fn run_all(rt: &impl Print, s: &[u8]) -> io::Result<()> {
     let mut files = test_report::no_files(s);
     let mut at = 0;
     while at < s.len() {
         let field = test_report::field_at(s, at);
         files = test_report::with_file(files, field.tag, at);
-        run(field.tag, s, files, fields::body_at(s, at));
+        run(rt, field.tag, s, files, fields::body_at(s, at))?;
         at = field.next;
     }
+    Ok(())
 }
 
-fn main() {
+fn main(rt: HostRuntime) -> io::Result<()> {
     let mut text = test_report::room();
-    let n = io::read_full(STDIN_FILENO, &mut text);
-    run_all(&text[..n]);
+    let n = test_report::fill(&mut rt.reader(), &mut text);
+    run_all(&rt, &text[..n])
 }

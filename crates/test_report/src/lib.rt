@@ -6,7 +6,8 @@ ghost use Rattle.std.specs.Prelude.{◌≡◌, ◌<◌, ◌≤◌, length};
 
 use bits::wide;
 use fields::{Raw, Refusal, Source};
-use libc::STDOUT_FILENO;
+use std::io;
+use std::io::Read;
 
 // The most bytes of all vectors.
 const ROOM: usize = 1048576;
@@ -16,6 +17,20 @@ pub fn room() -> [u8; ROOM]
     ensures { 1048576 ≡ length result }
 {
     [0; ROOM]
+}
+
+// Reads until the room is full, the input ends or a read fails, and returns how many bytes it put at the start of the room.
+pub fn fill<R: Read>(from: &mut R, room: &mut [u8]) -> usize
+    ensures { result ≤ length room.new }
+{
+    let mut done = 0;
+    while done < room.len() {
+        match from.read(&mut room[done..]) {
+            Ok(more) if more > 0 => done += more,
+            _ => break,
+        }
+    }
+    done
 }
 
 // The tags of fields that are files; a program has others for its calls. None has the tag 0.
@@ -114,30 +129,26 @@ const LAST_WORD: u64 = 18446744073709551615;
 
 // What words are before it: none is 0 and no two are equal, so that words that are left, cleared or written all show.
 pub fn mark(area: &mut [u64]) {
-    let mut i = 0;
-    while i < area.len() {
-        area[i] = LAST_WORD - i as u64;
-        i += 1;
+    for (i, word) in area.iter_mut().enumerate() {
+        *word = LAST_WORD - i as u64;
     }
 }
 
 // A number of a line, and its last.
-pub fn number(n: u64) {
-    io::print_decimal(STDOUT_FILENO, n);
-    io::write_all(STDOUT_FILENO, b" ");
+pub fn number(rt: &impl Print, n: u64) -> io::Result<()> {
+    print!(rt; "{n} ")
 }
 
-pub fn end(n: u64) {
-    io::print_decimal(STDOUT_FILENO, n);
-    io::write_all(STDOUT_FILENO, b"\n");
+pub fn end(rt: &impl Print, n: u64) -> io::Result<()> {
+    println!(rt; "{n}")
 }
 
 // A call's refusal: its number, file and place.
-pub fn refused(source: Source, r: Refusal) {
-    io::write_all(STDOUT_FILENO, b"refused ");
-    number(wide(fields::number_of(r)));
-    number(wide(fields::source_number(source)));
-    io::print_decimal(STDOUT_FILENO, fields::place_of(r) as u64);
+pub fn refused(rt: &impl Print, source: Source, r: Refusal) -> io::Result<()> {
+    let number = fields::number_of(r);
+    let file = fields::source_number(source);
+    let place = fields::place_of(r);
+    print!(rt; "refused {number} {file} {place}")
 }
 
 const HALF: u64 = 4294967296;
@@ -155,20 +166,16 @@ pub fn mix(d: u64, x: u64) -> u64 {
 
 pub fn mix_words(d: u64, s: &[u64]) -> u64 {
     let mut e = d;
-    let mut i = 0;
-    while i < s.len() {
-        e = mix(e, s[i]);
-        i += 1;
+    for word in s {
+        e = mix(e, *word);
     }
     e
 }
 
 pub fn mix_bytes(d: u64, s: &[u8]) -> u64 {
     let mut e = d;
-    let mut i = 0;
-    while i < s.len() {
-        e = mix(e, wide(s[i]));
-        i += 1;
+    for byte in s {
+        e = mix(e, wide(*byte));
     }
     e
 }

@@ -1,0 +1,38 @@
+-- `printing::put_refusal` meets its contract: number, source and place are the refusal's own, and their four pieces in this order are the text.
+-- Assumes nothing.
+use mathlib.Core.Path.{◌∙◌}
+use native.Mathlib.Omega.{arith}
+use lib.ListN.{length-append}
+use Rattle.encode.proofs.Along.{wrote_more}
+use Rattle.printing.specs.Text.{refusal_text}
+use Rattle.printing.proofs.Filling.{second_room}
+use Rattle.printing.proofs.put_refusal.Goals as goal
+
+pub put_number-a-requires : goal.put_number-a-requires
+unfolding refusal_text
+put_number-a-requires c = rw (c.wide.ensures.0 ∙ c.number_of.ensures) (omega (arith, simp length-append at c.requires))
+
+pub put_source-b-requires : goal.put_source-b-requires
+unfolding refusal_text
+put_source-b-requires c =
+    omega (arith, simp length-append at (second_room _ (rw (c.wide.ensures.0 ∙ c.number_of.ensures) at c.put_number-a.ensures) c.requires))
+
+pub put_number-c-requires : goal.put_number-c-requires
+unfolding refusal_text
+put_number-c-requires c =
+    rw c.place_of.ensures (omega (
+      arith,
+      simp length-append at (second_room _ c.put_source-b.ensures (second_room _ (rw (c.wide.ensures.0 ∙ c.number_of.ensures) at c.put_number-a.ensures) c.requires)),
+    ))
+
+pub put_text-requires : goal.put_text-requires
+unfolding refusal_text
+put_text-requires c =
+    second_room _ (rw c.place_of.ensures at c.put_number-c.ensures)
+    (second_room _ c.put_source-b.ensures (second_room _ (rw (c.wide.ensures.0 ∙ c.number_of.ensures) at c.put_number-a.ensures) c.requires))
+
+pub returns : goal.returns
+unfolding refusal_text
+returns c =
+    wrote_more (rw (c.wide.ensures.0 ∙ c.number_of.ensures) at c.put_number-a.ensures)
+    (wrote_more c.put_source-b.ensures (wrote_more (rw c.place_of.ensures at c.put_number-c.ensures) c.put_text.ensures))

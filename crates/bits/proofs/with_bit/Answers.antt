@@ -1,0 +1,9 @@
+-- `bits::with_bit` meets its contract: 1 shifted by less than the width keeps its bit.
+-- Assumes nothing.
+use Rattle.bits.specs.Bit.{with_bit}
+use Rattle.bits.proofs.Bits.{shl_one}
+use Rattle.bits.proofs.with_bit.Goals as goal
+
+pub returns : goal.returns
+unfolding with_bit
+returns c = rw (shl_one c.args.k 64 c.requires)

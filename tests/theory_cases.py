@@ -18,17 +18,17 @@ from reference.files import BRANCH_RIGHT, CHAIN, JOIN, JoinThrough, Operator, Re
 SPECS = Path(__file__).resolve().parent.parent / "crates" / "theory_cases" / "specs"
 HEAD = """-- What the reference program gives. Written by tests/theory_cases.py.
 -- Assumes nothing.
-use mathlib.Core.List.{List, [], _∷_}
-use mathlib.Core.Option.{none, some}
-use Rattle·theory_cases·specs.specs.Format.{Case, case, refusal, members}
+use Rattle.std.specs.Prelude.{List, [], ◌∷◌}
+use Rattle.std.proofs.Math.Option.{none, some}
+use Rattle.theory_cases.specs.Format.{Case, case, refusal, members}
 
 unfoldable pub table : List Case
 table =
 """
 SHORT_HEAD = """-- What the reference program shortens. Written by tests/theory_cases.py.
 -- Assumes nothing.
-use mathlib.Core.List.{List, [], _∷_}
-use Rattle·theory_cases·specs.specs.Format.{Shortening, shortening}
+use Rattle.std.specs.Prelude.{List, [], ◌∷◌}
+use Rattle.theory_cases.specs.Format.{Shortening, shortening}
 
 unfoldable pub table : List Shortening
 table =

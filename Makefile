@@ -4,12 +4,11 @@
 .DELETE_ON_ERROR:
 .NOTPARALLEL:
 
-PROGRAM := target/bin/paths_main
-ARCHIVE := target/staticlib/libpaths.a
+PROGRAM := build/paths_main
 LIBRARY := build/libpaths.a
 
 # What is proved and built, folders among it, since a file that is taken away changes its folder alone.
-SOURCES := crates.txt $(shell find crates -name must-fail -prune -o -print)
+SOURCES := crates.txt $(shell find crates \( -name must-fail -o -name out \) -prune -o -path '*/src*' -print -o -path '*/specs*' -print -o -path '*/proofs*' -print)
 
 NEED_RT = @command -v rt >/dev/null || { echo "rt, the Rattle toolchain's command, is not on PATH: everything here is proved and built with it, and\
  it comes with the Rattle kit, not with this repository (README.md, What you need)." >&2; exit 1; }
@@ -20,7 +19,7 @@ run: $(PROGRAM) ## the main job on the example fleet, with the program built fir
 help: ## this list
 	@awk -F ':.*## ' '/^[a-z]+:.*## / { printf "make %-8s %s\n", $$1, $$2 }' Makefile
 
-program: $(PROGRAM) ## the program, target/bin/paths_main
+program: $(PROGRAM) ## the program, build/paths_main
 
 lib: $(LIBRARY) ## the library for C, build/libpaths.a (header: include/paths.h)
 
@@ -36,25 +35,21 @@ test: ## everything that must hold, from nothing (.ci/run); 21 to 25 minutes on 
 bench: $(LIBRARY) ## the library against its peers: the tables of bench/README.md, and bench/results/
 	python3 -m bench.run
 
-clean: ## removes what was built and proved: build/ and target/
-	rm -rf build target
+clean: ## removes what was built and proved: build/ and the folders out/ of the crates
+	rm -rf build crates/*/out
 
-# Proving takes minutes, and what is changed meanwhile is not in what is built: that gets the time at which the proof began. (A program
-# that rt has proved before it leaves alone.) What rt says does not go where the program prints.
+# Proving takes minutes, and what is changed meanwhile is not in what is built: that gets the time at which the proof began. rt builds a
+# program where it runs it: here where none of its files lies. What rt says does not go where the program prints.
 $(PROGRAM): $(SOURCES)
 	$(NEED_RT)
-	@mkdir -p target && touch target/began
-	@rt check paths_main >&2
-	@touch -c -r target/began $@
+	@mkdir -p build && touch build/began
+	@cd crates/paths_main && rt run >/dev/null
+	@cp crates/paths_main/out/paths_main $@
+	@touch -c -r build/began $@
 
-# rt staticlib proves one crate after the other, rt check several at a time.
-$(ARCHIVE): $(SOURCES)
+$(LIBRARY): $(SOURCES)
 	$(NEED_RT)
-	@mkdir -p target && touch target/began
-	rt check $$(sed -n 's/^paths://p' crates.txt)
-	rt staticlib paths
-	@touch -c -r target/began $@
-
-$(LIBRARY): $(ARCHIVE)
-	@mkdir -p build
-	cp $(ARCHIVE) $(LIBRARY)
+	@mkdir -p build && touch build/began
+	cd crates/paths_c && rt lib
+	@cp crates/paths_c/out/libpaths_c.a $@
+	@touch -c -r build/began $@

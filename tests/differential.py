@@ -462,7 +462,7 @@ def main() -> None:
     parser = argparse.ArgumentParser(description="Compares the program and the C library with the reference program.")
     parser.add_argument("--seed", type=int, default=1)
     parser.add_argument("--count", type=int, default=2000)
-    parser.add_argument("--program", type=path, default=str(ROOT / "target" / "bin" / "paths_main"))
+    parser.add_argument("--program", type=path, default=str(ROOT / "build" / "paths_main"))
     parser.add_argument("--library", type=path, default=str(ROOT / "build" / "libpaths.a"))
     options = parser.parse_args()
     with tempfile.TemporaryDirectory() as name:

@@ -446,7 +446,7 @@ def main() -> None:
     parser = argparse.ArgumentParser(description="Holds the examples of the specification against the reference program and the library.")
     parser.add_argument("document", type=Path, nargs="?", default=ROOT / "docs" / "SPECIFICATION.md")
     parser.add_argument("--library", type=path, default=str(ROOT / "build" / "libpaths.a"))
-    parser.add_argument("--program", type=path, default=str(ROOT / "target" / "bin" / "paths_main"))
+    parser.add_argument("--program", type=path, default=str(ROOT / "build" / "paths_main"))
     options = parser.parse_args()
     count, found = judged(options.document.read_text().splitlines(), options)
     for fault in found:

@@ -47,7 +47,14 @@ fn call(tag: u8, s: &[u8], files: Files, work: &mut [u64], answer: &mut [u64]) -
     answer::narrowed_answer(fields::body_at(s, files.narrowed), register, work, answer)
 }
 
-fn call_in(rt: &impl Print, tag: u8, s: &[u8], files: Files, work: &mut [u64], answer: &mut [u64]) -> io::Result<()> {
+fn call_in(
+    rt: &impl Print,
+    tag: u8,
+    s: &[u8],
+    files: Files,
+    work: &mut [u64],
+    answer: &mut [u64],
+) -> io::Result<()> {
     test_report::mark(work);
     test_report::mark(answer);
     outcome(rt, call(tag, s, files, work, answer))?;

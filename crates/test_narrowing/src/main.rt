@@ -32,7 +32,13 @@ fn outcome(rt: &impl Print, o: Written) -> io::Result<()> {
     }
 }
 
-fn call_in(rt: &impl Print, s: &[u8], files: Files, work: &mut [u64], file: &mut [u8]) -> io::Result<()> {
+fn call_in(
+    rt: &impl Print,
+    s: &[u8],
+    files: Files,
+    work: &mut [u64],
+    file: &mut [u8],
+) -> io::Result<()> {
     let sheet = fields::body_at(s, files.sheet);
     let question = fields::body_at(s, files.question);
     test_report::mark(work);

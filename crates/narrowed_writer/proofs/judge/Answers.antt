@@ -37,14 +37,13 @@ earlier-requires c =
     (r.ordered, (omega arith, omega (arith, r.used, r.few, c.loop-i-test.true, c.loop-i.invariant.1)))
 
 pub loop-i-preserved : goal.loop-i-preserved
-loop-i-preserved c =
-    (
-      member_more c.loop-i.invariant.0 c.loop-i-test.true c.loop-i.invariant.1 _ (sym c.judge_member.ensures ∙ ap place_said c.in-At.is) (sym c.earlier.ensures ∙ c.if-earlier.true),
-      c.loop-i.invariant.1,
-      c.loop-i.invariant.2,
-      c.loop-i.invariant.3,
-      c.loop-i.invariant.4,
-    )
+loop-i-preserved c = (
+  member_more c.loop-i.invariant.0 c.loop-i-test.true c.loop-i.invariant.1 _ (sym c.judge_member.ensures ∙ ap place_said c.in-At.is) (sym c.earlier.ensures ∙ c.if-earlier.true),
+  c.loop-i.invariant.1,
+  c.loop-i.invariant.2,
+  c.loop-i.invariant.3,
+  c.loop-i.invariant.4,
+)
 
 pub returns-else-earlier : goal.returns-else-earlier
 returns-else-earlier c =

@@ -23,12 +23,11 @@ loop-q-smaller c =
     omega (arith, l, c.loop-q.invariant.0.left, c.loop-q-test.true)
 
 pub loop-q-preserved : goal.loop-q-preserved
-loop-q-preserved c =
-    (
-      path_more c.loop-q.invariant.0 c.loop-q-test.true c.loop-q.invariant.1 _ _ c.symbol_size-place.ensures.0 c.symbol_size-place.ensures.1 (sym c.offer.ensures ∙ ap push_said c.in-Stands.is),
-      c.loop-q.invariant.1,
-      c.loop-q.invariant.2,
-    )
+loop-q-preserved c = (
+  path_more c.loop-q.invariant.0 c.loop-q-test.true c.loop-q.invariant.1 _ _ c.symbol_size-place.ensures.0 c.symbol_size-place.ensures.1 (sym c.offer.ensures ∙ ap push_said c.in-Stands.is),
+  c.loop-q.invariant.1,
+  c.loop-q.invariant.2,
+)
 
 pub returns : goal.returns
 returns c = path_ends c.loop-q.invariant.0 (omega (arith, c.loop-q-test.false))

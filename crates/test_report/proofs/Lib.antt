@@ -1,2 +1,0 @@
--- the lengths of areas that are lent
-pub mod Front

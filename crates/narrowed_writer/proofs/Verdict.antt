@@ -11,7 +11,6 @@ use native.Mathlib.Decide.{dec_le, ℕ_discrete}
 use mathlib.Core.Logic.{inl}
 use borrow.Author.Tests.{leb-true, eq-eqb, ne_eqb}
 use Rattle.theory.specs.PathExpr.{before?}
-use Rattle.fields.specs.declared.File.TheVariants as file
 use Rattle.symbols.specs.declared.Stack.{Stack}
 use Rattle.fields.specs.Table.{rows, tag_length, field_size}
 use Rattle.theory.specs.Result.{Result, got, refused, onward}
@@ -21,7 +20,7 @@ use Rattle.fields.proofs.Bools.{and_left}
 use Rattle.fields.proofs.ReaderLoop.{Going, going_start, going_ends, going_more, going_refused}
 use Rattle.narrowed_question.specs.declared.Members.{Members}
 use Rattle.narrowed_question.specs.Form.{Flat, flat, numbers, order_codes, Gathered, gathered, narrowed_format, narrowed_form}
-use Rattle.narrowed_question.specs.Form.{due, grown, judge, nothing, opens, count_of, fresh, open_of, member_symbol}
+use Rattle.narrowed_question.specs.Form.{due, grown, nothing, opens, count_of, fresh, open_of, member_symbol}
 use Rattle.fields.specs.Writing.{two_bytes}
 use Rattle.symbols.specs.Writing.{symbol_tag, symbol_body, symbol_bytes, symbols_bytes}
 use Rattle.narrowed_question.specs.Writing.{head_bytes, member_bytes, members_bytes, encode}

@@ -14,7 +14,7 @@ use Rattle.theory.specs.PathExpr.{Direction, Label, Via, any, through, Op, union
 use Rattle.theory.specs.Sheet.{Sheet}
 use Rattle.theory.specs.Inference.{Triple, stepped?, between, of_step, pairs, end_to_end?, joined, of_join, same_ends?, same_start?, conjoined, branched_right, branched_left, of_op}
 use Rattle.theory.specs.Inference.{reach, meets_cyclic?, acyclic?, walks, of_closure, triples}
-use Rattle.theory.specs.JoinSets.{steps, joins, ops, closures, Inferred}
+use Rattle.theory.specs.JoinSets.{Inferred}
 use Rattle.theory.proofs.Tests.{and_left, and_right, and_both}
 use Rattle.theory.proofs.Lists.{in_filter}
 use Rattle.theory.proofs.Triples.{in_distinct, in_pairs, in_between}

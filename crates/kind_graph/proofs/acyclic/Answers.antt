@@ -2,7 +2,6 @@
 -- Assumes nothing.
 use Rattle.kind_graph.proofs.Linking.{tells_cyclic, tells_acyclic}
 use mathlib.Core.Path.{sym, ◌∙◌}
-use borrow.Author.Rules.{rules}
 use Rattle.kind_graph.proofs.acyclic.Goals as goal
 
 pub returns-then-has : goal.returns-then-has

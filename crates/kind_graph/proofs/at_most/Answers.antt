@@ -2,9 +2,6 @@
 -- Assumes nothing.
 use Rattle.triples.proofs.Comparing.{decides_yes, decides_no}
 use Rattle.kind_graph.proofs.Rounds.{at_most_all, at_most_more}
-use lib.ListN.{length, get_or}
-use borrow.Author.Rules.{rules}
-use Prim.Native.Nat.{ℕ, ◌-◌, ◌≤◌, ◌<◌}
 use native.Mathlib.Omega.{arith}
 use Rattle.kind_graph.proofs.at_most.Goals as goal
 

@@ -1,10 +1,6 @@
 -- `kind_graph::at_most` meets its contract: the numbers passed are at most m.
-use Rattle.triples.proofs.Comparing.{decides_yes, decides_no}
-use Rattle.kind_graph.proofs.Rounds.{at_most_all, at_most_more}
 use lib.ListN.{length, get_or}
-use borrow.Author.Rules.{rules}
 use Prim.Native.Nat.{ℕ, ◌-◌, ◌≤◌, ◌<◌}
-use native.Mathlib.Omega.{arith}
 use Rattle.kind_graph.proofs.at_most.Given as goal
 
 abbrev pub invariant-loop-i : goal.invariant-loop-i

@@ -2,11 +2,10 @@
 -- Assumes nothing.
 use mathlib.Core.Path.{◌≡◌}
 use mathlib.Core.Bool.{Bool}
-use Rattle.rows.specs.Row.{row_bit, Row, mask_of}
+use Rattle.rows.specs.Row.{row_bit}
 use Rattle.rows.proofs.Masks.{mask_none, mask_more}
 use Rattle.rows.proofs.Rows.{row_zero, row_now, row_then}
-use borrow.Author.Rules.{rules}
-use Prim.Native.Nat.{ℕ, ◌-◌, ◌≤◌}
+use Prim.Native.Nat.{ℕ}
 use native.Mathlib.Omega.{arith}
 use Rattle.kind_graph.proofs.cyclic.Goals as goal
 

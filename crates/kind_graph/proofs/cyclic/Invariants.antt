@@ -1,12 +1,6 @@
 -- `kind_graph::cyclic` meets its contract: of the kinds before z the mask has those whose own bit is set in their row.
-use mathlib.Core.Path.{◌≡◌}
-use mathlib.Core.Bool.{Bool}
 use Rattle.rows.specs.Row.{row_bit, Row, mask_of}
-use Rattle.rows.proofs.Masks.{mask_none, mask_more}
-use Rattle.rows.proofs.Rows.{row_zero, row_now, row_then}
-use borrow.Author.Rules.{rules}
-use Prim.Native.Nat.{ℕ, ◌-◌, ◌≤◌}
-use native.Mathlib.Omega.{arith}
+use Prim.Native.Nat.{◌≤◌}
 use Rattle.kind_graph.proofs.cyclic.Given as goal
 
 abbrev pub invariant-loop-z : goal.invariant-loop-z

@@ -1,7 +1,6 @@
 -- `kind_graph::double` meets its contract: what the last 64 words take in is a copy of the first 64, which stay as they are.
 -- Assumes nothing.
 use Rattle.rows.proofs.Rows.{row_is}
-use borrow.Author.Rules.{rules}
 use Rattle.kind_graph.proofs.double.Goals as goal
 
 pub returns : goal.returns

@@ -1,7 +1,6 @@
 -- `kind_graph::extend` meets its contract: 0 stands for no walk and stays 0; any other walk gains the triple's symbols and that of the join.
 -- Assumes nothing.
 use Rattle.kind_graph.proofs.Rounds.{extended_more}
-use borrow.Author.Rules.{rules}
 use Rattle.kind_graph.proofs.extend.Goals as goal
 
 pub returns : goal.returns

@@ -1,10 +1,7 @@
 -- `kind_graph::first_round` meets its contract: the numbers so far, raised by the nodes from i on, are the start raised by the whole part; a node's size is that of its path.
 -- Assumes nothing.
-use Rattle.kind_graph.proofs.Rounds.{Going, round_start, round_next, round_end, size_is}
+use Rattle.kind_graph.proofs.Rounds.{round_start, round_next, round_end, size_is}
 use Rattle.kind_graph.specs.Sizes.{size_of}
-use Rattle.triples.specs.Parts.{part_of, triples_in}
-use borrow.Author.Rules.{rules}
-use Prim.Native.Nat.{◌-◌, ◌≤◌}
 use native.Mathlib.Omega.{arith}
 use Rattle.kind_graph.proofs.first_round.Goals as goal
 

@@ -1,7 +1,6 @@
 -- `kind_graph::raise` meets its contract: the larger of the two numbers stands at k, and the others are as they were.
 -- Assumes nothing.
 use Rattle.kind_graph.proofs.Rounds.{raised_set, raised_not}
-use borrow.Author.Rules.{rules}
 use Rattle.kind_graph.proofs.raise.Goals as goal
 
 pub returns-then-best-i : goal.returns-then-best-i

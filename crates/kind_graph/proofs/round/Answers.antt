@@ -1,10 +1,6 @@
 -- `kind_graph::round` meets its contract: the numbers so far, raised by the nodes from i on, are the start raised by all; a node weighs as the largest walk to it, joined with it.
 -- Assumes nothing.
-use Rattle.kind_graph.proofs.Rounds.{Going, round_start, round_next, round_end, weight_is}
-use Rattle.kind_graph.specs.Sizes.{weight}
-use Rattle.triples.specs.Parts.{part_of, triples_in}
-use borrow.Author.Rules.{rules}
-use Prim.Native.Nat.{◌-◌, ◌≤◌}
+use Rattle.kind_graph.proofs.Rounds.{round_start, round_next, round_end, weight_is}
 use native.Mathlib.Omega.{arith}
 use Rattle.kind_graph.proofs.round.Goals as goal
 

@@ -1,10 +1,8 @@
 -- `kind_graph::round` meets its contract: the numbers so far, raised by the nodes from i on, are the start raised by all; a node weighs as the largest walk to it, joined with it.
-use Rattle.kind_graph.proofs.Rounds.{Going, round_start, round_next, round_end, weight_is}
+use Rattle.kind_graph.proofs.Rounds.{Going}
 use Rattle.kind_graph.specs.Sizes.{weight}
 use Rattle.triples.specs.Parts.{part_of, triples_in}
-use borrow.Author.Rules.{rules}
 use Prim.Native.Nat.{◌-◌, ◌≤◌}
-use native.Mathlib.Omega.{arith}
 use Rattle.kind_graph.proofs.round.Given as goal
 
 abbrev pub invariant-loop-i : goal.invariant-loop-i

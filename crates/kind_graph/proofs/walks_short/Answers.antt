@@ -1,11 +1,7 @@
 -- `kind_graph::walks_short` meets its contract: each round has the largest walks of one triple more, and after a round without a walk there are none.
 -- Assumes nothing.
-use Rattle.kind_graph.proofs.Rounds.{Rounds, first_long, rounds_start, rounds_turn, rounds_long, rounds_over, rounds_none, rounds_small}
-use Rattle.triples.specs.Parts.{triples_in}
-use borrow.Author.Tests.{not-true, not-false}
+use Rattle.kind_graph.proofs.Rounds.{first_long, rounds_start, rounds_turn, rounds_long, rounds_over, rounds_none, rounds_small}
 use mathlib.Core.Path.{refl}
-use borrow.Author.Rules.{rules}
-use Prim.Native.Nat.{◌-◌, ◌≤◌}
 use native.Mathlib.Omega.{arith}
 use Rattle.kind_graph.proofs.walks_short.Goals as goal
 

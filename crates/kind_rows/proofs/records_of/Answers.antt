@@ -2,7 +2,6 @@
 -- Assumes nothing.
 use native.Mathlib.Omega.{arith}
 use Rattle.kind_rows.proofs.Tables.{bit_kind, set_taken}
-use borrow.Author.Rules.{rules}
 use Rattle.kind_rows.proofs.records_of.Goals as goal
 
 pub take_word-requires : goal.take_word-requires

@@ -1,8 +1,6 @@
 -- `merge::arrange` meets its contract: it is an insertion sort from the last node to the first, in which those from s + i on always stand sorted at i to n.
 -- Assumes nothing.
-use Rattle.merge.specs.Arranging.{Arranged}
 use Rattle.merge.proofs.Sorting.{arrange_start, arrange_asks, arrange_turn, arrange_over}
-use borrow.Author.Rules.{rules}
 use native.Mathlib.Omega.{arith}
 use Rattle.merge.proofs.arrange.Goals as goal
 

@@ -1,8 +1,5 @@
 -- `merge::arrange` meets its contract: it is an insertion sort from the last node to the first, in which those from s + i on always stand sorted at i to n.
 use Rattle.merge.specs.Arranging.{Arranged}
-use Rattle.merge.proofs.Sorting.{arrange_start, arrange_asks, arrange_turn, arrange_over}
-use borrow.Author.Rules.{rules}
-use native.Mathlib.Omega.{arith}
 use Rattle.merge.proofs.arrange.Given as goal
 
 abbrev pub invariant-loop-i : goal.invariant-loop-i

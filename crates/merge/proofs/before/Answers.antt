@@ -4,7 +4,6 @@ use Rattle.merge.proofs.Comparing.{ready, expanded_codes, expanded_end}
 use Rattle.merge.specs.Arranging.{earlier?}
 use Rattle.theory.specs.PathExpr.{before?}
 use mathlib.Core.Path.{refl, ap₂, ◌∙◌}
-use borrow.Author.Rules.{rules}
 use Rattle.merge.proofs.before.Goals as goal
 
 pub expand-n-requires : goal.expand-n-requires

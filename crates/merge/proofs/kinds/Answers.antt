@@ -4,7 +4,6 @@ use Rattle.triples.proofs.Expanding.{shl_singleton}
 use Rattle.triples.specs.declared.Node.{Node}
 use Rattle.theory.specs.KindSet.{singleton}
 use mathlib.Core.Path.{ap, ◌∙◌}
-use borrow.Author.Rules.{rules}
 use Rattle.merge.proofs.kinds.Goals as goal
 
 pub returns : goal.returns

@@ -1,9 +1,6 @@
 -- `merge::or_sets` meets its contract: the sets before j are unions, and those from j on are as they were.
-use Rattle.merge.proofs.Merging.{or_start, or_turn, or_over}
 use Rattle.merge.specs.Runs.{Ored}
-use borrow.Author.Rules.{rules}
 use Prim.Native.Nat.{◌-◌, ◌≤◌}
-use native.Mathlib.Omega.{arith}
 use Rattle.merge.proofs.or_sets.Given as goal
 
 abbrev pub invariant-loop-j : goal.invariant-loop-j

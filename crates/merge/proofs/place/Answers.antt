@@ -1,9 +1,6 @@
 -- `merge::place` meets its contract: each node that comes before t moves one place to the front, and t takes the place in front of the first that does not.
 -- Assumes nothing.
-use Rattle.merge.proofs.Sorting.{Going, place_start, place_over, place_asks, place_found, place_turn}
-use borrow.Author.Tests.{not-true, not-false}
-use borrow.Author.Rules.{rules}
-use Prim.Native.Nat.{◌-◌}
+use Rattle.merge.proofs.Sorting.{place_start, place_over, place_asks, place_found, place_turn}
 use Rattle.merge.proofs.place.Goals as goal
 
 pub loop-k-init : goal.loop-k-init

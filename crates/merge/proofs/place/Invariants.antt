@@ -1,7 +1,5 @@
 -- `merge::place` meets its contract: each node that comes before t moves one place to the front, and t takes the place in front of the first that does not.
-use Rattle.merge.proofs.Sorting.{Going, place_start, place_over, place_asks, place_found, place_turn}
-use borrow.Author.Tests.{not-true, not-false}
-use borrow.Author.Rules.{rules}
+use Rattle.merge.proofs.Sorting.{Going}
 use Prim.Native.Nat.{◌-◌}
 use Rattle.merge.proofs.place.Given as goal
 

@@ -1,11 +1,8 @@
 -- `merge::precedes` meets its contract: the codes before k are equal, so those from k on are compared as the whole ones are.
-use Rattle.merge.proofs.Comparing.{ended, past, less, more, equal}
 use Rattle.merge.specs.Arrays.{segment}
 use Rattle.theory.specs.PathExpr.{before?}
-use mathlib.Core.Path.{◌≡◌, refl, sym, ◌∙◌}
-use borrow.Author.Rules.{rules}
+use mathlib.Core.Path.{◌≡◌}
 use Prim.Native.Nat.{◌-◌, ◌≤◌}
-use native.Mathlib.Omega.{arith}
 use Rattle.merge.proofs.precedes.Given as goal
 
 abbrev pub invariant-loop-k : goal.invariant-loop-k

@@ -1,9 +1,6 @@
 -- `merge::run` meets its contract: the arrays hold the merged member of the nodes from k to j, and the first node of other codes begins the next member.
 -- Assumes nothing.
-use Rattle.merge.proofs.Merging.{Gathering, first_in, first_ready, run_start, next_in, run_asks, run_ends, run_turn, run_over}
-use borrow.Author.Tests.{not-true, not-false}
-use borrow.Author.Rules.{rules}
-use Prim.Native.Nat.{◌-◌}
+use Rattle.merge.proofs.Merging.{first_in, first_ready, run_start, next_in, run_asks, run_ends, run_turn, run_over}
 use native.Mathlib.Omega.{arith}
 use Rattle.merge.proofs.run.Goals as goal
 

@@ -1,9 +1,6 @@
 -- `merge::run` meets its contract: the arrays hold the merged member of the nodes from k to j, and the first node of other codes begins the next member.
-use Rattle.merge.proofs.Merging.{Gathering, first_in, first_ready, run_start, next_in, run_asks, run_ends, run_turn, run_over}
-use borrow.Author.Tests.{not-true, not-false}
-use borrow.Author.Rules.{rules}
+use Rattle.merge.proofs.Merging.{Gathering}
 use Prim.Native.Nat.{◌-◌}
-use native.Mathlib.Omega.{arith}
 use Rattle.merge.proofs.run.Given as goal
 
 abbrev pub invariant-loop-j : goal.invariant-loop-j

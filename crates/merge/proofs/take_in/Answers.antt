@@ -4,7 +4,6 @@ use Rattle.merge.proofs.Merging.{taken_before, taken_after, taken_in}
 use Rattle.merge.proofs.Comparing.{ready, expanded_end}
 use native.Mathlib.Omega.{arith}
 use mathlib.Core.Path.{refl}
-use borrow.Author.Rules.{rules}
 use Rattle.merge.proofs.take_in.Goals as goal
 
 pub expand-m-requires : goal.expand-m-requires

@@ -1,11 +1,9 @@
 -- `narrowed_writer::judge` meets its contract: the verdict on the members from the i-th on, given the one before and the place, is that on all members.
 -- Assumes nothing.
-use lib.ListN.{length}
-use mathlib.Core.Path.{◌≡◌, refl, ◌∙◌, ap, sym}
+use mathlib.Core.Path.{refl, ◌∙◌, ap, sym}
 use Rattle.narrowed_writer.specs.Verdict.{place_said}
-use Rattle.narrowed_writer.proofs.Judging.{AtMember, many_refused, member_start, members_end, member_refused, member_size, member_order, member_more}
+use Rattle.narrowed_writer.proofs.Judging.{many_refused, member_start, members_end, member_refused, member_size, member_order, member_more}
 use borrow.Author.Rules.{rules}
-use Prim.Native.Nat.{◌-◌}
 use native.Mathlib.Omega.{arith}
 use Rattle.narrowed_writer.proofs.judge.Goals as goal
 

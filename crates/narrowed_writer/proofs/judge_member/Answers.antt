@@ -3,7 +3,6 @@
 use Rattle.fields.specs.Table.{rows, tag_length, field_size}
 use borrow.Author.Tests.{lt-leb, le-leb}
 use Rattle.narrowed_writer.specs.Verdict.{member_verdict}
-use borrow.Author.Rules.{rules}
 use Rattle.narrowed_writer.proofs.judge_member.Goals as goal
 
 pub returns-then-n-lt1 : goal.returns-then-n-lt1

@@ -2,10 +2,7 @@
 -- Assumes nothing.
 use mathlib.Core.Path.{◌∙◌, ap, sym}
 use Rattle.symbols.specs.Contract.{push_said}
-use lib.ListN.{length}
-use Rattle.narrowed_writer.proofs.Judging.{AtSymbol, path_start, path_ends, path_refused, path_more}
-use borrow.Author.Rules.{rules}
-use Prim.Native.Nat.{◌+◌, ◌≤◌, ◌<◌}
+use Rattle.narrowed_writer.proofs.Judging.{path_start, path_ends, path_refused, path_more}
 use native.Mathlib.Omega.{arith}
 use Rattle.narrowed_writer.proofs.judge_path.Goals as goal
 

@@ -1,11 +1,7 @@
 -- `narrowed_writer::judge_path` meets its contract: the verdict on the symbols left, from the stack and the place reached, is that on the whole path.
-use mathlib.Core.Path.{◌∙◌, ap, sym}
-use Rattle.symbols.specs.Contract.{push_said}
 use lib.ListN.{length}
-use Rattle.narrowed_writer.proofs.Judging.{AtSymbol, path_start, path_ends, path_refused, path_more}
-use borrow.Author.Rules.{rules}
+use Rattle.narrowed_writer.proofs.Judging.{AtSymbol}
 use Prim.Native.Nat.{◌+◌, ◌≤◌, ◌<◌}
-use native.Mathlib.Omega.{arith}
 use Rattle.narrowed_writer.proofs.judge_path.Given as goal
 
 abbrev pub invariant-loop-q : goal.invariant-loop-q

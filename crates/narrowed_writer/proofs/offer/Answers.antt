@@ -1,8 +1,6 @@
 -- `narrowed_writer::offer` meets its contract: a number of no symbol is refusal 3, and a symbol is pushed with the place after its own field.
 -- Assumes nothing.
-use Rattle.encode.specs.Size.{symbol_size}
 use Rattle.narrowed_writer.specs.Verdict.{offered}
-use borrow.Author.Rules.{rules}
 use Rattle.narrowed_writer.proofs.offer.Goals as goal
 
 pub returns-then-is_symbol : goal.returns-then-is_symbol

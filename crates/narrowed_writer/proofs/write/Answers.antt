@@ -7,7 +7,6 @@ use Rattle.narrowed_writer.specs.Verdict.{place_said}
 use Rattle.narrowed_writer.specs.Outcome.{file_of}
 use Rattle.narrowed_writer.proofs.Judging.{verdict_few}
 use Rattle.narrowed_writer.proofs.Outcomes.{judged_got, writes_refused, writes_short, writes_all}
-use borrow.Author.Rules.{rules}
 use Rattle.narrowed_writer.proofs.write.Goals as goal
 
 pub returns-then-out-n : goal.returns-then-out-n

@@ -1,9 +1,6 @@
 -- `question_writer::measure` meets its contract: the bytes counted, and those of the symbols to come, are always those of the file (`Counting`).
 -- Assumes nothing.
-use Rattle.question_writer.proofs.Measuring.{Counting, counting_start, counting_next, counting_end}
-use lib.ListN.{length}
-use borrow.Author.Rules.{rules}
-use Prim.Native.Nat.{◌-◌}
+use Rattle.question_writer.proofs.Measuring.{counting_start, counting_next, counting_end}
 use Rattle.question_writer.proofs.measure.Goals as goal
 
 pub loop-i-init : goal.loop-i-init

@@ -1,7 +1,6 @@
 -- `question_writer::measure` meets its contract: the bytes counted, and those of the symbols to come, are always those of the file (`Counting`).
-use Rattle.question_writer.proofs.Measuring.{Counting, counting_start, counting_next, counting_end}
+use Rattle.question_writer.proofs.Measuring.{Counting}
 use lib.ListN.{length}
-use borrow.Author.Rules.{rules}
 use Prim.Native.Nat.{◌-◌}
 use Rattle.question_writer.proofs.measure.Given as goal
 

@@ -2,7 +2,6 @@
 -- Assumes nothing.
 use native.Mathlib.Omega.{arith}
 use Rattle.question_writer.proofs.Putting.{head_room, symbols_room, question_put}
-use borrow.Author.Rules.{rules}
 use Rattle.question_writer.proofs.put_question.Goals as goal
 
 pub put_count-a-requires : goal.put_count-a-requires

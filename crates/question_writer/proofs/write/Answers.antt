@@ -2,7 +2,6 @@
 -- Assumes nothing.
 use mathlib.Core.Path.{refl}
 use Rattle.fields.proofs.Filing.{file_short, file_put}
-use borrow.Author.Rules.{rules}
 use Rattle.question_writer.proofs.write.Goals as goal
 
 pub returns-then-file-n : goal.returns-then-file-n

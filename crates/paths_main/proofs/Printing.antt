@@ -26,7 +26,6 @@ use Rattle.register.specs.declared.Outcome.TheVariants as register·outcome
 use Rattle.register.specs.Contract.{outcome_said, sized}
 use Rattle.register.proofs.ReaderOutcome.{refused_file, accepted_records}
 use Rattle.register.specs.Form.{register_form, register_in, value_of}
-use Rattle.register.specs.LinksAhead.{Accepted}
 use Rattle.relation.specs.Pairs.{pair_at}
 use Rattle.encode.specs.BytesWritten.{BytesWritten}
 use Rattle.narrowing.specs.Call.{narrow_need}

@@ -1,0 +1,21 @@
+-- `paths_main::run` meets its contract: the job's outcome on areas of zeros is the one that is printed, and 8192 work words allow at most 128 records.
+-- Assumes nothing.
+use Rattle.paths_main.proofs.Printing.{job_fits, prints_refused, prints_accepted, refusal_room}
+use Rattle.paths_main.proofs.run.Goals as goal
+
+pub put_refusal-requires : goal.put_refusal-requires
+put_refusal-requires c = refusal_room _ _ _ _ c.requires
+
+pub put_answer-requires : goal.put_answer-requires
+put_answer-requires c =
+    (job_fits _ _ _ c.work_words-work.ensures.0 c.answer_words-answer.ensures.0 c.file_bytes-file.ensures.0 c.whole_job.ensures.returns _ _ c.in-File.is, c.requires)
+
+pub returns-in-Refused : goal.returns-in-Refused
+returns-in-Refused c =
+    prints_refused _ _ _ c.work_words-work.ensures.0 c.answer_words-answer.ensures.0 c.file_bytes-file.ensures.0 c.whole_job.ensures.returns c.requires _ _ c.in-Refused.is
+    c.put_refusal.ensures
+
+pub returns-in-File : goal.returns-in-File
+returns-in-File c =
+    prints_accepted _ _ _ c.work_words-work.ensures.0 c.answer_words-answer.ensures.0 c.file_bytes-file.ensures.0 c.whole_job.ensures.returns c.requires _ _ c.in-File.is
+    c.put_answer.ensures

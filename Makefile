@@ -1,5 +1,5 @@
 # Only a proved crate is built, so whatever is built here is proved first; rt proves nothing twice that has not changed. From nothing that
-# takes five to eight minutes on two cores. Another toolchain is no change that make sees: `make clean` first.
+# takes some minutes. Another toolchain is no change that make sees: `make clean` first.
 .PHONY: run help program lib client test bench clean
 .DELETE_ON_ERROR:
 .NOTPARALLEL:
@@ -28,7 +28,7 @@ client: $(LIBRARY) ## a program in C that runs the cases of the specification th
 	ulimit -s 256 && build/client # the stack that the header promises to be enough
 	if command -v valgrind >/dev/null; then valgrind -q --error-exitcode=1 build/client >build/client.out; fi
 
-test: ## everything that must hold, from nothing (.ci/run); 21 to 25 minutes on two cores
+test: ## everything that must hold (.ci/run); from nothing half an hour or more
 	$(NEED_RT)
 	.ci/run
 

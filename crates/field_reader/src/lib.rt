@@ -1,5 +1,4 @@
-// A reader of fields: it holds a file that it does not own, and a cursor. No function over a struct that holds a slice is covered
-// by the borrow checker, so there are few, each a proof by hand, and the work is left to `fields`, over the slice and the place.
+// A reader of fields: it holds a file that it does not own, and a cursor. The work is left to `fields`, over the slice and the place.
 #![tactic(auto)]
 
 ghost use Rattle.std.specs.Prelude.{◌≡◌};

@@ -1,21 +1,12 @@
 // The calls of the library for programs in C, under the names of include/paths.h: each hands on to the call of `paths` of its name.
 #![tactic(auto)]
 
-ghost use Rattle.std.specs.Prelude.{◌≡◌};
-ghost use Rattle.fields.specs.Contract.{number_of, place_of, source_number, outcome_said, written_said};
-ghost use Rattle.fields.specs.declared.Source.TheVariants as source;
-ghost use Rattle.fields.specs.Reading.{read};
-ghost use Rattle.sheet.specs.Form.{sheet_form};
-ghost use Rattle.question.specs.Form.{question_form};
-ghost use Rattle.narrowed_question.specs.Form.{narrowed_form};
-ghost use Rattle.register.specs.Form.{register_form};
-ghost use Rattle.narrowed_writer.specs.Outcome.{Writes};
 ghost use Rattle.conformance.specs.Check.{check_of};
 ghost use Rattle.narrowing.specs.Call.{narrow_call, size_call};
 ghost use Rattle.answer.specs.Calls.{plain_call, narrowed_call};
 ghost use Rattle.job.specs.Call.{results, job_call};
 ghost use Rattle.shortening.specs.Call.{shorten_call};
-ghost use Rattle.paths.specs.OutcomeNumbers.{judged, tells, no_more, of_size, Tells, TellsOutput, TellsCall, TellsPlain};
+ghost use Rattle.paths.specs.OutcomeNumbers.{tells, no_more, of_size, Tells, TellsOutput, TellsCall, TellsPlain};
 
 // Whether a register obeys a sheet.
 #[unsafe(no_mangle)]

@@ -67,16 +67,16 @@ module _ (S : Sheet) (ok : T (sheet? S)) (q : PathExpr) (plain : T (plain? q)) (
       universal_witness S ok q P t.from t.to i.0 i.1 (derives_held S ok q plain t.from t.path t.to d) e
 
   -- one end of the members: which set of a member it is, and which kind of a pair
-  module _ (set_of : Member → ℕ) (end_of_lem : ℕ → ℕ → ℕ)
-      (traced : (m : Member) → In m ms → (k : ℕ) → T (has (set_of m) k) → (t : Triple) × In t (triples S q) × (end_of_lem t.from t.to ≡ k))
-      (met : (r : Register) (m : Member) (s t : ℕ) → Pair r m s t → T (has (set_of m) (end_of_lem (kind r s) (kind r t)))) where
-    ends : (k : ℕ) → ((m : Member) × In m ms × T (has (set_of m) k)) ↔ Witness S q (λ a b. end_of_lem a b ≡ k)
+  module _ (set_of : Member → ℕ) (end_of : ℕ → ℕ → ℕ)
+      (traced : (m : Member) → In m ms → (k : ℕ) → T (has (set_of m) k) → (t : Triple) × In t (triples S q) × (end_of t.from t.to ≡ k))
+      (met : (r : Register) (m : Member) (s t : ℕ) → Pair r m s t → T (has (set_of m) (end_of (kind r s) (kind r t)))) where
+    ends : (k : ℕ) → ((m : Member) × In m ms × T (has (set_of m) k)) ↔ Witness S q (λ a b. end_of a b ≡ k)
     ends k = (to_witness, of_witness)
       where
-        to_witness : (m : Member) × In m ms × T (has (set_of m) k) → Witness S q (λ a b. end_of_lem a b ≡ k)
-        to_witness m = let u = traced m.0 m.1 k m.2 in witness (λ a b. end_of_lem a b ≡ k) u.0 u.1 u.2
+        to_witness : (m : Member) × In m ms × T (has (set_of m) k) → Witness S q (λ a b. end_of a b ≡ k)
+        to_witness m = let u = traced m.0 m.1 k m.2 in witness (λ a b. end_of a b ≡ k) u.0 u.1 u.2
 
-        of_witness : Witness S q (λ a b. end_of_lem a b ≡ k) → (m : Member) × In m ms × T (has (set_of m) k)
+        of_witness : Witness S q (λ a b. end_of a b ≡ k) → (m : Member) × In m ms × T (has (set_of m) k)
         of_witness w =
             let a = complete w.register w.conforms w.from w.to w.holds in
             (a.0, a.1, subst (λ x. T (has (set_of a.0) x)) w.kinds (met w.register a.0 w.from w.to a.2))

@@ -165,7 +165,8 @@ module _ {qs ws₀ ws t : List ℕ} {count K depth used i : ℕ} {xs : List Oper
         asks = record {
           kinds = h.kinds;
           room = room;
-          parts = b.asks qs ws used i (get_or xs (length rest) no_operand) (get_or xs (length rest + 1) no_operand) (record { two = record { room = room; left = w.lies; right = v.lies }; left_short = w.short; right_short = v.short });
+          parts = b.asks qs ws used i (get_or xs (length rest) no_operand) (get_or xs (length rest + 1) no_operand)
+              (record { two = record { room = room; left = w.lies; right = v.lies }; left_short = w.short; right_short = v.short });
         };
         is = λ S r.
             ap₂ (λ (us vs : List Triple). distinct (of_symbol t K k first us vs)) (w.is S r) (v.is S r)

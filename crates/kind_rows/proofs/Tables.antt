@@ -106,7 +106,8 @@ set_has {s} {n} {w} {kinds} ground set p t h = ⊎_elim (λ (l : n ≤ t). past 
     one : (t : ℕ) → t < n → t / 64 < w → (b : Bool) → bit_of set (kind (register_in s) t) ≡ b → in_set kinds w set t ≡ b
     one t l h true e =
         let x = (limits ground).kinds t in
-        some_one (λ k. bit_of set k && pair_at kinds 0 w k t) 64 (kind (register_in s) t) x (rw (e, at t (kind (register_in s) t) l x h) (eq-eqb (kind (register_in s) t) (kind (register_in s) t) refl))
+        some_one (λ k. bit_of set k && pair_at kinds 0 w k t) 64 (kind (register_in s) t) x
+        (rw (e, at t (kind (register_in s) t) l x h) (eq-eqb (kind (register_in s) t) (kind (register_in s) t) refl))
     one t l h false e =
         some_none (λ k. bit_of set k && pair_at kinds 0 w k t) 64 (λ k hk. ⊎_elim
         (λ (o : kind (register_in s) t ≡ k). ap (λ (b : Bool). b && pair_at kinds 0 w k t) (ap (bit_of set) (sym o) ∙ e))

@@ -7,4 +7,5 @@ use Rattle.answer.proofs.add_members.Given as goal
 
 abbrev pub invariant-loop-i : goal.invariant-loop-i
 invariant-loop-i l = Adding
-    (arrays l.count l.sizes l.from l.to l.numbers l.sets) (register_in l.register) l.n l.w l.initial.work l.work l.initial.answer l.answer l.i l.first × Held (register_in l.register) l.n l.w l.held l.work
+    (arrays l.count l.sizes l.from l.to l.numbers l.sets) (register_in l.register) l.n l.w l.initial.work l.work l.initial.answer l.answer l.i l.first × Held (register_in l.register) l.n l.w
+    l.held l.work

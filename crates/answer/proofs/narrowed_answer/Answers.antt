@@ -10,7 +10,11 @@ use Rattle.answer.proofs.narrowed_answer.Goals as goal
 pub narrowed_in-requires : goal.narrowed_in-requires
 narrowed_in-requires c =
     let q = file_accepted _ _ _ _ _ _ _ c.read_into.ensures _ c.in-Accepted.is (λ i. omega (arith, c.type_inv.narrowed i)) in
-    let r = c.read.ensures in record { readable = (q.1, accepted_file _ _ r _ _ c.in-Accepted-read.is, sym (accepted_records _ _ r _ _ c.in-Accepted-read.is)); long = (omega (arith, c.sizes-2-1.given), omega (arith, c.from-2-1.given), omega (arith, c.to-2-1.given), omega (arith, c.numbers-2-1.given), omega (arith, c.sets-2-1.given)) }
+    let r = c.read.ensures in record {
+      readable = (q.1, accepted_file _ _ r _ _ c.in-Accepted-read.is, sym (accepted_records _ _ r _ _ c.in-Accepted-read.is));
+      long =
+          (omega (arith, c.sizes-2-1.given), omega (arith, c.from-2-1.given), omega (arith, c.to-2-1.given), omega (arith, c.numbers-2-1.given), omega (arith, c.sets-2-1.given));
+    }
 
 pub returns-in-Refused : goal.returns-in-Refused
 returns-in-Refused c = narrowed_refused _ _ _ _ (file_refused _ _ _ _ _ _ _ c.read_into.ensures _ c.in-Refused.is)

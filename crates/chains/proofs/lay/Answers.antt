@@ -58,7 +58,11 @@ link-requires c =
     let p = c.requires in
     let i = c.loop-j.invariant in
     let h = c.loop-j-test.true in
-    record { grounded = (p.grounded.0, omega (arith, p.grounded.1, c.hold-k.ensures.4.len, i.2.len), i.1, p.chained.0.link c.loop-j.j h, p.grounded.3); j_bound = (omega (arith, h, p.chained.3), i.4, i.5) }
+    record {
+      grounded = (p.grounded.0, omega (arith, p.grounded.1, c.hold-k.ensures.4.len, i.2.len), i.1, p.chained.0.link c.loop-j.j h, p.grounded.3);
+      j_bound =
+          (omega (arith, h, p.chained.3), i.4, i.5);
+    }
 
 pub shape_of-bases-then-not-link : goal.shape_of-bases-then-not-link
 shape_of-bases-then-not-link c = omega (arith, c.bases-1.given, c.loop-j.invariant.4, c.requires.chained.4)

@@ -13,7 +13,17 @@ pub lay-requires : goal.lay-requires
 lay-requires c =
     let p = c.requires in
     let y = c.chained.ensures c.if-not-chained.false in
-    record { grounded = p.grounded; chained = (y.1, omega (arith, y.0, p.size_in_bounds.0), omega (arith, y.0, p.size_in_bounds.1), omega (arith, y.0, p.size_in_bounds.2), p.size_in_bounds.3, p.size_in_bounds.4) }
+    record {
+      grounded = p.grounded;
+      chained = (
+        y.1,
+        omega (arith, y.0, p.size_in_bounds.0),
+        omega (arith, y.0, p.size_in_bounds.1),
+        omega (arith, y.0, p.size_in_bounds.2),
+        p.size_in_bounds.3,
+        p.size_in_bounds.4,
+      );
+    }
 
 pub returns : goal.returns
 returns c =

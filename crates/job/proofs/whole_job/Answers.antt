@@ -23,19 +23,22 @@ returns-in-Refused c =
 pub returns-in-Refused-read : goal.returns-in-Refused-read
 returns-in-Refused-read c =
     let (S, d) = told_sheet _ _ _ c.read-s.ensures _ _ c.in-Accepted.is in
-    let j = question_refused c.args.sheet.now c.args.question.now c.args.register.now c.args.work.now c.args.answer.now c.args.file.now S d.reads (refused_question _ _ _ c.read-q.ensures _ c.in-Refused-read.is) in
+    let j = question_refused c.args.sheet.now c.args.question.now c.args.register.now c.args.work.now c.args.answer.now c.args.file.now S d.reads
+    (refused_question _ _ _ c.read-q.ensures _ c.in-Refused-read.is) in
     record { returns = j; answers_plain = plain_by _ _ _ _ _ _ j }
 
 pub returns-in-Refused-read-2 : goal.returns-in-Refused-read-2
 returns-in-Refused-read-2 c =
     let (S, d) = told_sheet _ _ _ c.read-s.ensures _ _ c.in-Accepted.is in
     let (cs, g) = told_question _ _ _ c.read-q.ensures _ c.in-Accepted-read.is in
-    let j = register_refused c.args.sheet.now c.args.question.now c.args.register.now c.args.work.now c.args.answer.now c.args.file.now S d.reads cs g.reads (refused_file _ _ c.read.ensures _ c.in-Refused-read-2.is) in
+    let j = register_refused c.args.sheet.now c.args.question.now c.args.register.now c.args.work.now c.args.answer.now c.args.file.now S d.reads cs g.reads
+    (refused_file _ _ c.read.ensures _ c.in-Refused-read-2.is) in
     record { returns = j; answers_plain = plain_by _ _ _ _ _ _ j }
 
 pub returns-in-Accepted-read-2 : goal.returns-in-Accepted-read-2
 returns-in-Accepted-read-2 c =
     let (S, d) = told_sheet _ _ _ c.read-s.ensures _ _ c.in-Accepted.is in
     let (cs, g) = told_question _ _ _ c.read-q.ensures _ c.in-Accepted-read.is in
-    let j = files_read c.args.sheet.now c.args.question.now c.args.register.now c.args.work.now c.args.answer.now c.args.file.now S d.reads cs g.reads _ _ _ _ _ (accepted_file _ _ c.read.ensures _ _ c.in-Accepted-read-2.is) (taken d g) (tells d) c.job_in.ensures in
+    let j = files_read c.args.sheet.now c.args.question.now c.args.register.now c.args.work.now c.args.answer.now c.args.file.now S d.reads cs g.reads _ _ _ _ _
+    (accepted_file _ _ c.read.ensures _ _ c.in-Accepted-read-2.is) (taken d g) (tells d) c.job_in.ensures in
     record { returns = j; answers_plain = plain_by _ _ _ _ _ _ j }

@@ -15,7 +15,6 @@ use Rattle.question.proofs.read.Goals.{After-body_at, After-judge, In-Body}
 use Rattle.question.proofs.read.Goals as goal
 
 -- where a body is at hand: the field that the definition finds there
-
 at_body : (c : In-Body) →
     let l = c.loop-outcome in
     field_at (due l.st) c.args.s.now l.at ≡ body c.in-Body.tag c.in-Body.len
@@ -26,14 +25,12 @@ room : (c : In-Body) → c.loop-outcome.at + 3 + c.in-Body.len ≤ length
 room c = (found (due c.loop-outcome.st) c.args.s.now _ _ _ (seen_at _ _ c.due.ensures c.field.ensures c.in-Body.is)).room
 
 -- the part handed out is that field's body
-
 is_body : (c : After-body_at) →
     c.body_at.result.now ≡ take c.in-Body.len
     (drop (c.loop-outcome.at + 3) c.args.s.now)
 is_body c = c.body_at.ensures ∙ body_found _ _ _ _ _ (seen_at _ _ c.due.ensures c.field.ensures c.in-Body.is)
 
 -- where it is judged
-
 is_judged : (c : After-judge) →
     let l = c.loop-outcome in
     judge l.st l.at (l.at + 3 + c.in-Body.len) c.in-Body.tag (take c.in-Body.len (drop (l.at + 3) c.args.s.now)) ≡ turn_said
@@ -74,7 +71,8 @@ loop-outcome-smaller-in-Go c = let r = room (goal.at.loop-outcome-smaller-in-Go 
 
 pub loop-outcome-preserved-in-Go : goal.loop-outcome-preserved-in-Go
 loop-outcome-preserved-in-Go c =
-    reading_go _ _ _ _ _ _ _ c.loop-outcome.invariant (at_body (goal.at.loop-outcome-preserved-in-Go c).In-Body) _ (is_judged (goal.at.loop-outcome-preserved-in-Go c).After-judge ∙ ap turn_said c.in-Go.is)
+    reading_go _ _ _ _ _ _ _ c.loop-outcome.invariant (at_body (goal.at.loop-outcome-preserved-in-Go c).In-Body) _
+    (is_judged (goal.at.loop-outcome-preserved-in-Go c).After-judge ∙ ap turn_said c.in-Go.is)
 
 pub bounds-codes-count : goal.bounds-codes-count
 bounds-codes-count c =
@@ -82,7 +80,8 @@ bounds-codes-count c =
 
 pub overflow_add-count : goal.overflow_add-count
 overflow_add-count c =
-    let h = (reading_more _ _ _ _ _ _ _ c.loop-outcome.invariant (at_body (goal.at.overflow_add-count c).In-Body) _ _ (is_judged (goal.at.overflow_add-count c).After-judge ∙ ap turn_said c.in-More.is)).0 in
+    let h = (reading_more _ _ _ _ _ _ _ c.loop-outcome.invariant (at_body (goal.at.overflow_add-count c).In-Body) _ _
+    (is_judged (goal.at.overflow_add-count c).After-judge ∙ ap turn_said c.in-More.is)).0 in
     omega arith
 
 pub loop-outcome-smaller : goal.loop-outcome-smaller
@@ -90,4 +89,5 @@ loop-outcome-smaller c = let r = room (goal.at.loop-outcome-smaller c).In-Body i
 
 pub loop-outcome-preserved : goal.loop-outcome-preserved
 loop-outcome-preserved c =
-    (reading_more _ _ _ _ _ _ _ c.loop-outcome.invariant (at_body (goal.at.loop-outcome-preserved c).In-Body) _ _ (is_judged (goal.at.loop-outcome-preserved c).After-judge ∙ ap turn_said c.in-More.is)).1
+    (reading_more _ _ _ _ _ _ _ c.loop-outcome.invariant (at_body (goal.at.loop-outcome-preserved c).In-Body) _ _
+    (is_judged (goal.at.loop-outcome-preserved c).After-judge ∙ ap turn_said c.in-More.is)).1

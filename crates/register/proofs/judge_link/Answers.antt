@@ -34,9 +34,25 @@ returns-then-records-two-2 c =
 pub returns-then-key-q : goal.returns-then-key-q
 unfolding link_of
 returns-then-key-q c =
-    simp (lt-leb _ _ c.if-key-q.true, ← c.key_of-key.ensures.0, lt-ltb _ _ c.if-records-two-2.false, ← c.two-2.ensures, lt-ltb _ _ c.if-b-ge-LINKS.false, lt-ltb _ _ c.if-records-two.false, ← c.two.ensures)
+    simp (
+      lt-leb _ _ c.if-key-q.true,
+      ← c.key_of-key.ensures.0,
+      lt-ltb _ _ c.if-records-two-2.false,
+      ← c.two-2.ensures,
+      lt-ltb _ _ c.if-b-ge-LINKS.false,
+      lt-ltb _ _ c.if-records-two.false,
+      ← c.two.ensures,
+    )
 
 pub returns : goal.returns
 unfolding link_of
 returns c =
-    simp (le-leb _ _ c.if-key-q.false, ← c.key_of-key.ensures.0, lt-ltb _ _ c.if-records-two-2.false, ← c.two-2.ensures, lt-ltb _ _ c.if-b-ge-LINKS.false, lt-ltb _ _ c.if-records-two.false, ← c.two.ensures)
+    simp (
+      le-leb _ _ c.if-key-q.false,
+      ← c.key_of-key.ensures.0,
+      lt-ltb _ _ c.if-records-two-2.false,
+      ← c.two-2.ensures,
+      lt-ltb _ _ c.if-b-ge-LINKS.false,
+      lt-ltb _ _ c.if-records-two.false,
+      ← c.two.ensures,
+    )

@@ -19,4 +19,11 @@ returns-then-v-ge-LINKS c = λ e. absurd (false≢true e)
 
 pub returns : goal.returns
 returns c =
-    λ e. record { due = omega (arith, c.if-left-eq0.false); low = omega (arith, c.if-v-floor.false); high = omega (arith, c.if-top-v.false); label = omega (arith, c.if-v-ge-LINKS.false); to = ltb-true _ _ e }
+    λ e. record {
+      due = omega (arith, c.if-left-eq0.false);
+      low = omega (arith, c.if-v-floor.false);
+      high = omega (arith, c.if-top-v.false);
+      label = omega (arith, c.if-v-ge-LINKS.false);
+      to =
+          ltb-true _ _ e;
+    }

@@ -15,14 +15,12 @@ use Rattle.register.proofs.read.Goals.{After-body_at, After-judge, In-Body}
 use Rattle.register.proofs.read.Goals as goal
 
 -- where a body is at hand: the field that the definition finds there
-
 at_body : (c : In-Body) →
     let l = c.loop-r in
     field_at (due l.st) c.args.s.now l.at ≡ body c.in-Body.field-0 c.in-Body.len
 at_body c = seen_at _ _ c.due_at.ensures c.field.ensures c.in-Body.is
 
 -- the code's body is the definition's
-
 at_part : (c : After-body_at) →
     c.body_at.result.now ≡ take c.in-Body.len
     (drop (c.loop-r.at + 3) c.args.s.now)
@@ -75,4 +73,5 @@ loop-r-smaller c =
 
 pub loop-r-preserved : goal.loop-r-preserved
 loop-r-preserved c =
-    reading_passed _ _ c.past-r.ensures (reading_more _ _ _ c.loop-r.invariant _ _ (at_body (goal.at.loop-r-preserved c).In-Body) _ (is_judged (goal.at.loop-r-preserved c).After-judge ∙ ap turn_said c.in-Go.is))
+    reading_passed _ _ c.past-r.ensures (reading_more _ _ _ c.loop-r.invariant _ _ (at_body (goal.at.loop-r-preserved c).In-Body) _
+    (is_judged (goal.at.loop-r-preserved c).After-judge ∙ ap turn_said c.in-Go.is))

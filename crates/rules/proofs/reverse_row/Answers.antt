@@ -14,8 +14,14 @@ loop-b-preserved c =
     let a = c.args.a.0 in
     let l = c.args.link.0 in
     let b = c.loop-b.b in
-    let p = c.permits.ensures in
-    (omega arith, elim c.if-permits.branch [ then-permits w ↦ rw (w.v-is, w.with_bit-v.ensures) (row_yes _ l a b p c.loop-b.invariant.1 w.if-permits.true) | else-permits w ↦ rw w.v-is (row_no _ l a b p c.loop-b.invariant.1 w.if-permits.false) ])
+    let p = c.permits.ensures in (
+      omega arith,
+      elim c.if-permits.branch [
+        | then-permits w ↦ rw (w.v-is, w.with_bit-v.ensures) (row_yes _ l a b p c.loop-b.invariant.1 w.if-permits.true)
+        | else-permits w ↦ rw w.v-is
+            (row_no _ l a b p c.loop-b.invariant.1 w.if-permits.false)
+      ],
+    )
 
 pub returns : goal.returns
 returns c = row_over c.loop-b.invariant.1 c.loop-b-test.false

@@ -20,7 +20,6 @@ use Rattle.sheet.proofs.read.Goals.{After-judge, In-Body, In-More}
 use Rattle.sheet.proofs.read.Goals as goal
 
 -- where a body is at hand: the field that the definition finds there
-
 at_body : (c : In-Body) →
     let l = c.loop-outcome in
     field_at (due l.st) c.args.s.now l.at ≡ body c.in-Body.field-0 c.in-Body.len
@@ -83,7 +82,8 @@ loop-outcome-smaller-in-Go c = let r = room (goal.at.loop-outcome-smaller-in-Go 
 
 pub loop-outcome-preserved-in-Go : goal.loop-outcome-preserved-in-Go
 loop-outcome-preserved-in-Go c =
-    progress_go _ _ _ _ _ _ c.loop-outcome.invariant (at_body (goal.at.loop-outcome-preserved-in-Go c).In-Body) _ (is_judged (goal.at.loop-outcome-preserved-in-Go c).After-judge ∙ ap turn_said c.in-Go.is)
+    progress_go _ _ _ _ _ _ c.loop-outcome.invariant (at_body (goal.at.loop-outcome-preserved-in-Go c).In-Body) _
+    (is_judged (goal.at.loop-outcome-preserved-in-Go c).After-judge ∙ ap turn_said c.in-Go.is)
 
 pub word_of-i-requires : goal.word_of-i-requires
 word_of-i-requires c = let r = (at_more (goal.at.word_of-i-requires c).In-More).0 in (r.0, r.1)

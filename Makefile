@@ -28,7 +28,7 @@ client: $(LIBRARY) ## a program in C that runs the cases of the specification th
 	ulimit -s 256 && build/client # the stack that the header promises to be enough
 	if command -v valgrind >/dev/null; then valgrind -q --error-exitcode=1 build/client >build/client.out; fi
 
-test: ## everything that must hold (.ci/run); from nothing half an hour or more
+test: ## everything that must hold (.ci/run); from nothing some 25 minutes on four cores
 	$(NEED_RT)
 	.ci/run
 

@@ -1,6 +1,6 @@
 -- The loop over a register's fields.
 -- Assumes nothing.
-use mathlib.Core.Path.{◌≡◌, refl, ap, ◌∙◌}
+use mathlib.Core.Path.{◌≡◌, refl, sym, ap, subst, ◌∙◌}
 use mathlib.Core.Bool.{Bool, true, false, cond, false≢true}
 use mathlib.Core.List.{List}
 use Prim.Native.Nat.{ℕ, ◌+◌, ◌≤◌}
@@ -17,9 +17,11 @@ use Rattle.fields.proofs.ReaderLoop.{Going, going_start, going_ends, going_wrong
 use Rattle.register.specs.declared.Progress.{Progress}
 use Rattle.register.specs.declared.Position.{Position}
 use Rattle.register.specs.declared.Position.TheVariants.{Start, Within}
-use Rattle.register.specs.Form.{due, advance, handed_over, with_kind, with_link, kind_entry, link_entry, keep, edge_of, no_register, register_format, register_form}
+use Rattle.register.specs.Form.{due, complete?, advance, handed_over, with_kind, with_link, kind_entry, link_entry, keep, edge_of, no_register, register_format, register_form, register_in}
 use Rattle.register.specs.Contract.{sizes, sized}
-use Rattle.register.specs.Internal.{BodyReady, sizes_of}
+use Rattle.register.specs.Internal.{BodyReady}
+use Rattle.register.specs.LinksAhead.{Accepted}
+use Rattle.register.proofs.AcceptedRegister.{accepted_sizes}
 use Rattle.register.proofs.Fields.{ready}
 use Rattle.register.proofs.Sound.{SoundState, sound_more}
 
@@ -42,17 +44,32 @@ keeps (Within q) r b = by_kind (eqb q.kindless 0)
     by_kind false = (with_kind r (get_or b 0 0), refl)
 
 module _ (s : List ℕ) (st : Position) (at : ℕ) (r : Reading s st at) where
-  sizes_is : (st : Position) (v : Register) → SoundState (st, v) → (due st).complete ≡ true → sizes_of st ≡ sized (got v)
-  sizes_is Start v w h = absurd (false≢true h)
-  sizes_is (Within q) v w h =
+  -- the file ends only where its head was read
+  pub ends_within : field_at (due st) s at ≡ ends → st ≡ Start → ⊥
+  ends_within e z = false≢true (sym (ap (λ (st : Position). (due st).complete) z) ∙ (ended (due st) s at e).may)
+
+  sizes_is : (q : Progress) (v : Register) → SoundState (Within q, v) → complete? q ≡ true → got (sizes q.records q.links) ≡ sized (got v)
+  sizes_is q v w h =
       let a : q.kindless ≡ 0 = eqb-true q.kindless 0 (and_left _ (eqb q.left 0) h) in
       let b : q.left ≡ 0 = eqb-true q.left 0 (and_right (eqb q.kindless 0) _ h) in
       let x : q.records ≡ length v.kinds = omega (arith, w.records) in
       let y : q.links ≡ length v.links = omega (arith, w.links) in
       λ i. got (sizes (x i) (y i))
 
-  pub reading_ends : field_at (due st) s at ≡ ends → sizes_of st ≡ sized (read register_form s)
-  reading_ends e = rw (going_ends register_form s _ _ at r.going e) (sizes_is st r.sofar r.sound (ended (due st) s at e).may)
+  module _ (q : Progress) (z : st ≡ Within q) (e : field_at (due st) s at ≡ ends) where
+    pub reading_ends : got (sizes q.records q.links) ≡ sized (read register_form s)
+    reading_ends =
+        rw (going_ends register_form s _ _ at r.going e)
+        (sizes_is q r.sofar (subst (λ (p : Position). SoundState (p, r.sofar)) z r.sound) (sym (ap (λ (p : Position). (due p).complete) z) ∙ (ended (due st) s at e).may))
+
+    pub reading_accepted : Accepted s
+    reading_accepted = (accepted_sizes s q.records q.links reading_ends).0
+
+    pub reading_counted : q.records ≡ length (register_in s).kinds
+    reading_counted = sym (accepted_sizes s q.records q.links reading_ends).1
+
+    pub reading_linked : q.links ≡ length (register_in s).links
+    reading_linked = sym (accepted_sizes s q.records q.links reading_ends).2
 
   pub reading_wrong : (n p : ℕ) → field_at (due st) s at ≡ wrong n p → refused n p ≡ sized (read register_form s)
   reading_wrong n p e = rw (going_wrong register_form s _ _ at r.going n p e)

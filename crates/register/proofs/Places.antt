@@ -16,8 +16,8 @@ use Rattle.fields.proofs.Bools.{and_left, and_right}
 use Rattle.fields.proofs.Fields.{found, ended, body_get}
 use Rattle.fields.proofs.Accepted.{accepted_ind}
 use Rattle.register.specs.declared.Progress.{Progress}
-use Rattle.register.specs.declared.Position.{Position}
-use Rattle.register.specs.declared.Position.TheVariants.{Start, Within}
+use Rattle.field_reader.specs.declared.Standing.{Standing}
+use Rattle.field_reader.specs.declared.Standing.TheVariants.{Head, Within}
 use Rattle.register.specs.Form.{due, with_kind, with_link, no_register, register_form, value_of, register_in, edge_of, after_head}
 use Rattle.register.specs.LinksAhead.{Accepted, cursor_at, OnLinks, to_come}
 use Rattle.register.proofs.Fields.{head_length, entry_length}
@@ -58,13 +58,13 @@ record Placed (s : List ℕ) (v : Register) : Type 0 where
   kinds_lie : KindsLie s 7 v.kinds
   links_lie : Lie s (7 + 4 * records v) v.links
 
-abbrev Ends : List ℕ → Position × Register → ℕ → Register → Type 0
-Ends s (Start, r) at v = r ≡ no_register → at ≡ 0 → Placed s v
+abbrev Ends : List ℕ → Standing Progress × Register → ℕ → Register → Type 0
+Ends s (Head, r) at v = r ≡ no_register → at ≡ 0 → Placed s v
 Ends s (Within q, r) at v = at ≤ length s → Rest s q r at v
 
 module _ (s : List ℕ) where
-  at_end : (st : Position × Register) (at : ℕ) → field_at (register_form.due st) s at ≡ ends → Ends s st at (register_form.value st)
-  at_end (Start, r) at e = absurd (false≢true (ended (due Start) s at e).may)
+  at_end : (st : Standing Progress × Register) (at : ℕ) → field_at (register_form.due st) s at ≡ ends → Ends s st at (register_form.value st)
+  at_end (Head, r) at e = absurd (false≢true (ended (due Head) s at e).may)
   at_end (Within q, r) at e = λ inside.
       let x = ended (due (Within q)) s at e in
       record {
@@ -138,13 +138,13 @@ module _ (s : List ℕ) where
             (ap (edge_at s) o ∙ body_edge at n hn, subst (λ (a : ℕ). Lie s a r.more_links) h r.links_lie);
       }
 
-  at_body : (st : Position × Register) (at t n : ℕ) (st' : Position × Register) (v : Register) → field_at (register_form.due st) s at ≡ body t n
+  at_body : (st : Standing Progress × Register) (at t n : ℕ) (st' : Standing Progress × Register) (v : Register) → field_at (register_form.due st) s at ≡ body t n
       → register_form.judge st at (at + 3 + n) t (take n (drop (at + 3) s)) ≡ got st' → Ends s st' (at + 3 + n) v → Ends s st at v
-  at_body (Start, x) at t n st' v e j ih = λ w z.
+  at_body (Head, x) at t n st' v e j ih = λ w z.
       by_head (λ y. Ends s y (at + 3 + n) v → Placed s v) x at (at + 3 + n) t (take n (drop (at + 3) s)) st' j
       (λ q g r.
       let h = (head_got at (take n (drop (at + 3) s)) q g).2 in
-      let room = (found (due Start) s at t n e).room in
+      let room = (found (due Head) s at t n e).room in
       let here = subst (λ (p : Progress). Rest s p x (at + 3 + n) v) (sym h) (r room) in
       after_31 at n v (head_length s at t n e) z room (subst (λ (y : Register). Rest s (after_head (take n (drop (at + 3) s))) y (at + 3 + n) v) w here))
       ih
@@ -164,7 +164,7 @@ module _ (s : List ℕ) where
 
   placed : (v : Register) → read register_form s ≡ got v → Placed s v
   unfolding read
-  placed v e = accepted_ind register_form s (Ends s) at_end at_body (suc (length s)) (Start, no_register) 0 v e refl refl
+  placed v e = accepted_ind register_form s (Ends s) at_end at_body (suc (length s)) (Head, no_register) 0 v e refl refl
 
 -- ---- kind i
 kinds_at : (s : List ℕ) (at : ℕ) (ks : List ℕ) (i : ℕ) → KindsLie s at ks → i < length ks → (at + 4 * i + 3 < length s) × (get_or s (at + 4 * i + 3) 0 ≡ get_or ks i 0)

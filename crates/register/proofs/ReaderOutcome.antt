@@ -9,10 +9,10 @@ use Rattle.theory.specs.Register.{records}
 use Rattle.fields.specs.declared.Refusal.{Refusal}
 use Rattle.theory.specs.Result.{refused}
 use Rattle.fields.specs.Reading.{read}
-use Rattle.fields.specs.Contract.{number_of, place_of}
+use Rattle.fields.specs.Contract.{number_of, place_of, read_said}
 use Rattle.fields.proofs.Bools.{told_refused}
 use Rattle.register.specs.Form.{register_form, register_in}
-use Rattle.register.specs.Contract.{RegisterSizes, read_said, sized}
+use Rattle.register.specs.Contract.{RegisterSizes, sized}
 use Rattle.register.specs.LinksAhead.{Accepted}
 use Rattle.register.proofs.AcceptedRegister.{accepted_sizes}
 

@@ -6,14 +6,14 @@ ghost use Rattle.std.specs.Iterator.{YieldsFirstBy, item_count};
 ghost use Rattle.fields.specs.Reading.{read};
 ghost use Rattle.theory.specs.Register.{kind};
 ghost use Rattle.register.specs.Form.{head_of, kind_of, link_of, entry_of, advance, key, register_format, register_form, register_in};
-ghost use Rattle.register.specs.Contract.{read_said, sizes, sized};
+ghost use Rattle.fields.specs.Contract.{read_said};
+ghost use Rattle.register.specs.Contract.{sizes, sized};
 ghost use Rattle.register.specs.Internal.{BodyReady};
 ghost use Rattle.register.specs.Passed.{KindAt, NumberAt, Passes, Passed};
 ghost use Rattle.register.specs.LinksAhead.{Accepted, OnLinks, Edges, to_come, edge_said};
 
-use fields::{
-    Due, File, HEAD, KIND_LENGTH, Kind, LINK_LENGTH, Link, REGISTER_LENGTH, Refusal, Seen,
-};
+use field_reader::Standing;
+use fields::{Due, File, HEAD, KIND_LENGTH, Kind, LINK_LENGTH, Link, REGISTER_LENGTH, Refusal};
 use std::marker::Model;
 
 // The bytes of a whole field of a kind, and of a link.
@@ -71,12 +71,6 @@ pub struct Progress {
     pub kindless: u16,
     pub left: u16,
     pub floor: u64,
-}
-
-#[derive(Clone, Copy)]
-pub enum Position {
-    Start,
-    Within(Progress),
 }
 
 fn judge_head(at: usize, b: &[u8]) -> Result<Progress, Refusal>
@@ -139,7 +133,7 @@ fn judge_link(q: Progress, at: usize, b: &[u8]) -> Result<Progress, Refusal>
 }
 
 fn judge_entry(q: Progress, at: usize, b: &[u8]) -> Result<Progress, Refusal>
-    requires { BodyReady (Position.Within q) (length b.now) }
+    requires { BodyReady (Standing.Within q) (length b.now) }
     ensures { read_said (λ q. q) result ≡ entry_of q at b.now }
 {
     if q.kindless == 0 {
@@ -149,26 +143,26 @@ fn judge_entry(q: Progress, at: usize, b: &[u8]) -> Result<Progress, Refusal>
     }
 }
 
-fn judge(st: Position, at: usize, b: &[u8]) -> Result<Progress, Refusal>
+fn judge(st: Standing<Progress>, at: usize, b: &[u8]) -> Result<Progress, Refusal>
     requires { BodyReady st (length b.now) }
     ensures { read_said (λ q. q) result ≡ advance st at b.now }
 {
     match st {
-        Position::Start => judge_head(at, b),
-        Position::Within(q) => judge_entry(q, at, b),
+        Standing::Head => judge_head(at, b),
+        Standing::Within(q) => judge_entry(q, at, b),
     }
 }
 
-fn due_at(st: Position) -> Due
+fn due_at(st: Standing<Progress>) -> Due
     ensures { result ≡ register_format.due st }
 {
     match st {
-        Position::Start => fields::rows_due(File::Register, fields::REGISTER_ROW, false, false),
-        Position::Within(q) if q.kindless == 0 => {
+        Standing::Head => fields::rows_due(File::Register, fields::REGISTER_ROW, false, false),
+        Standing::Within(q) if q.kindless == 0 => {
             let full = q.left == 0;
             fields::rows_due(File::Register, fields::LINK_ROW, full, full)
         }
-        Position::Within(_) => fields::rows_due(File::Register, fields::KIND_ROW, false, false),
+        Standing::Within(_) => fields::rows_due(File::Register, fields::KIND_ROW, false, false),
     }
 }
 
@@ -287,34 +281,26 @@ pub fn read(s: &[u8]) -> Result<Register<'_>, Refusal>
     ensures said { read_said (λ r. sizes r.records r.links) result ≡ sized (read register_form s.now) }
     ensures file { IfOk result (λ r. r.file.now ≡ s.now) }
 {
-    let mut st = Position::Start;
+    let mut st = Standing::Head;
     let mut at = 0;
-    loop {
-        match field_reader::field(s, at, due_at(st)) {
-            Seen::Ends => {
-                // No file ends before its head.
-                let Position::Within(q) = st else {
-                    unreachable!();
-                };
-                return Ok(Register {
-                    file: s,
-                    records: usize::from(q.records),
-                    links: usize::from(q.links),
-                });
-            }
-            Seen::Wrong(r) => return Err(r),
-            Seen::Body(_, len) => {
-                let q = judge(st, at, field_reader::body_at(s, at))?;
-                let r = past(s, at + HEAD + len as usize, q);
-                st = Position::Within(r.progress);
-                at = r.at;
-            }
-        }
+    while let Some(f) = fields::field(s, at, due_at(st))? {
+        let r = past(s, f.next, judge(st, f.at, f.body)?);
+        st = Standing::Within(r.progress);
+        at = r.at;
     }
+    // No file ends before its head.
+    let Standing::Within(q) = st else {
+        unreachable!();
+    };
+    Ok(Register {
+        file: s,
+        records: usize::from(q.records),
+        links: usize::from(q.links),
+    })
 }
 
 // A link of a register, from a record to a record.
-#[derive(Clone, Copy)]
+#[derive(Clone, Copy, PartialEq, Eq)]
 pub struct Edge {
     pub from: usize,
     pub link: Link,

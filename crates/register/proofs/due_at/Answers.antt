@@ -4,9 +4,9 @@ use Rattle.fields.specs.Table.{rows, rows_of}
 use borrow.Author.Tests.{eq-eqb, ne_eqb}
 use Rattle.register.proofs.due_at.Goals as goal
 
-pub returns-in-Start : goal.returns-in-Start
+pub returns-in-Head : goal.returns-in-Head
 unfolding rows_of rows
-returns-in-Start c = simp (← c.rows_due.ensures, c.in-Start.is)
+returns-in-Head c = simp (← c.rows_due.ensures, c.in-Head.is)
 
 pub returns-in-Within : goal.returns-in-Within
 unfolding rows_of rows

@@ -1,7 +1,7 @@
 -- `register::past_kinds` meets its contract: each turn takes one more field that is a kind's, whole and judged to be in range.
 -- Assumes nothing.
 use Rattle.fields.specs.Table.{rows, tag_length}
-use Rattle.register.specs.Contract.{read_said}
+use Rattle.fields.specs.Contract.{read_said}
 use mathlib.Core.Path.{◌∙◌, sym, ap}
 use lib.ListN.{length-take, length-drop}
 use Rattle.register.proofs.Passing.{kind_room, past_kind}

@@ -1,13 +1,13 @@
 -- What the code's enums say, in the words of theory and in the numbers of SPECIFICATION.
 -- Assumes nothing.
-use Rattle.std.specs.Prelude.{◌≡◌, ◌<◌, ℕ, Ok, Err, MatchResult}
+use Rattle.std.specs.Prelude.{◌≡◌, ◌<◌, ℕ, MatchResult}
 use Rattle.std.specs.Prelude as std
 use Rattle.fields.specs.declared.Refusal.{Refusal}
 use Rattle.symbols.specs.declared.NoDirection.{NoDirection}
 use Rattle.symbols.specs.Writing.{direction_number}
 use Rattle.theory.specs.PathExpr.{Direction, forward, reverse, named, Via, any, through, Op, union, conjunction, branch_right, branch_left, Symbol, s_step, s_join, s_op, s_closure}
-use Rattle.theory.specs.Result.{Result, got}
-use Rattle.fields.specs.Contract.{refusal_said}
+use Rattle.theory.specs.Result.{Result}
+use Rattle.fields.specs.Contract.{read_said}
 use Rattle.symbols.specs.declared.Direction as declared·Direction
 use Rattle.symbols.specs.declared.Direction.TheVariants as direction
 use Rattle.symbols.specs.declared.Via as declared·Via
@@ -17,6 +17,7 @@ use Rattle.symbols.specs.declared.Operator.TheVariants as operator
 use Rattle.symbols.specs.declared.Symbol as declared·Symbol
 use Rattle.symbols.specs.declared.Symbol.TheVariants as symbol
 use Rattle.symbols.specs.declared.Stack.{Stack}
+use Rattle.symbols.specs.declared.Numbered.{Numbered}
 
 abbrev pub direction_said : declared·Direction.Direction → Direction
 direction_said direction.Forward = forward
@@ -49,10 +50,9 @@ LinkFits (symbol.Join v) = Unit {0}
 LinkFits (symbol.Op o) = Unit {0}
 LinkFits symbol.Closure = Unit {0}
 
--- what reading gives, in theory's words
-abbrev pub read_said : {A : Type 0} → std.Result A Refusal → Result A
-read_said (Ok x) = got x
-read_said (Err r) = refusal_said r
+-- what reading a symbol gives, and a push
+abbrev pub numbered_said : std.Result Numbered Refusal → Result Numbered
+numbered_said a = read_said (λ x. x) a
 
 abbrev pub push_said : std.Result Stack Refusal → Result Stack
-push_said q = read_said q
+push_said a = read_said (λ q. q) a

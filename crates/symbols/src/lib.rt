@@ -7,7 +7,7 @@ ghost use Rattle.symbols.specs.Symbols.{symbol_numbered, number_symbol, numbered
 ghost use Rattle.symbols.specs.Symbols.{symbol_length, direction_numbered, step_of, operator_of, symbol_in, push, due_symbols};
 ghost use Rattle.theory.specs.PathExpr.{named, s_join, step_code, op_code};
 ghost use Rattle.symbols.specs.Writing.{direction_number};
-ghost use Rattle.symbols.specs.Contract.{direction_said, DirectionOf, via_said, operator_said, symbol_said, LinkFits, read_said, push_said};
+ghost use Rattle.symbols.specs.Contract.{direction_said, DirectionOf, via_said, operator_said, symbol_said, LinkFits, numbered_said, push_said};
 
 use fields::{Due, File, LINKS, Link, Refusal};
 
@@ -91,7 +91,7 @@ impl From<Operator> for u8 {
 }
 
 // A symbol.
-#[derive(Clone, Copy)]
+#[derive(Clone, Copy, PartialEq, Eq)]
 pub enum Symbol {
     Step(Direction, Link),
     Join(Via),
@@ -181,7 +181,7 @@ const SET_IN: usize = 0;
 #[tactic(auto, unfolding(crate::specs::Symbols::step_of, fields::specs::Table::tag_length, fields::specs::Table::rows))]
 fn step_in(at: usize, b: &[u8]) -> Result<Numbered, Refusal>
     requires { length b.now ≡ tag_length 0x43 }
-    ensures { read_said result ≡ step_of at b.now }
+    ensures { numbered_said result ≡ step_of at b.now }
 {
     match Direction::try_from(b[DIRECTION_IN]) {
         Ok(direction) if b[LINK_IN] < LINKS => {
@@ -195,7 +195,7 @@ fn step_in(at: usize, b: &[u8]) -> Result<Numbered, Refusal>
 #[tactic(auto, unfolding(crate::specs::Symbols::operator_of, fields::specs::Table::tag_length, fields::specs::Table::rows))]
 fn operator_in(at: usize, b: &[u8]) -> Result<Numbered, Refusal>
     requires { length b.now ≡ tag_length 0x44 }
-    ensures { read_said result ≡ operator_of at b.now }
+    ensures { numbered_said result ≡ operator_of at b.now }
 {
     match b[CODE_IN] {
         code @ JOIN..=CLOSURE => Ok(plain(code)),
@@ -207,7 +207,7 @@ fn operator_in(at: usize, b: &[u8]) -> Result<Numbered, Refusal>
 #[tactic(auto, unfolding(crate::specs::Symbols::symbol_in, fields::specs::Table::tag_length, fields::specs::Table::rows))]
 pub fn symbol_in(at: usize, tag: u8, b: &[u8]) -> Result<Numbered, Refusal>
     requires { length b.now ≡ symbol_length tag }
-    ensures { read_said result ≡ symbol_in at tag b.now }
+    ensures { numbered_said result ≡ symbol_in at tag b.now }
 {
     match tag {
         fields::STEP_TAG => step_in(at, b),

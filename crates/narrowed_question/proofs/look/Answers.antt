@@ -5,6 +5,7 @@ use Prim.Native.Nat.{◌+◌}
 use Rattle.fields.specs.Reading.{body, field_at}
 use Rattle.fields.proofs.Raws.{body_found}
 use Rattle.fields.proofs.Fields.{seen_at}
+use Rattle.std.proofs.lemmas.Result.{err_from_is_err_and}
 use Rattle.narrowed_question.specs.Form.{due, judge}
 use Rattle.narrowed_question.specs.Internal.{goes_on, turned, turned_by}
 use Rattle.narrowed_question.proofs.Tracks.{field_ready}
@@ -29,12 +30,24 @@ returns-in-Wrong c =
     let a = c.args in
     ap (turned_by a.st a.at a.s.now) (sym (seen_at _ _ c.due.ensures c.field.ensures c.in-Wrong.is))
 
-pub returns-in-Body : goal.returns-in-Body
+pub returns-in_ok-turn-in-Body : goal.returns-in_ok-turn-in-Body
 unfolding turned
-returns-in-Body c =
+returns-in_ok-turn-in-Body c =
     let a = c.args in
     let e : field_at (due a.st) a.s.now a.at ≡ body c.in-Body.tag c.in-Body.len =
     seen_at _ _ c.due.ensures c.field.ensures c.in-Body.is in
-    c.judge.ensures
+    ap goes_on c.in_ok-turn-in-Body.ensures
     ∙ ap (λ b. goes_on (judge a.st a.at (a.at + 3 + c.in-Body.len) c.in-Body.tag b)) (c.body_at.ensures ∙ body_found _ _ _ _ _ e)
     ∙ ap (turned_by a.st a.at a.s.now) (sym e)
+
+pub returns-in_err-turn-in-Body : goal.returns-in_err-turn-in-Body
+unfolding turned
+returns-in_err-turn-in-Body c =
+    let a = c.args in
+    let e : field_at (due a.st) a.s.now a.at ≡ body c.in-Body.tag c.in-Body.len =
+    seen_at _ _ c.due.ensures c.field.ensures c.in-Body.is in
+    let p = err_from_is_err_and c.from_residual.result c.from_residual.ensures.1 in
+    rw (p.1, p.2)
+    (ap goes_on c.in_err-turn-in-Body.ensures
+    ∙ ap (λ b. goes_on (judge a.st a.at (a.at + 3 + c.in-Body.len) c.in-Body.tag b)) (c.body_at.ensures ∙ body_found _ _ _ _ _ e)
+    ∙ ap (turned_by a.st a.at a.s.now) (sym e))

@@ -5,6 +5,7 @@ use borrow.Author.Tests.{lt-leb, le-leb}
 use Rattle.narrowed_question.specs.Form.{open_of}
 use borrow.Author.Rules.{rules}
 use Rattle.narrowed_question.proofs.open_member.Goals as goal
+use Rattle.narrowed_question.proofs.open_member.Goals.{then-n-lt1-via-then-n-lt1, then-n-lt1-via-else-n-lt1+then-n-gt-MOST_SIZE}
 
 pub bounds-b-0 : goal.bounds-b-0
 unfolding tag_length rows
@@ -12,11 +13,11 @@ bounds-b-0 c = search rules
 
 pub returns-then-n-lt1 : goal.returns-then-n-lt1
 unfolding open_of
-returns-then-n-lt1 c = simp (lt-leb _ _ c.if-n-lt1.true)
-
-pub returns-then-n-gt-MOST_SIZE : goal.returns-then-n-gt-MOST_SIZE
-unfolding open_of
-returns-then-n-gt-MOST_SIZE c = simp (lt-leb _ _ c.if-n-gt-MOST_SIZE.true, le-leb _ _ c.if-n-lt1.false)
+returns-then-n-lt1 c =
+    elim c.then-n-lt1.branch [
+      | then-n-lt1-via-then-n-lt1 w ↦ simp (lt-leb _ _ w.if-n-lt1.true)
+      | then-n-lt1-via-else-n-lt1+then-n-gt-MOST_SIZE w ↦ simp (lt-leb _ _ w.if-n-gt-MOST_SIZE.true, le-leb _ _ w.if-n-lt1.false)
+    ]
 
 pub eight_at-requires : goal.eight_at-requires
 unfolding tag_length rows

@@ -4,8 +4,8 @@ use Rattle.narrowed_question.proofs.Loop.{At}
 use Prim.Native.Nat.{◌-◌}
 use Rattle.narrowed_question.proofs.read_into.Given as goal
 
-abbrev pub invariant-loop-r : goal.invariant-loop-r
-invariant-loop-r l = At l.s l.sizes l.from l.to l.numbers l.sets l.k
+abbrev pub invariant-loop-turn : goal.invariant-loop-turn
+invariant-loop-turn l = At l.s l.members l.k
 
-abbrev pub decreases-loop-r : goal.decreases-loop-r
-decreases-loop-r l = length l.s - l.k.at
+abbrev pub decreases-loop-turn : goal.decreases-loop-turn
+decreases-loop-turn l = length l.s - l.k.at

@@ -11,7 +11,7 @@ ghost use Rattle.narrowed_question.specs.Contract.{ReadsNarrowed, Blank, ReadsIn
 ghost use Rattle.narrowed_question.specs.Internal.{BodyReady, judged_said, turn_said, Able, turned, head_kept, symbol_kept};
 
 use fields::{Due, File, Refusal, Seen};
-use symbols::{Numbered, Pushed, Read, Stack};
+use symbols::{Numbered, Stack};
 
 // The most symbols of all members.
 pub const SYMBOLS: usize = fields::MEMBERS * fields::MEMBER_SYMBOLS;
@@ -44,6 +44,7 @@ pub struct Members {
 
 impl Members {
     // No members.
+    #[tactic(auto, unfolding(fields::specs::Padded::padded))]
     pub fn blank() -> Members
         ensures { Blank result }
     {
@@ -107,20 +108,8 @@ pub struct Marks {
     pub used: usize,
 }
 
-fn due(st: Standing) -> Due
-    ensures { result ≡ narrowed_format.due st }
-{
-    match st {
-        Standing::Head => fields::rows_due(File::Narrowed, fields::NARROWED_ROW, false, false),
-        Standing::Between(l) => {
-            let full = l == 0;
-            fields::rows_due(File::Narrowed, fields::MEMBER_ROW, full, full)
-        }
-        Standing::Within(_, _, q) => symbols::symbols_due(File::Narrowed, q),
-    }
-}
-
 // 41: the number of members; refusal 3.
+#[tactic(auto, unfolding(fields::specs::Table::tag_length, fields::specs::Table::rows, crate::specs::Form::count_of))]
 fn count(at: usize, b: &[u8]) -> Result<Turn, Refusal>
     requires { length b.now ≡ tag_length 0x41 }
     ensures { judged_said result ≡ count_of at b.now }
@@ -133,6 +122,7 @@ fn count(at: usize, b: &[u8]) -> Result<Turn, Refusal>
 }
 
 // 42: the number of symbols and the two sets; refusal 3.
+#[tactic(auto, unfolding(fields::specs::Table::tag_length, fields::specs::Table::rows, crate::specs::Form::open_of))]
 fn open_member(left: u8, at: usize, b: &[u8]) -> Result<Turn, Refusal>
     requires { (length b.now ≡ tag_length 0x42) × (0 < left) }
     ensures { judged_said result ≡ open_of left at b.now }
@@ -151,6 +141,7 @@ fn open_member(left: u8, at: usize, b: &[u8]) -> Result<Turn, Refusal>
 }
 
 // 43, 44 or 45: a symbol; refusals 3 and 6.
+#[tactic(auto, unfolding(crate::specs::Form::member_symbol))]
 fn grow(
     left: u8,
     place: usize,
@@ -163,28 +154,40 @@ fn grow(
     requires { (length b.now ≡ symbol_length tag) × ((0 < q.left) × (q.depth < 255)) }
     ensures { judged_said result ≡ member_symbol left place q at next tag b.now }
 {
-    match symbols::symbol_in(at, tag, b) {
-        Read::Refused(r) => Err(r),
-        Read::Is(x) => match symbols::push_symbol(q, at, next, symbols::operands(x.number)) {
-            Pushed::Refused(r) => Err(r),
-            Pushed::Stands(t) => {
-                if t.left == 0 {
-                    return Ok(Turn::Last(x, left, place));
-                }
-                Ok(Turn::More(x, Standing::Within(left, place, t)))
-            }
-        },
+    let x = symbols::symbol_in(at, tag, b)?;
+    let q = q.push(at, next, symbols::operands(x.number))?;
+    if q.left == 0 {
+        return Ok(Turn::Last(x, left, place));
     }
+    Ok(Turn::More(x, Standing::Within(left, place, q)))
 }
 
-fn judge(st: Standing, at: usize, next: usize, tag: u8, b: &[u8]) -> Result<Turn, Refusal>
-    requires { BodyReady st tag (length b.now) }
-    ensures { judged_said result ≡ narrowed_format.judge st at next tag b.now }
-{
-    match st {
-        Standing::Head => count(at, b),
-        Standing::Between(left) => open_member(left, at, b),
-        Standing::Within(left, place, q) => grow(left, place, q, at, next, tag, b),
+impl Standing {
+    // What is due there.
+    #[tactic(auto, unfolding(fields::specs::Table::rows_of, fields::specs::Table::rows))]
+    fn due(self) -> Due
+        ensures { result ≡ narrowed_format.due self }
+    {
+        match self {
+            Standing::Head => fields::rows_due(File::Narrowed, fields::NARROWED_ROW, false, false),
+            Standing::Between(left) => {
+                let full = left == 0;
+                fields::rows_due(File::Narrowed, fields::MEMBER_ROW, full, full)
+            }
+            Standing::Within(_, _, q) => symbols::symbols_due(File::Narrowed, q),
+        }
+    }
+
+    // What the field of a tag and a body does there.
+    fn judge(self, at: usize, next: usize, tag: u8, b: &[u8]) -> Result<Turn, Refusal>
+        requires { BodyReady self tag (length b.now) }
+        ensures { judged_said result ≡ narrowed_format.judge self at next tag b.now }
+    {
+        match self {
+            Standing::Head => count(at, b),
+            Standing::Between(left) => open_member(left, at, b),
+            Standing::Within(left, place, q) => grow(left, place, q, at, next, tag, b),
+        }
     }
 }
 
@@ -207,12 +210,12 @@ fn look(s: &[u8], st: Standing, at: usize) -> Result<Option<Turn>, Refusal>
     requires { Able st × (at ≤ length s.now) }
     ensures { turn_said result ≡ turned st at s.now }
 {
-    match field_reader::field(s, at, due(st)) {
+    match field_reader::field(s, at, st.due()) {
         Seen::Ends => Ok(None),
         Seen::Wrong(r) => Err(r),
         Seen::Body(tag, len) => {
             let next = at + fields::HEAD + len as usize;
-            let turn = judge(st, at, next, tag, field_reader::body_at(s, at))?;
+            let turn = st.judge(at, next, tag, field_reader::body_at(s, at))?;
             Ok(Some(turn))
         }
     }

@@ -28,10 +28,6 @@ pub size_is : (c m : ℕ) → symbol_size c ≡ length (symbol_bytes (symbol_giv
 unfolding symbol_size
 size_is c m = ap field_size (sym (tag_same c m)) ∙ sym (field_length c (symbol_numbered c m)) ∙ sym (ap length (given_bytes c m refl))
 
-pub size_of : (c : ℕ) {s : Symbol} → symbol_numbered c 0 ≡ s → symbol_size c ≡ field_size (tag_of s)
-unfolding symbol_size
-size_of c e = ap (λ (s : Symbol). field_size (tag_of s)) e
-
 pub size_few : (c : ℕ) → symbol_size c ≤ 11
 unfolding symbol_size field_size tag_length rows
 size_few c = go (symbol_numbered c 0)

@@ -6,4 +6,4 @@ use native.Mathlib.Omega.{arith}
 use Rattle.encode.proofs.put_bytes.Goals as goal
 
 pub returns : goal.returns
-returns c = record { area = rw c.copy_from_slice.ensures.after (copied _ _ _ _ (omega arith) c.requires); next_is = refl }
+returns c = record { area = rw c.copy_from_slice.ensures.after (copied c.args.out.now c.args.bytes.now c.args.at _ (omega arith) c.requires); next_is = refl }

@@ -5,7 +5,7 @@ use Rattle.std.specs.Prelude.{◌≡◌, List, [], map, ℕ, ◌-◌, length, ta
 use Rattle.theory.specs.Lists.{concat_map}
 use Rattle.theory.specs.Result.{Result, got, refused, onward}
 use Rattle.fields.specs.declared.Refusal.{Refusal}
-use Rattle.fields.specs.Contract.{refusal_said}
+use Rattle.fields.specs.Contract.{read_said}
 use Rattle.symbols.specs.Symbols.{order_code}
 use Rattle.narrowed_question.specs.declared.Members.{Members}
 use Rattle.fields.specs.Padded.{padded}
@@ -37,11 +37,6 @@ pub record Packed (ms : List Flat) (q : Members) : Type 0 where
   pub sets : q.sets ≡ padded 6144 (sets_of ms)
 
 -- ---- what the code's results say
--- of a value what f says of it; of a refusal its number and place
-abbrev pub read_said : {A B : Type 0} → (A → B) → std.Result A Refusal → Result B
-read_said f (Ok x) = got (f x)
-read_said f (Err r) = refusal_said r
-
 abbrev pub counted : Result (List Flat) → Result ℕ
 counted a = onward (λ ms. got (length ms)) a
 

@@ -1,16 +1,17 @@
 // Reads a narrowed question's file: its members, into a struct that is lent or by value.
 #![tactic(auto)]
 
-ghost use Rattle.std.specs.Prelude.{◌≡◌, ◌+◌, ◌≤◌, ◌<◌, map, length};
+ghost use Rattle.std.specs.Prelude.{◌≡◌, ◌<◌, map, length};
 ghost use Rattle.theory.specs.PathExpr.{before?};
 ghost use Rattle.fields.specs.Table.{tag_length};
-ghost use Rattle.fields.specs.Reading.{read as read_file, word};
+ghost use Rattle.fields.specs.Reading.{read as read_file};
 ghost use Rattle.symbols.specs.Symbols.{symbol_length, order_code};
 ghost use Rattle.narrowed_question.specs.Form.{narrowed_form, count_of, open_of, member_symbol, narrowed_format};
 ghost use Rattle.narrowed_question.specs.Contract.{ReadsNarrowed, Blank, ReadsInto};
-ghost use Rattle.narrowed_question.specs.Internal.{BodyReady, judged_said, turn_said, Able, turned, head_kept, symbol_kept};
+ghost use Rattle.narrowed_question.specs.Internal.{BodyReady, judged_said, head_kept, symbol_kept};
 
-use fields::{Due, File, Refusal, Seen};
+use field_reader::Reader;
+use fields::{Due, File, Found, Refusal};
 use symbols::{Numbered, Stack};
 
 // The most symbols of all members.
@@ -86,80 +87,56 @@ pub enum Standing {
     Within(u8, usize, Stack),
 }
 
-// What a field does: it goes on; it opens a member, with its number of symbols and sets; it is a symbol; it is a member's last symbol,
-// with the members left and the place of its 42.
+// What a field hands over: nothing; a member's number of symbols and its sets; a symbol; a member's last symbol, with the place of its 42.
 #[derive(Clone, Copy)]
-pub enum Turn {
-    Go(Standing),
-    Open(u8, u64, u64, Standing),
-    More(Numbered, Standing),
-    Last(Numbered, u8, usize),
-}
-
-// How far the reading has come: where it stands, the place, the members done, where the symbols of the member before and of the open
-// one begin, and the symbols in all.
-#[derive(Clone, Copy)]
-pub struct Marks {
-    pub st: Standing,
-    pub at: usize,
-    pub done: usize,
-    pub prev: usize,
-    pub first: usize,
-    pub used: usize,
+pub enum Item {
+    Nothing,
+    Opens(u8, u64, u64),
+    Symbol(Numbered),
+    Last(Numbered, usize),
 }
 
 // 41: the number of members; refusal 3.
 #[tactic(auto, unfolding(fields::specs::Table::tag_length, fields::specs::Table::rows, crate::specs::Form::count_of))]
-fn count(at: usize, b: &[u8]) -> Result<Turn, Refusal>
-    requires { length b.now ≡ tag_length 0x41 }
-    ensures { judged_said result ≡ count_of at b.now }
+fn count(f: Found<'_>) -> Result<(Standing, Item), Refusal>
+    requires { length f.body.now ≡ tag_length 0x41 }
+    ensures { judged_said result ≡ count_of f.entry.at f.entry.body.now }
 {
-    let n = fields::two(b, MEMBERS_IN);
+    let n = fields::two(f.body, MEMBERS_IN);
     if MOST_MEMBERS < n {
-        return Err(Refusal::OutOfRange(at));
+        return Err(Refusal::OutOfRange(f.at));
     }
-    Ok(Turn::Go(Standing::Between(n as u8)))
+    Ok((Standing::Between(n as u8), Item::Nothing))
 }
 
 // 42: the number of symbols and the two sets; refusal 3.
 #[tactic(auto, unfolding(fields::specs::Table::tag_length, fields::specs::Table::rows, crate::specs::Form::open_of))]
-fn open_member(left: u8, at: usize, b: &[u8]) -> Result<Turn, Refusal>
-    requires { (length b.now ≡ tag_length 0x42) × (0 < left) }
-    ensures { judged_said result ≡ open_of left at b.now }
+fn open_member(left: u8, f: Found<'_>) -> Result<(Standing, Item), Refusal>
+    requires { (length f.body.now ≡ tag_length 0x42) × (0 < left) }
+    ensures { judged_said result ≡ open_of left f.entry.at f.entry.body.now }
 {
-    let n = b[SIZE_IN];
+    let n = f.body[SIZE_IN];
     if n < 1 || MOST_SIZE < n {
-        return Err(Refusal::OutOfRange(at));
+        return Err(Refusal::OutOfRange(f.at));
     }
-    let st = Standing::Within(left - 1, at, Stack { left: n, depth: 0 });
-    Ok(Turn::Open(
-        n,
-        fields::eight_at(b, FROM_IN),
-        fields::eight_at(b, TO_IN),
-        st,
-    ))
+    let st = Standing::Within(left - 1, f.at, Stack { left: n, depth: 0 });
+    let from = fields::eight_at(f.body, FROM_IN);
+    let to = fields::eight_at(f.body, TO_IN);
+    Ok((st, Item::Opens(n, from, to)))
 }
 
 // 43, 44 or 45: a symbol; refusals 3 and 6.
 #[tactic(auto, unfolding(crate::specs::Form::member_symbol))]
-fn grow(
-    left: u8,
-    place: usize,
-    q: Stack,
-    at: usize,
-    next: usize,
-    tag: u8,
-    b: &[u8],
-) -> Result<Turn, Refusal>
-    requires { (length b.now ≡ symbol_length tag) × ((0 < q.left) × (q.depth < 255)) }
-    ensures { judged_said result ≡ member_symbol left place q at next tag b.now }
+fn grow(left: u8, place: usize, q: Stack, f: Found<'_>) -> Result<(Standing, Item), Refusal>
+    requires { (length f.body.now ≡ symbol_length f.tag) × ((0 < q.left) × (q.depth < 255)) }
+    ensures { judged_said result ≡ member_symbol left place q f.entry.at f.entry.next f.entry.tag f.entry.body.now }
 {
-    let x = symbols::symbol_in(at, tag, b)?;
-    let q = q.push(at, next, symbols::operands(x.number))?;
+    let x = symbols::symbol_in(f.at, f.tag, f.body)?;
+    let q = q.push(f.at, f.next, symbols::operands(x.number))?;
     if q.left == 0 {
-        return Ok(Turn::Last(x, left, place));
+        return Ok((Standing::Between(left), Item::Last(x, place)));
     }
-    Ok(Turn::More(x, Standing::Within(left, place, q)))
+    Ok((Standing::Within(left, place, q), Item::Symbol(x)))
 }
 
 impl Standing {
@@ -178,15 +155,15 @@ impl Standing {
         }
     }
 
-    // What the field of a tag and a body does there.
-    fn judge(self, at: usize, next: usize, tag: u8, b: &[u8]) -> Result<Turn, Refusal>
-        requires { BodyReady self tag (length b.now) }
-        ensures { judged_said result ≡ narrowed_format.judge self at next tag b.now }
+    // Where the field leads from there, and what it hands over.
+    fn judge(self, f: Found<'_>) -> Result<(Standing, Item), Refusal>
+        requires { BodyReady self f.tag (length f.body.now) }
+        ensures { judged_said result ≡ narrowed_format.judge self f.entry.at f.entry.next f.entry.tag f.entry.body.now }
     {
         match self {
-            Standing::Head => count(at, b),
-            Standing::Between(left) => open_member(left, at, b),
-            Standing::Within(left, place, q) => grow(left, place, q, at, next, tag, b),
+            Standing::Head => count(f),
+            Standing::Between(left) => open_member(left, f),
+            Standing::Within(left, place, q) => grow(left, place, q, f),
         }
     }
 }
@@ -205,81 +182,42 @@ pub fn earlier(a: &[u8], b: &[u8]) -> bool
     a.len() < b.len()
 }
 
-// Judges the field at a place; None where the file ends before it.
-fn look(s: &[u8], st: Standing, at: usize) -> Result<Option<Turn>, Refusal>
-    requires { Able st × (at ≤ length s.now) }
-    ensures { turn_said result ≡ turned st at s.now }
-{
-    match field_reader::field(s, at, st.due()) {
-        Seen::Ends => Ok(None),
-        Seen::Wrong(r) => Err(r),
-        Seen::Body(tag, len) => {
-            let next = at + fields::HEAD + len as usize;
-            let turn = st.judge(at, next, tag, field_reader::body_at(s, at))?;
-            Ok(Some(turn))
-        }
-    }
-}
-
-// The place after the field at a place.
-fn next_at(s: &[u8], at: usize) -> usize
-    requires { at + 3 + word s.now (at + 1) ≤ length s.now }
-    ensures { result ≡ at + 3 + word s.now (at + 1) }
-{
-    at + fields::HEAD + fields::two(s, at + 1) as usize
-}
-
 // Reads a narrowed question's file into a struct that is lent, blank. Of a refused file it holds what was read of it, and counts none.
 pub fn read_into(s: &[u8], members: &mut Members) -> Result<(), Refusal>
     requires { Blank members.old }
     ensures { ReadsInto (read_file narrowed_form s.now) result members.new }
 {
-    let mut k = Marks {
-        st: Standing::Head,
-        at: 0,
-        done: 0,
-        prev: 0,
-        first: 0,
-        used: 0,
-    };
-    while let Some(turn) = look(s, k.st, k.at)? {
-        let at = next_at(s, k.at);
-        match turn {
-            Turn::Go(st) => {
-                k = Marks { st, at, ..k };
+    let mut reader = Reader::new(s);
+    let mut st = Standing::Head;
+    // The members done, and the symbols; where those of the member before and of the open one begin.
+    let mut done = 0;
+    let mut used = 0;
+    let mut prev = 0;
+    let mut first = 0;
+    while let Some(f) = reader.next(st.due())? {
+        let (next, item) = st.judge(f)?;
+        st = next;
+        match item {
+            Item::Nothing => {}
+            Item::Opens(n, from, to) => members.keep_head(done, n, from, to),
+            Item::Symbol(x) => {
+                members.keep(used, x);
+                used += 1;
             }
-            Turn::Open(n, from, to, st) => {
-                members.keep_head(k.done, n, from, to);
-                k = Marks { st, at, ..k };
-            }
-            Turn::More(x, st) => {
-                members.keep(k.used, x);
-                k = Marks {
-                    st,
-                    at,
-                    used: k.used + 1,
-                    ..k
-                };
-            }
-            Turn::Last(x, left, place) => {
-                members.keep(k.used, x);
-                let end = k.used + 1;
+            Item::Last(x, place) => {
+                members.keep(used, x);
+                used += 1;
                 let numbers: &[u8] = &members.numbers;
-                if !earlier(&numbers[k.prev..k.first], &numbers[k.first..end]) {
+                if !earlier(&numbers[prev..first], &numbers[first..used]) {
                     return Err(Refusal::NotAscending(place));
                 }
-                k = Marks {
-                    st: Standing::Between(left),
-                    at,
-                    done: k.done + 1,
-                    prev: k.first,
-                    first: end,
-                    used: end,
-                };
+                done += 1;
+                prev = first;
+                first = used;
             }
         }
     }
-    members.count = k.done;
+    members.count = done;
     Ok(())
 }
 

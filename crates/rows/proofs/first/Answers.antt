@@ -11,7 +11,7 @@ pub returns-then-v-ne0 : goal.returns-then-v-ne0
 returns-then-v-ne0 c =
     let a = c.args in
     let l = c.loop-i in
-    least_here a.words.now a.r a.a.now a.b.now a.n l.i c.lowest.result l.invariant.1 c.lowest.ensures (omega arith)
+    (omega (arith, c.lowest.ensures.small), least_here a.words.now a.r a.a.now a.b.now a.n l.i c.lowest.result l.invariant.1 c.lowest.ensures (omega arith))
 
 pub loop-i-preserved : goal.loop-i-preserved
 loop-i-preserved c =

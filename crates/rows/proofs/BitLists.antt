@@ -1,18 +1,16 @@
 -- The bits of a word as a list, the lowest first: how it begins, and what is left of it.
 -- Assumes nothing.
 use mathlib.Core.Path.{◌≡◌, refl, sym, ap, ap₂, ◌∙◌}
-use mathlib.Core.Bool.{Bool, true, false, ◌&&◌, not, cond, and-true, and-false, true≢false, false≢true}
+use mathlib.Core.Bool.{Bool, true, false, ◌&&◌, not, and-true, and-false, true≢false, false≢true}
 use mathlib.Core.List.{List, [], ◌∷◌}
 use mathlib.Core.Logic.{⊎_elim}
 use Prim.Native.Nat.{ℕ, zero, suc, ◌+◌, ◌-◌, ◌/◌, ◌%◌, ◌≤◌, ◌<◌}
 use native.Mathlib.Nat.{eq-or-lt_of_le}
-use native.Mathlib.Numerals.{add-one}
 use native.Mathlib.Omega.{arith}
 use lib.Bits.{bit_and}
-use lib.Dec.{eqb, eqb-suc-zero, eqb-zero-suc, eqb-suc-suc}
-use lib.ListN.{length}
+use lib.Dec.{eqb, eqb-suc-zero, eqb-suc-suc}
 use borrow.Author.Tests.{eq-eqb, ne_eqb}
-use Rattle.theory.specs.Lists.{filter, tabulate, range}
+use Rattle.theory.specs.Lists.{filter, tabulate}
 use Rattle.bits.specs.Bit.{bit_of, Lowest}
 use Rattle.bits.proofs.Bits.{bit_zero, bit_low_one, bit_low_zero, bit_suc, bit_of_and, digit_ind, digit}
 use Rattle.rows.specs.BitList.{ones}

@@ -2,10 +2,8 @@
 -- Assumes nothing.
 use Rattle.rows.proofs.Folded.{row_words, folded_none, folded_more, folded_any}
 use Rattle.rows.proofs.Words.{part_word}
-use Prim.Native.Nat.{◌+◌, ◌-◌, ◌<◌}
-use mathlib.Core.Path.{◌≡◌}
-use lib.ListN.{length}
-use borrow.Rule.Slice.PartMut.{mid_of, mid_len}
+use Prim.Native.Nat.{◌+◌, ◌<◌}
+use borrow.Rule.Slice.PartMut.{mid_len}
 use native.Mathlib.Omega.{arith}
 use Rattle.rows.proofs.any.Goals as goal
 

@@ -2,7 +2,7 @@
 -- Assumes nothing.
 use mathlib.Core.Path.{ap, ◌∙◌}
 use Prim.Native.Nat.{◌+◌}
-use lib.ListN.{get_or, length, length-replicate, get_or-replicate}
+use lib.ListN.{get_or, get_or-replicate}
 use borrow.Rule.Slice.PartMut.{mid_len}
 use native.Mathlib.Omega.{arith}
 use Rattle.rows.proofs.Words.{wrote_part}

@@ -1,7 +1,7 @@
 // Rows of bits in words that are lent: bit t of the row at word r is bit t mod 64 of word r + t div 64.
 #![tactic(auto)]
 
-ghost use Rattle.std.specs.Prelude.{◌≡◌, refl, Bool, ℕ, ◌&&◌, ◌||◌, not, ◌+◌, ◌*◌, ◌/◌, ◌<◌, ◌≤◌, eqb, length};
+ghost use Rattle.std.specs.Prelude.{◌≡◌, Bool, ℕ, ◌&&◌, ◌||◌, not, ◌+◌, ◌*◌, ◌/◌, ◌<◌, ◌≤◌, eqb, length};
 ghost use Rattle.std.specs.Int.Bits.{bit_or, bit_and, bit_xor};
 ghost use Rattle.std.specs.Iterator.{YieldsFirst, item_count};
 ghost use Rattle.theory.specs.Lists.{some?, range};
@@ -133,21 +133,6 @@ pub trait Merge {
     ghost bits: { (x y k : ℕ) → bit_of (word x y) k ≡ bit (bit_of x k) (bit_of y k) };
 }
 
-// It becomes the other.
-pub struct Copied;
-
-impl Merge for Copied {
-    ghost word = { λ x y. y };
-
-    ghost bit = { λ a b. b };
-
-    fn merged(_x: u64, y: u64) -> u64 {
-        y
-    }
-
-    ghost bits = { λ x y k. refl };
-}
-
 // It takes in the other's bits.
 pub struct United;
 
@@ -208,7 +193,7 @@ pub fn copy(to: &mut [u64], d: usize, from: &[u64], s: usize, n: usize)
     requires { (d + n ≤ length to.old) × (s + n ≤ length from.now) }
     ensures { Row d n (row_bit from.now s) to.old to.new }
 {
-    merge_into::<Copied>(to, d, from, s, n);
+    to[d..d + n].copy_from_slice(&from[s..s + n]);
 }
 
 // The row of n words at d takes in the bits of the one at s.

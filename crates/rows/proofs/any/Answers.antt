@@ -7,9 +7,6 @@ use borrow.Rule.Slice.PartMut.{mid_len}
 use native.Mathlib.Omega.{arith}
 use Rattle.rows.proofs.any.Goals as goal
 
-pub loop-x-init : goal.loop-x-init
-loop-x-init c = (omega arith, folded_none _)
-
 pub loop-x-preserved : goal.loop-x-preserved
 loop-x-preserved c =
     let a = c.args in

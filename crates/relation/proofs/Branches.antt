@@ -1,20 +1,18 @@
 -- Branches: the pairs of one relation, where a pair of the other starts from their end or from their start.
 -- Assumes nothing.
-use mathlib.Core.Path.{◌≡◌, refl, sym, ap, ap₂, ◌∙◌}
+use mathlib.Core.Path.{◌≡◌, sym, ap, ap₂, ◌∙◌}
 use mathlib.Core.Bool.{Bool, true, false, ◌&&◌, and-true, and-false}
 use mathlib.Core.List.{List}
 use mathlib.Core.Logic.{⊎_elim}
-use Prim.Native.Nat.{ℕ, ◌+◌, ◌-◌, ◌*◌, ◌≤◌, ◌<◌}
+use Prim.Native.Nat.{ℕ, ◌+◌, ◌*◌, ◌≤◌, ◌<◌}
 use native.Mathlib.Omega.{arith}
-use lib.ListN.{length, get_or}
-use Rattle.std.specs.List.{CopiedTo, SameBelow, SameFrom}
 use Rattle.theory.specs.Lists.{some?, range}
 use Rattle.theory.specs.PathExpr.{branch_right, branch_left}
 use Rattle.theory.specs.Evaluation.{op?}
 use Rattle.rows.specs.Row.{row_bit, Row, mask_of}
 use Rattle.rows.proofs.Words.{le_or_lt}
 use Rattle.rows.proofs.Ranges.{some_same, some_no}
-use Rattle.rows.proofs.Rows.{row_is, row_same, row_merged}
+use Rattle.rows.proofs.Rows.{row_is, row_same}
 use Rattle.rows.proofs.Masks.{mask_at}
 use Rattle.relation.specs.Pairs.{pair_at, Made, CleanRow, Clean}
 use Rattle.relation.proofs.Making.{row_le, made_is}
@@ -31,15 +29,6 @@ branched {p} {n} {w} {ms = ms} {xs = xs} q c r m =
     (le_or_lt n t))
 
 -- ---- to the left: the row at s, where the one at d has a bit
--- the words at s were copied to those at d
-pub row_copied : {d w : ℕ} {xs ys : List ℕ} (s : ℕ) → length ys ≡ length xs → CopiedTo xs ys s d (s + w - s) × SameBelow xs ys d × SameFrom xs ys (d + (s + w - s)) → Row d w (row_bit xs s) xs ys
-row_copied {d} {w} {xs} s l c =
-    row_merged xs s (λ x y. y) (λ x y. y) (λ x y k. refl)
-    (record {
-      kept = record { len = l; below = λ k h. c.1 k 0 h; above = λ k h. c.2 k 0 (omega arith) };
-      word = λ j h. c.0 (d + j) 0 (omega arith) (omega arith) ∙ ap (λ (i : ℕ). get_or xs i 0) (omega arith);
-    })
-
 module _ (xs : List ℕ) (d s n w : ℕ) (c : CleanRow xs d n w) (hn : n ≤ 64 * w) where
   abbrev branch : ℕ → Bool
   branch t = row_bit xs s t && some? (row_bit xs d) (range n)

@@ -10,7 +10,7 @@ ghost use Rattle.theory.specs.Evaluation.{join?, op?};
 ghost use Rattle.rows.specs.Row.{row_bit, Row, mask_of, Word};
 ghost use Rattle.relation.specs.Pairs.{pair_at, Made, Combined, Clean, CleanRow, taken, taken_row, followed};
 
-use rows::{Ones, Restricted, United};
+use rows::{Copied, Ones, Restricted, United};
 
 // Adds the pair (s, t) to the relation at b.
 pub fn set_pair(work: &mut [u64], b: usize, n: usize, w: usize, s: usize, t: usize)
@@ -210,7 +210,7 @@ fn branch_row(work: &mut [u64], d: usize, s: usize, n: usize, w: usize)
     ensures { Row d w (λ t. row_bit work.old s t && some? (row_bit work.old d) (range n)) work.old work.new }
 {
     if rows::any(work, d, w) {
-        work.copy_within(s..s + w, d);
+        rows::merge_within::<Copied>(work, d, s, w);
     }
 }
 

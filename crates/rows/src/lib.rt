@@ -1,7 +1,7 @@
 // Rows of bits in words that are lent: bit t of the row at word r is bit t mod 64 of word r + t div 64.
 #![tactic(auto)]
 
-ghost use Rattle.std.specs.Prelude.{◌≡◌, Bool, ℕ, ◌&&◌, ◌||◌, not, ◌+◌, ◌*◌, ◌/◌, ◌<◌, ◌≤◌, eqb, length};
+ghost use Rattle.std.specs.Prelude.{◌≡◌, refl, Bool, ℕ, ◌&&◌, ◌||◌, not, ◌+◌, ◌*◌, ◌/◌, ◌<◌, ◌≤◌, eqb, length};
 ghost use Rattle.std.specs.Int.Bits.{bit_or, bit_and, bit_xor};
 ghost use Rattle.std.specs.Iterator.{YieldsFirst, item_count};
 ghost use Rattle.theory.specs.Lists.{some?, range};
@@ -131,6 +131,21 @@ pub trait Merge {
 
     // A merged word has the merged bits.
     ghost bits: { (x y k : ℕ) → bit_of (word x y) k ≡ bit (bit_of x k) (bit_of y k) };
+}
+
+// It becomes the other.
+pub struct Copied;
+
+impl Merge for Copied {
+    ghost word = { λ x y. y };
+
+    ghost bit = { λ a b. b };
+
+    fn merged(_x: u64, y: u64) -> u64 {
+        y
+    }
+
+    ghost bits = { λ x y k. refl };
 }
 
 // It takes in the other's bits.

@@ -44,9 +44,9 @@ struct Marks {
 // Row s on its way to the closure's, and the rows that it has still to take in where it has them.
 #[derive(Drop)]
 struct Growth {
-    s: usize,
     row: Row,
     left: Row,
+    s: usize,
 }
 
 impl Growth {
@@ -127,9 +127,9 @@ fn finish(work: &mut [u64], m: &mut Marks, p: Place, s: usize)
     ensures { StageTo p work.old m.old work.new m.new × (row_bit m.new.pending 0 s ≡ false) }
 {
     let mut g = Growth {
-        s,
         row: [0u64; WIDEST],
         left: m.live,
+        s,
     };
     rows::copy(&mut g.row, 0, work, p.row(s), p.w);
     g.reach(work, m, p);

@@ -1,6 +1,6 @@
 -- `relation::branch_row` meets its contract: where the row has a bit the other row takes its place, and where it has none it stays empty.
 -- Assumes nothing.
-use Rattle.relation.proofs.Branches.{row_copied, branch_yes, branch_no}
+use Rattle.relation.proofs.Branches.{branch_yes, branch_no}
 use mathlib.Core.Path.{sym, ◌∙◌}
 use native.Mathlib.Omega.{arith}
 use Rattle.relation.proofs.branch_row.Goals as goal
@@ -8,8 +8,7 @@ use Rattle.relation.proofs.branch_row.Goals as goal
 pub returns-then-any : goal.returns-then-any
 returns-then-any c =
     let a = c.args in
-    let e = c.copy_within.ensures in
-    branch_yes _ a.d a.s a.n _ c.requires.4 (omega arith) (sym c.any.ensures ∙ c.if-any.true) (row_copied a.s e.len e.by_index)
+    branch_yes _ a.d a.s a.n _ c.requires.4 (omega arith) (sym c.any.ensures ∙ c.if-any.true) c.merge_within.ensures
 
 pub returns-else-any : goal.returns-else-any
 returns-else-any c =

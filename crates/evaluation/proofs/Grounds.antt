@@ -10,9 +10,9 @@ use Rattle.theory.specs.Words.{row_words}
 use Rattle.register.specs.LinksAhead.{Accepted}
 use Rattle.register.specs.Form.{register_in}
 use Rattle.register.proofs.AcceptedRegister.{Limits, accepted_register}
-use Rattle.evaluation.specs.Ground.{Ground}
+use Rattle.evaluation.specs.Grounded.{Grounded}
 
-module _ {s : List ℕ} {n w : ℕ} (g : Ground s n w) where
+module _ {s : List ℕ} {n w : ℕ} (g : Grounded s n w) where
   pub limits : Limits (register_in s)
   limits = accepted_register s (register_in s) g.accepted
 
@@ -28,5 +28,5 @@ module _ {s : List ℕ} {n w : ℕ} (g : Ground s n w) where
   pub small : n * w ≤ 16384
   small = omega (arith, mul-le-mul few narrow)
 
-pub stands : {s : List ℕ} {n w : ℕ} → Accepted s → records (register_in s) ≡ n → w ≡ row_words n → Ground s n w
+pub stands : {s : List ℕ} {n w : ℕ} → Accepted s → records (register_in s) ≡ n → w ≡ row_words n → Grounded s n w
 stands a c w = record { accepted = a; count = c; wide = sym w }

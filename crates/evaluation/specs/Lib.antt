@@ -1,2 +1,2 @@
-pub mod Ground
+pub mod Grounded
 pub mod Stack

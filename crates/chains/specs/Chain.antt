@@ -10,8 +10,7 @@ use Rattle.theory.specs.Evaluation.{evaluate}
 use Rattle.rows.specs.Kept.{Kept}
 use Rattle.rows.specs.Row.{row_bit}
 use Rattle.evaluation.specs.Stack.{Stored}
-use Rattle.register.specs.Form.{register_in}
-use Rattle.evaluation.specs.declared.Ground.{Ground}
+use Rattle.evaluation.specs.Standing.{register_on}
 use Rattle.kind_rows.specs.declared.KindTable.{KindTable}
 use Rattle.kind_rows.specs.Kinds.{in_set}
 
@@ -45,13 +44,9 @@ pub record Held (r : Register) (n w : ℕ) (held : List (Option ℕ)) (xs : List
   pub few : length held ≡ 4
   pub stored : (k c : ℕ) → k < 4 → get_or held k None ≡ Some c → IsStep c → Stored xs ((24 + k) * (n * w)) n w (look (evaluate r (step_numbered c)))
 
--- the words of a relation of a ground
-abbrev pub size : Ground → ℕ
-size g = g.records * g.words
-
 -- the same of a table's register
 abbrev pub HeldOn : KindTable → List (Option ℕ) → List ℕ → Type 0
-HeldOn t held xs = Held (register_in t.ground.register.now) t.ground.records t.ground.words held xs
+HeldOn t held xs = Held (register_on t.ground) t.ground.records t.ground.words held xs
 
 -- what is held stays so
 pub record StillHeld (held held' : List (Option ℕ)) : Type 0 where

@@ -2,8 +2,8 @@
 -- Assumes nothing.
 use Rattle.std.specs.Prelude.{Bool, List, ℕ}
 use Rattle.theory.specs.PathExpr.{PathExpr}
-use Rattle.register.specs.Form.{register_in}
-use Rattle.evaluation.specs.declared.Ground.{Ground}
+use Rattle.evaluation.specs.declared.ground.Ground.{Ground}
+use Rattle.evaluation.specs.Standing.{register_on}
 use Rattle.chains.specs.declared.Route.{Route}
 use Rattle.chains.specs.declared.Walk.{Walk}
 use Rattle.chains.specs.Routed.{routed, Routed, Leads}
@@ -14,7 +14,7 @@ RoutedOn g xs r = Routed xs r.bases r.masks g.records g.words r.links
 
 -- its pairs are those of a path
 abbrev pub LeadsOn : Ground → List ℕ → Route → PathExpr → Type 0
-LeadsOn g xs r p = Leads (register_in g.register.now) xs r.bases r.masks g.records g.words r.links p
+LeadsOn g xs r p = Leads (register_on g) xs r.bases r.masks g.records g.words r.links p
 
 -- the pairs of a walk
 abbrev pub walked : Walk → ℕ → ℕ → Bool

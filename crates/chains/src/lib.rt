@@ -6,14 +6,12 @@
 ghost use Rattle.std.specs.Prelude.{◌≡◌, true, false, ◌&&◌, ◌||◌, ℕ, ◌+◌, ◌*◌, ◌/◌, ◌<◌, ◌≤◌, length, get_or, set, replicate, None, Some, IfSome};
 ghost use Rattle.std.proofs.Math.Option.{some};
 ghost use Rattle.theory.specs.PathExpr.{PathExpr};
-ghost use Rattle.theory.specs.Postfix.{path_of};
-ghost use Rattle.register.specs.Form.{register_in};
 ghost use Rattle.rows.specs.Kept.{Kept};
 ghost use Rattle.rows.specs.Row.{row_bit, Row};
 ghost use Rattle.relation.specs.Pairs.{pair_at, Made, CleanRow};
-ghost use Rattle.evaluation.specs.Grounded.{symbols_of};
+ghost use Rattle.evaluation.specs.Standing.{size, path_in};
 ghost use Rattle.kind_rows.specs.Kinds.{in_set, OfRecords};
-ghost use Rattle.chains.specs.Chain.{IsStep, Chained, size, HeldOn, StillHeld, LinkLaid, Laid};
+ghost use Rattle.chains.specs.Chain.{IsStep, Chained, HeldOn, StillHeld, LinkLaid, Laid};
 ghost use Rattle.chains.specs.Routed.{Routed, between, Gained};
 
 use evaluation::Symbols;
@@ -190,8 +188,7 @@ impl Route {
         ensures kept { Kept (24 * size table.now.ground) (28 * size table.now.ground) work.old work.new }
         ensures links { result ≡ true → self.new.links ≡ length symbols.now.numbers.now / 2 }
         ensures routed { result ≡ true → RoutedOn table.now.ground work.new self.new }
-        ensures leads { result ≡ true → (p : PathExpr) → path_of (symbols_of symbols.now.numbers.now symbols.now.sets.now) ≡ some p
-            → LeadsOn table.now.ground work.new self.new p }
+        ensures leads { result ≡ true → (p : PathExpr) → path_in symbols.now ≡ some p → LeadsOn table.now.ground work.new self.new p }
     {
         if !chained(symbols.numbers) {
             return false;

@@ -2,8 +2,9 @@
 #![tactic(auto)]
 
 ghost use Rattle.std.specs.Prelude.{◌*◌, ◌≤◌, length};
-ghost use Rattle.register.specs.Form.{register_in};
 ghost use Rattle.rows.specs.Row.{Row};
+ghost use Rattle.register.specs.Form.{register_in};
+ghost use Rattle.evaluation.specs.Standing.{register_on};
 ghost use Rattle.kind_rows.specs.Kinds.{KindRows, in_set};
 
 use evaluation::Ground;
@@ -25,7 +26,7 @@ pub struct KindTable<'a> {
 // The table becomes that of a register.
 pub fn fill(kinds: &mut [u64], ground: &Ground<'_>)
     requires { 64 * ground.now.words ≤ length kinds.old }
-    ensures { KindRows (register_in ground.now.register.now) ground.now.records ground.now.words kinds.new }
+    ensures { KindRows (register_on ground.now) ground.now.records ground.now.words kinds.new }
 {
     rows::clear(kinds, 0, KINDS * ground.words);
     for t in 0..ground.records {

@@ -2,10 +2,10 @@
 use lib.ListN.{length}
 use Rattle.evaluation.proofs.SymbolLoop.{Going}
 use Rattle.register.specs.Form.{register_in}
-use Prim.Native.Nat.{◌≤◌}
 use Rattle.evaluation.proofs.evaluate.Given as goal
 
-abbrev pub invariant-loop-i : goal.invariant-loop-i
-invariant-loop-i l =
-    let ns = l.symbols.numbers.now in
-    (l.i ≤ length ns) × Going (register_in l.ground.register.now) l.ground.records l.ground.words ns l.symbols.sets.now (length ns) l.initial.work l.work l.b l.i
+abbrev pub invariant-loop-number : goal.invariant-loop-number
+invariant-loop-number l =
+    let g = l.ground in
+    let ns = l.path.symbols.numbers.now in
+    Going (register_in g.register.now) g.records g.words ns l.path.symbols.sets.now (length ns) l.initial.work l.work l.b (length l.yielded)

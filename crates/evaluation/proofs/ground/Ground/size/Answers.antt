@@ -3,7 +3,7 @@
 use mathlib.Core.Path.{refl}
 use Rattle.evaluation.proofs.Grounds.{few, small}
 use native.Mathlib.Omega.{arith}
-use Rattle.evaluation.proofs.Ground.size.Goals as goal
+use Rattle.evaluation.proofs.ground.Ground.size.Goals as goal
 
 pub overflow_mul-result : goal.overflow_mul-result
 overflow_mul-result c = let g = c.args.self.now.grounded in omega (arith, few g, small g)

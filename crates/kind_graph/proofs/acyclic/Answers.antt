@@ -8,5 +8,4 @@ pub returns-then-has : goal.returns-then-has
 returns-then-has c = tells_cyclic _ _ c.args.b.0 c.requires.1 (sym c.has.ensures ∙ c.if-has.true)
 
 pub returns : goal.returns
-returns c =
-    tells_acyclic _ _ _ c.requires.1 c.requires.2 (sym c.has.ensures ∙ c.if-has.false) c.has-2.ensures
+returns c = tells_acyclic _ _ _ c.requires.1 c.requires.2 (sym c.has.ensures ∙ c.if-has.false) c.has-2.ensures

@@ -18,12 +18,10 @@ pub round-requires : goal.round-requires
 round-requires c = (c.requires, c.loop-n.invariant.1.long, refl, rounds_small c.loop-n.invariant.1)
 
 pub returns-then-not-at_most-2 : goal.returns-then-not-at_most-2
-returns-then-not-at_most-2 c =
-    rounds_long c.loop-n.invariant.1 c.round.ensures (omega (arith, c.loop-n-test.true)) (c.at_most-in-loop-n-2.ensures.fails c.if-not-at_most-2.true)
+returns-then-not-at_most-2 c = rounds_long c.loop-n.invariant.1 c.round.ensures (omega (arith, c.loop-n-test.true)) (c.at_most-in-loop-n-2.ensures.fails c.if-not-at_most-2.true)
 
 pub loop-n-preserved : goal.loop-n-preserved
-loop-n-preserved c =
-    (omega arith, rounds_turn c.loop-n.invariant.1 c.round.ensures (c.at_most-in-loop-n-2.ensures.holds c.if-not-at_most-2.false))
+loop-n-preserved c = (omega arith, rounds_turn c.loop-n.invariant.1 c.round.ensures (c.at_most-in-loop-n-2.ensures.holds c.if-not-at_most-2.false))
 
 pub returns : goal.returns
 returns c = rounds_over c.loop-n.invariant.1 (omega (arith, c.loop-n-test.false))

@@ -28,11 +28,7 @@ branch_row-requires c =
     (omega arith, omega arith, omega arith, omega arith, clean_ahead _ _ l.invariant.1 (omega arith) (c.requires.4 l.s (omega arith)))
 
 pub loop-s-preserved : goal.loop-s-preserved
-loop-s-preserved c =
-    let c2 = c in
-    let c5 = c2 in
-    let c7 = c5 in
-    (omega arith, branch_more c7.args.q c7.args.n c5.loop-s.invariant.1 c2.branch_row.ensures (omega arith) (omega arith) (omega arith))
+loop-s-preserved c = (omega arith, branch_more c.args.q c.args.n c.loop-s.invariant.1 c.branch_row.ensures (omega arith) (omega arith) (omega arith))
 
 pub returns : goal.returns
 returns c = made_all c.loop-s.invariant.1 (omega arith)

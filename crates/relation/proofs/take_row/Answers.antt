@@ -11,14 +11,10 @@ loop-i-init c = (omega arith, words_none _ _ _ _ _ _ _ _)
 
 pub take_some-requires : goal.take_some-requires
 take_some-requires c =
-    let c4 = c in
-    let c7 = c4 in
-    let c9 = c7 in
-    let s = c9 in
-    let a = s.args in
-    let l = c4.loop-i in
+    let a = c.args in
+    let l = c.loop-i in
     let e = l.invariant.1.kept.len in
-    (omega arith, omega arith, word_clean a.from.now a.mask.now a.d a.m a.n a.w l.i s.requires.5 (omega arith) (omega (arith, c7.shared_slice_known-1.given (a.d + l.i))))
+    (omega arith, omega arith, word_clean a.from.now a.mask.now a.d a.m a.n a.w l.i c.requires.5 (omega arith) (omega (arith, c.type_inv.from (a.d + l.i))))
 
 pub loop-i-preserved : goal.loop-i-preserved
 loop-i-preserved c =

@@ -5,6 +5,3 @@ use Rattle.rows.proofs.set_if.Goals as goal
 
 pub returns-then-b : goal.returns-then-b
 returns-then-b c = put_yes {b = c.args.b} _ c.set.ensures c.if-b.true
-
-pub returns-else-b : goal.returns-else-b
-returns-else-b c = put_no {b = c.args.b} _ _ c.if-b.false

@@ -7,14 +7,5 @@ use Rattle.rows.proofs.Words.{wrote_none, wrote_more, wrote_all, unwritten}
 use native.Mathlib.Omega.{arith}
 use Rattle.rows.proofs.unite_masked.Goals as goal
 
-pub loop-j-init : goal.loop-j-init
-loop-j-init c = (omega arith, wrote_none _ _ _)
-
-pub loop-j-preserved : goal.loop-j-preserved
-loop-j-preserved c =
-    let l = c in
-    let a = l.args in
-    (omega arith, wrote_more l.loop-j.invariant.1 (omega arith) (ap₂ bit_or (unwritten a.d a.n l.loop-j.invariant.1 (λ h. omega arith) (omega arith)) refl))
-
 pub returns : goal.returns
 returns c = row_masked _ _ _ (wrote_all c.loop-j.invariant.1 (omega arith))

@@ -16,7 +16,7 @@ use Rattle.rows.proofs.Rows.{kept_bit, row_is}
 use Rattle.relation.specs.Pairs.{pair_at, Made, CleanRow}
 use Rattle.relation.proofs.Making.{row_le}
 use Rattle.relation.proofs.Joining.{row_word, bit_below}
-use Rattle.chains.specs.Route.{between, Gained}
+use Rattle.chains.specs.Routed.{between, Gained}
 
 -- ---- any pairs f
 module _ {n w : ℕ} {f : ℕ → ℕ → Bool} where

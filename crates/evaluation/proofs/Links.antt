@@ -25,7 +25,7 @@ use Rattle.rows.specs.Kept.{Kept, Wrote}
 use Rattle.rows.proofs.Words.{kept_refl, kept_trans}
 use Rattle.relation.specs.Pairs.{pair_at, Made}
 use Rattle.relation.proofs.Making.{made_is, made_same, made_then, made_clear}
-use Rattle.evaluation.specs.Ground.{Ground, leads?}
+use Rattle.evaluation.specs.Grounded.{Grounded, leads?}
 use Rattle.evaluation.proofs.Grounds.{limits}
 
 -- ---- one link
@@ -85,7 +85,7 @@ pub record Passing (s : List ℕ) (b n w : ℕ) (d : Direction) (l : ℕ) (xs ys
   pub pair : (i j : ℕ) → i < n → j / 64 < w
       → pair_at ys b w i j || some? (λ e. leads? d l e i j) (to_come s c) ≡ pair_at xs b w i j || step? (register_in s) d (named l) i j
 
-pub passing_start : {s : List ℕ} {b n w : ℕ} {c : Links} (d : Direction) (l : ℕ) (xs : List ℕ) → Ground s n w → c ≡ cursor_at s (length (register_in s).links) → Passing s b n w d l xs xs c
+pub passing_start : {s : List ℕ} {b n w : ℕ} {c : Links} (d : Direction) (l : ℕ) (xs : List ℕ) → Grounded s n w → c ≡ cursor_at s (length (register_in s).links) → Passing s b n w d l xs xs c
 unfolding well_formed?
 passing_start {s} {b} {n} {w} {c} d l xs g a = record {
   cursor = on_start s c a g.accepted;

@@ -7,10 +7,10 @@ use native.Mathlib.Omega.{arith}
 use Rattle.evaluation.proofs.add_links.Goals as goal
 
 pub links_of-c-requires : goal.links_of-c-requires
-links_of-c-requires c = c.requires.1.accepted
+links_of-c-requires c = c.args.ground.now.grounded.accepted
 
 pub loop-from-init : goal.loop-from-init
-loop-from-init c = passing_start _ _ _ c.requires.1 c.links_of-c.ensures
+loop-from-init c = passing_start _ _ _ c.args.ground.now.grounded c.links_of-c.ensures
 
 pub next_link-requires : goal.next_link-requires
 next_link-requires c = c.loop-from.invariant.cursor
@@ -21,7 +21,7 @@ returns-in-Done c = passing_end c.loop-from.invariant _ c.next_link.ensures c.in
 pub add_link-requires : goal.add_link-requires
 add_link-requires c =
     let i = link_inside c.loop-from.invariant _ c.next_link.ensures _ _ _ _ c.in-Link.is in
-    (omega (arith, c.loop-from.invariant.kept.len), rows_hold c.requires.1, i.0, i.1)
+    (omega (arith, c.loop-from.invariant.kept.len), rows_hold c.args.ground.now.grounded, i.0, i.1)
 
 pub loop-from-smaller : goal.loop-from-smaller
 loop-from-smaller c = fewer _ _ c.loop-from.invariant.cursor _ c.next_link.ensures _ _ _ _ c.in-Link.is

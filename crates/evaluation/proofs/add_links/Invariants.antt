@@ -4,7 +4,7 @@ use Rattle.symbols.specs.Contract.{direction_said}
 use Rattle.evaluation.proofs.add_links.Given as goal
 
 abbrev pub invariant-loop-from : goal.invariant-loop-from
-invariant-loop-from l = Passing l.register l.b l.n l.w (direction_said l.direction) l.l.0 l.initial.work l.work l.c
+invariant-loop-from l = Passing l.ground.register.now l.b l.ground.records l.ground.words (direction_said l.direction) l.l.0 l.initial.work l.work l.c
 
 abbrev pub decreases-loop-from : goal.decreases-loop-from
 decreases-loop-from l = l.c.left

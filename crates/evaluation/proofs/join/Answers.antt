@@ -6,10 +6,10 @@ use Rattle.evaluation.proofs.join.Goals as goal
 
 pub join-requires : goal.join-requires
 join-requires c =
-    let g = c.requires.2 in
-    (c.requires.0, c.requires.1, narrow g, rows_hold g, narrow g, c.requires.3)
+    let g = c.args.ground.now.grounded in
+    (c.requires.0, c.requires.1, narrow g, rows_hold g, narrow g, c.requires.2)
 
 pub returns : goal.returns
 returns c =
     let a = c.args in
-    join_plain c.requires.2 a.p a.q c.join.ensures
+    join_plain a.ground.now.grounded a.p a.q c.join.ensures

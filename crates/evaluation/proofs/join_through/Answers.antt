@@ -6,14 +6,14 @@ use native.Mathlib.Omega.{arith}
 use Rattle.evaluation.proofs.join_through.Goals as goal
 
 pub kind_mask-requires : goal.kind_mask-requires
-kind_mask-requires c = (narrow c.requires.2, c.requires.2)
+kind_mask-requires c = narrow c.args.ground.now.grounded
 
 pub join-requires : goal.join-requires
 join-requires c =
-    let g = c.requires.2 in
-    (c.requires.0, c.requires.1, narrow g, rows_hold g, omega (arith, narrow g, c.kind_mask.ensures.kept.len), c.requires.3)
+    let g = c.args.ground.now.grounded in
+    (c.requires.0, c.requires.1, narrow g, rows_hold g, omega (arith, narrow g, c.kind_mask.ensures.kept.len), c.requires.2)
 
 pub returns : goal.returns
 returns c =
     let a = c.args in
-    join_kinds c.requires.2 a.p a.q a.set c.kind_mask.ensures c.join.ensures
+    join_kinds a.ground.now.grounded a.p a.q a.set c.kind_mask.ensures c.join.ensures

@@ -17,11 +17,11 @@ overflow_add-g c = omega (arith, (accepted_register _ _ c.requires.0).few_record
 pub overflow_shr-v : goal.overflow_shr-v
 overflow_shr-v c =
     let k = (accepted_register _ _ c.requires.0).kinds (c.args.g + c.loop-i.i) in
-    omega (arith, c.kind_index-k.ensures, c.kind_at.ensures)
+    omega (arith, c.kind_at.ensures)
 
 pub loop-i-preserved : goal.loop-i-preserved
 loop-i-preserved c =
-    (omega arith, word_more _ c.loop-i.invariant.1 (kind_moved c.args.set c.loop-i.i _ c.kind_index-k.ensures c.kind_at.ensures (omega arith)))
+    (omega arith, word_more _ c.loop-i.invariant.1 (kind_moved c.args.set c.loop-i.i _ c.from-k.ensures c.kind_at.ensures (omega arith)))
 
 pub returns : goal.returns
 returns c = let e : c.loop-i.i ≡ c.args.m = omega arith in rw e at c.loop-i.invariant.1

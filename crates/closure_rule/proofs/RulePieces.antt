@@ -16,11 +16,12 @@ use Rattle.rows.specs.Kept.{Kept}
 use Rattle.rows.proofs.Words.{kept_trans}
 use Rattle.triples.specs.Paths.{original}
 use Rattle.triples.specs.Parts.{part_of, span}
-use Rattle.rules.specs.declared.Part.TheVariants.{Made, Many, Long}
-use Rattle.rules.specs.Outcome.{Ruled, Done, Adds, with_new}
+use Rattle.std.specs.Prelude.{Err}
+use Rattle.rules.specs.declared.Excess.TheVariants.{Many, Long}
+use Rattle.rules.specs.Outcome.{few_of, Ruled, Done, Adds, with_new}
 use Rattle.rules.specs.Requirements.{part}
 use Rattle.rules.specs.EdgeTriples.{edges_of, leaf_path, AddEdges}
-use Rattle.rules.proofs.RuleOutcome.{ruled_long, ruled_many, ruled_made}
+use Rattle.rules.proofs.RuleOutcome.{ruled_long, ruled_many, ruled_few}
 use Rattle.kind_graph.specs.Kinds.{KindGraph}
 use Rattle.kind_graph.specs.Sizes.{Part}
 use Rattle.closure_rule.specs.Requirements.{Closing, CopyAcyclic, GrowWalks, kept_node}
@@ -62,7 +63,7 @@ module _ {qs ws₀ : List ℕ} {s p d o n : ℕ} (h : Closing qs ws₀ s (span p
       all_short : short? all ≡ r
       all_short = closure_short 64 path ts (omega (arith, copied_size h.copied, h.symbols)) ∙ walks_short
 
-      pub rule_long : r ≡ false → Ruled qs ws₀ ws₁ s (distinct (of_closure 64 (original qs o n) (part qs ws₀ p d))) Long
+      pub rule_long : r ≡ false → Ruled qs ws₀ ws₁ s (distinct (of_closure 64 (original qs o n) (part qs ws₀ p d))) (Err Long)
       rule_long e = ruled_long all (all_short ∙ e) c.0.kept
 
       module _ (e : r ≡ true) where
@@ -92,7 +93,7 @@ module _ {qs ws₀ : List ℕ} {s p d o n : ℕ} (h : Closing qs ws₀ s (span p
                 bound = g.bound;
               }
 
-          pub rule_many : 128 < w → Ruled qs ws₀ ws₂ s (distinct (of_closure 64 (original qs o n) (part qs ws₀ p d))) Many
+          pub rule_many : 128 < w → Ruled qs ws₀ ws₂ s (distinct (of_closure 64 (original qs o n) (part qs ws₀ p d))) (Err Many)
           rule_many m = ruled_many (all_short ∙ e) (too_many m) m
 
           module _ {xs : List ℕ} (l : KindGraph (part qs ws₀ p d) xs) (m : w ≤ 128) where
@@ -119,8 +120,5 @@ module _ {qs ws₀ : List ℕ} {s p d o n : ℕ} (h : Closing qs ws₀ s (span p
                     bound = a.bound;
                   }
 
-              pub kept_many : 128 < k₃ → Ruled qs ws₀ ws₃ s (distinct (of_closure 64 (original qs o n) (part qs ws₀ p d))) Many
-              kept_many b = ruled_many (all_short ∙ e) done b
-
-              pub rule_made : k₃ ≤ 128 → Ruled qs ws₀ ws₃ s (distinct (of_closure 64 (original qs o n) (part qs ws₀ p d))) (Made k₃)
-              rule_made b = ruled_made (all_short ∙ e) done b
+              pub rule_told : Ruled qs ws₀ ws₃ s (distinct (of_closure 64 (original qs o n) (part qs ws₀ p d))) (few_of k₃)
+              rule_told = ruled_few (all_short ∙ e) done

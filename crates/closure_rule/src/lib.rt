@@ -9,7 +9,7 @@ ghost use Rattle.kind_graph.specs.Sizes.{all_walks};
 ghost use Rattle.closure_rule.specs.Requirements.{Closing, CopyAcyclic, GrowWalks, kept_node, closed_in};
 
 use fields::Kind;
-use rules::{PairOperator, Part};
+use rules::{Excess, PairOperator};
 use triples::{Node, Span};
 
 // ---- walks that meet no cyclic kind
@@ -20,13 +20,11 @@ fn copy_acyclic(words: &mut [u64], question: &[u8], work: &[u64], s: usize, xs: 
     ensures { Done question.now words.old words.new s s result (distinct (free 64 (triples_in question.now words.old xs))) × (result ≤ 128) }
 {
     let mut count = 0;
-    let mut j = xs.start;
-    while j < xs.end {
+    for j in xs.start..xs.end {
         let x = triples::load(words, j);
         if kind_graph::acyclic(work, x.from, x.to) {
             count = triples::add(words, question, s, count, x);
         }
-        j += 1;
     }
     count
 }
@@ -42,6 +40,7 @@ fn grow_walks(words: &mut [u64], question: &[u8], s: usize, f: usize) -> usize
     };
     let mut count = f;
     let mut i = s;
+    // the part grows while it is walked, so that its end is not a range's
     while i < s + count {
         count = rules::add_row(words, question, PairOperator::Join, s, count, i, first);
         if triples::MOST < count {
@@ -77,7 +76,7 @@ pub fn closure_rule(
     xs: Span,
     o: usize,
     n: usize,
-) -> Part
+) -> Result<usize, Excess>
     requires { Closing question.now words.old s xs o n }
     ensures { Ruled question.now words.old words.new s (distinct (closed_in question.now words.old xs o n)) result }
 {
@@ -89,16 +88,10 @@ pub fn closure_rule(
         end: s + f,
     };
     if !kind_graph::walks_short(words, question, first) {
-        return Part::Long;
+        return Err(Excess::Long);
     }
-    let w = grow_walks(words, question, s, f);
-    if triples::MOST < w {
-        return Part::Many;
-    }
+    let w = rules::few(grow_walks(words, question, s, f))?;
     let node = kept_node(o, n);
     let k = rules::add_edges(words, question, &work, kind_graph::KINDS, node, s, w);
-    if triples::MOST < k {
-        return Part::Many;
-    }
-    Part::Made(k)
+    rules::few(k)
 }

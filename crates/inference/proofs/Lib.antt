@@ -8,3 +8,5 @@ pub mod Turning
 pub mod Running
 -- for callers
 pub mod Accepted
+-- a result whose error was mapped
+pub mod Told

@@ -23,13 +23,14 @@ use Rattle.question.specs.Form.{question_symbols}
 use Rattle.rows.specs.Kept.{Kept}
 use Rattle.rows.proofs.Words.{kept_refl, kept_trans}
 use Rattle.triples.specs.Paths.{original}
+use Rattle.triples.specs.declared.Span.{Span}
 use Rattle.triples.specs.Parts.{span, triples_in}
-use Rattle.rules.specs.declared.Part.{Part}
-use Rattle.rules.specs.declared.Part.TheVariants.{Made, Many, Long}
-use Rattle.rules.specs.Outcome.{outcome, fault_of, Ruled}
+use Rattle.std.specs.Prelude.{Result, Ok, Err}
+use Rattle.rules.specs.declared.Excess.{Excess}
+use Rattle.rules.specs.declared.Excess.TheVariants.{Many, Long}
+use Rattle.rules.specs.Outcome.{outcome, fault_of, refusal_at, Ruled}
 use Rattle.rules.proofs.RuleOutcome.{outcome_fault}
 use Rattle.inference.specs.declared.Operand.{Operand}
-use Rattle.inference.specs.declared.Inferred.TheVariants.{Triples, Refused}
 use Rattle.inference.specs.Turns.{of_symbol, made_of, origin_of}
 use Rattle.inference.specs.Questions.{symbols_of, Asking, Sheeted, Nodes, Infers}
 use Rattle.inference.proofs.Stacks.{Standing, standing_new, no_operand, Stacked, bottom, above, stacked_kept, stacked_set}
@@ -54,7 +55,7 @@ running_start {qs} {ws} {t} {count} h =
 
 module _ {qs ws₀ ws t : List ℕ} {count K depth used i : ℕ} {xs : List Operand} (h : Asking qs ws₀ count K) (g : Running qs ws₀ ws t count K h.path xs depth used i) where
   -- ---- a symbol, which takes n operands
-  module _ (l : i < count) {k : Symbol} (is : k ≡ symbol_numbered (get_or qs i 0) 0) {n : ℕ} (takes : n ≡ arity (get_or qs i 0)) {ws' : List ℕ} {r : Part}
+  module _ (l : i < count) {k : Symbol} (is : k ≡ symbol_numbered (get_or qs i 0) 0) {n : ℕ} (takes : n ≡ arity (get_or qs i 0)) {ws' : List ℕ} {r : Result ℕ Excess}
       (f : Ruled qs ws ws' used (made_of qs ws t K k i (get_or xs (depth - n) no_operand) (get_or xs (depth - n + 1) no_operand)) r) where
     abbrev b : ℕ
     b = depth - n
@@ -95,21 +96,19 @@ module _ {qs ws₀ ws t : List ℕ} {count K depth used i : ℕ} {xs : List Oper
         fault : part_fault S u.top ≡ fault_of r
         fault = sym (outcome_fault S u.top) ∙ ap (λ (ts : List Triple). fault_of (outcome ts)) (sym (u.is S a)) ∙ ap fault_of (sym f.is)
 
-    refuses : (x : Refusal) → ((o : Narrowing) → unless (fault_of r) i o ≡ refused (number_of x) (place_of x)) → Infers qs ws₀ ws' t count K (Refused x)
+    refuses : (x : Refusal) → ((o : Narrowing) → unless (fault_of r) i o ≡ refused (number_of x) (place_of x)) → Infers qs ws₀ ws' t count K (Err x)
     refuses x e =
         record {
           kept = kept_more;
-          nodes = λ s d z. let n : ◌≡◌ {A = ℕ} 0 1 = cc in absurd (omega arith);
+          nodes = λ s z. let n : ◌≡◌ {A = ℕ} 0 1 = cc in absurd (omega arith);
           found = λ S a q m o. by_outcome S a o ∙ e (refuse (part_fault S) (i + 1) (ended ss st) o);
         }
 
-    pub running_many : r ≡ Many → Infers qs ws₀ ws' t count K (Refused (TooMany i))
-    running_many e = refuses (TooMany i) (λ o. ap (λ (a : Part). unless (fault_of a) i o) e)
+    pub running_stops : (x : Excess) → r ≡ Err x → Infers qs ws₀ ws' t count K (Err (refusal_at x i))
+    running_stops Many e = refuses (TooMany i) (λ o. ap (λ (a : Result ℕ Excess). unless (fault_of a) i o) e)
+    running_stops Long e = refuses (TooLong i) (λ o. ap (λ (a : Result ℕ Excess). unless (fault_of a) i o) e)
 
-    pub running_long : r ≡ Long → Infers qs ws₀ ws' t count K (Refused (TooLong i))
-    running_long e = refuses (TooLong i) (λ o. ap (λ (a : Part). unless (fault_of a) i o) e)
-
-    pub running_more : {m o : ℕ} → r ≡ Made m → o ≡ origin_of k i (get_or xs b no_operand)
+    pub running_more : {m o : ℕ} → r ≡ Ok m → o ≡ origin_of k i (get_or xs b no_operand)
         → Running qs ws₀ ws' t count K h.path (set xs b (record { nodes = span used (used + m); from = o })) (b + 1) (used + m) (i + 1)
     running_more {m} {o} e at =
         record {
@@ -130,7 +129,7 @@ module _ {qs ws₀ ws t : List ℕ} {count K depth used i : ℕ} {xs : List Oper
               ∙ ap₂ (λ (ks : List Symbol) (y : Symbol). ks ++ (y ∷ [])) g.so_far is
               ∙ sym (of_next qs i (omega (arith, h.long, h.few)));
           ahead = sym (ap (λ (ks : List Symbol). read ks g.stack) next ∙ ap (λ (a : Option Stack). go_on a (read ss)) u.pushes) ∙ g.ahead;
-          left = λ S c a. sym (by_outcome S c a ∙ ap (λ (p : Part). unless (fault_of p) i (refuse (part_fault S) (i + 1) (ended ss st) a)) e);
+          left = λ S c a. sym (by_outcome S c a ∙ ap (λ (p : Result ℕ Excess). unless (fault_of p) i (refuse (part_fault S) (i + 1) (ended ss st) a)) e);
         }
       where
         new : Operand
@@ -150,14 +149,11 @@ module _ {qs ws₀ ws t : List ℕ} {count K depth used i : ℕ} {xs : List Oper
     last : Stacked qs ws t K used xs (h.path ∷ []) → Standing qs ws t K used (get_or xs 0 no_operand) h.path
     last (above w e below) = w
 
-    pub running_end : Infers qs ws₀ ws t count K (Triples (get_or xs 0 no_operand).nodes.start (get_or xs 0 no_operand).nodes.end)
+    pub running_end : Infers qs ws₀ ws t count K (Ok (get_or xs 0 no_operand).nodes)
     running_end =
         record {
           kept = g.kept;
-          nodes = λ s e z.
-              let a : (get_or xs 0 no_operand).nodes.start ≡ s = cc in
-              let b : (get_or xs 0 no_operand).nodes.end ≡ e = cc in
-              subst (λ (k : ℕ). Nodes qs ws k e) a (subst (Nodes qs ws (get_or xs 0 no_operand).nodes.start) b nodes);
+          nodes = λ x z. let a : (get_or xs 0 no_operand).nodes ≡ x = cc in subst (λ (y : Span). Nodes qs ws y.start y.end) a nodes;
           found = λ S k q m. let e : h.path ≡ q = cc in (
             λ o. sym (g.left S k o) ∙ ap (λ (ks : List Symbol). refuse (part_fault S) i (ended ks g.stack) o) none_left,
             top.is S k ∙ ap (triples S) e,

@@ -19,8 +19,8 @@ use Rattle.theory.proofs.Triples.{distinct_norepeat}
 use Rattle.rows.specs.Kept.{Kept}
 use Rattle.triples.specs.Parts.{part_of, span, triples_in}
 use Rattle.triples.proofs.Growing.{part_kept}
-use Rattle.rules.specs.declared.Part.{Part}
-use Rattle.rules.specs.declared.Part.TheVariants.{Made}
+use Rattle.std.specs.Prelude.{Result, Ok}
+use Rattle.rules.specs.declared.Excess.{Excess}
 use Rattle.rules.specs.Requirements.{Lies}
 use Rattle.rules.specs.Outcome.{Ruled}
 use Rattle.rules.proofs.RuleOutcome.{made_short}
@@ -36,7 +36,7 @@ pub record Standing (qs ws t : List ℕ) (K used : ℕ) (x : Operand) (p : PathE
   pub is : (S : Sheet) → Sheeted t K S → triples_in qs ws x.nodes ≡ triples S p
 
 -- a part that a rule has made
-pub standing_new : {qs ws ws' t : List ℕ} {K used n o : ℕ} {p : PathExpr} {r : Part} (ts : List Triple) → Ruled qs ws ws' used (distinct ts) r → r ≡ Made n
+pub standing_new : {qs ws ws' t : List ℕ} {K used n o : ℕ} {p : PathExpr} {r : Result ℕ Excess} (ts : List Triple) → Ruled qs ws ws' used (distinct ts) r → r ≡ Ok n
     → ((S : Sheet) → Sheeted t K S → distinct ts ≡ triples S p) → Standing qs ws' t K (used + n) (record { nodes = span used (used + n); from = o }) p
 standing_new {qs} {ws' = ws'} {used = used} {n} ts f e is =
     let z : used + n - used ≡ n = omega arith in

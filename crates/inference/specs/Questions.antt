@@ -1,7 +1,8 @@
 -- The inference of a whole question: what it asks, and what its answer says by any sheet that has the table.
 -- SPECIFICATION, Inference; Limits of narrowing: 12 and 13, at the first symbol that has either.
 -- Assumes nothing.
-use Rattle.std.specs.Prelude.{◌≡◌, true, List, [], ℕ, ◌+◌, ◌<◌, ◌≤◌, length, get_or, take}
+use Rattle.std.specs.Prelude.{◌≡◌, true, List, [], ℕ, ◌+◌, ◌<◌, ◌≤◌, length, get_or, take, Ok, Err}
+use Rattle.std.specs.Prelude as std
 use Rattle.std.proofs.Math.Option.{some}
 use Rattle.theory.specs.PathExpr.{PathExpr, Symbol}
 use Rattle.theory.specs.Postfix.{path_of, ended}
@@ -9,14 +10,15 @@ use Rattle.theory.specs.Sheet.{Sheet}
 use Rattle.theory.specs.Inference.{triples}
 use Rattle.theory.specs.Narrowing.{Narrowing, refuse, part_fault, short?}
 use Rattle.theory.specs.Result.{refused}
+use Rattle.fields.specs.declared.Refusal.{Refusal}
 use Rattle.fields.specs.Contract.{number_of, place_of}
 use Rattle.question.specs.Form.{question_symbols}
 use Rattle.rows.specs.Kept.{Kept}
+use Rattle.triples.specs.declared.Span.{Span}
 use Rattle.triples.specs.Paths.{Coded, Sound}
+use Rattle.triples.specs.Parts.{triples_in}
 use Rattle.rules.specs.Requirements.{part}
 use Rattle.rules.specs.StepTriples.{Tabled}
-use Rattle.inference.specs.declared.Inferred.{Inferred}
-use Rattle.inference.specs.declared.Inferred.TheVariants.{Triples, Refused}
 
 -- the symbols of the first `count` codes
 abbrev pub symbols_of : List ℕ → ℕ → List Symbol
@@ -46,11 +48,11 @@ pub record Nodes (qs ws : List ℕ) (s e : ℕ) : Type 0 where
   pub short : short? (part qs ws s e) ≡ true
 
 -- the answer by a sheet, where the symbols end the parts ps and make the path q: the first refusal; or none, and the triples of the path
-abbrev pub Found : Sheet → List PathExpr → PathExpr → List ℕ → List ℕ → Inferred → Type 0
-Found S ps q qs ws (Triples s e) = ((o : Narrowing) → refuse (part_fault S) 0 ps o ≡ o) × (part qs ws s e ≡ triples S q)
-Found S ps q qs ws (Refused f) = (o : Narrowing) → refuse (part_fault S) 0 ps o ≡ refused (number_of f) (place_of f)
+abbrev pub Found : Sheet → List PathExpr → PathExpr → List ℕ → List ℕ → std.Result Span Refusal → Type 0
+Found S ps q qs ws (Ok x) = ((o : Narrowing) → refuse (part_fault S) 0 ps o ≡ o) × (triples_in qs ws x ≡ triples S q)
+Found S ps q qs ws (Err f) = (o : Narrowing) → refuse (part_fault S) 0 ps o ≡ refused (number_of f) (place_of f)
 
-pub record Infers (qs ws ws' t : List ℕ) (count K : ℕ) (r : Inferred) : Type 0 where
+pub record Infers (qs ws ws' t : List ℕ) (count K : ℕ) (r : std.Result Span Refusal) : Type 0 where
   pub kept : Kept 0 4097 ws ws'
-  pub nodes : (s e : ℕ) → r ≡ Triples s e → Nodes qs ws' s e
+  pub nodes : (x : Span) → r ≡ Ok x → Nodes qs ws' x.start x.end
   pub found : (S : Sheet) → Sheeted t K S → (q : PathExpr) → path_of (symbols_of qs count) ≡ some q → Found S (ended (symbols_of qs count) []) q qs ws' r

@@ -1,12 +1,12 @@
 -- One symbol of a question: what its rule asks of the parts that it takes, and the triples of the part that it ends.
 -- SPECIFICATION, Inference: each symbol ends a part, and each part has a set of triples.
 -- Assumes nothing.
-use Rattle.std.specs.Prelude.{List, ℕ, ◌-◌, ◌<◌, ◌≤◌}
+use Rattle.std.specs.Prelude.{Result, List, ℕ, ◌-◌, ◌<◌, ◌≤◌}
 use Rattle.theory.specs.PathExpr.{named, PathExpr, Symbol, s_step, s_join, s_op, s_closure}
 use Rattle.theory.specs.Inference.{Triple, distinct, of_join, of_op, of_closure}
 use Rattle.triples.specs.Paths.{original}
 use Rattle.triples.specs.Parts.{triples_in}
-use Rattle.rules.specs.declared.Part.{Part}
+use Rattle.rules.specs.declared.Excess.{Excess}
 use Rattle.rules.specs.Outcome.{Ruled}
 use Rattle.rules.specs.Requirements.{Room, Unite}
 use Rattle.rules.specs.StepTriples.{of_marks}
@@ -44,5 +44,5 @@ pub record TurnAsks (qs ws : List ℕ) (K : ℕ) (k : Symbol) (used i : ℕ) (x 
   pub parts : AsksOf qs ws used i x y k
 
 -- what it leaves
-abbrev pub TurnMakes : List ℕ → List ℕ → List ℕ → List ℕ → ℕ → Symbol → ℕ → ℕ → Operand → Operand → Part → Type 0
+abbrev pub TurnMakes : List ℕ → List ℕ → List ℕ → List ℕ → ℕ → Symbol → ℕ → ℕ → Operand → Operand → Result ℕ Excess → Type 0
 TurnMakes qs ws ws' t K k used i x y r = Ruled qs ws ws' used (made_of qs ws t K k i x y) r

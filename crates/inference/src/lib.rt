@@ -7,17 +7,9 @@ ghost use Rattle.inference.specs.Turns.{TurnAsks, TurnMakes, origin_of};
 ghost use Rattle.inference.specs.Questions.{Asking, Infers};
 
 use fields::Refusal;
-use rules::{PairOperator, Part};
+use rules::{Excess, PairOperator};
 use symbols::Symbol;
 use triples::Span;
-
-// The triples of the question, as nodes from the one number up to the other; or 12 or 13 at the first symbol that has
-// either.
-#[derive(Clone, Copy)]
-pub enum Inferred {
-    Triples(usize, usize),
-    Refused(Refusal),
-}
 
 // A part of the question: its nodes, and where its symbols start.
 #[derive(Clone, Copy)]
@@ -46,7 +38,7 @@ fn rule(
     i: usize,
     x: Operand,
     y: Operand,
-) -> Part
+) -> Result<usize, Excess>
     requires { TurnAsks question.now words.old kinds (symbol_said k) used i x y }
     ensures { TurnMakes question.now words.old words.new table.now kinds (symbol_said k) used i x y result }
 {
@@ -70,20 +62,19 @@ fn origin(k: Symbol, i: usize, x: Operand) -> usize
 {
     match k {
         Symbol::Step(_, _) => i,
-        Symbol::Join(_) => x.from,
-        Symbol::Op(_) => x.from,
-        Symbol::Closure => x.from,
+        Symbol::Join(_) | Symbol::Op(_) | Symbol::Closure => x.from,
     }
 }
 
-// The triples of a question of `count` symbols, by a sheet's table of `kinds` kinds.
+// The nodes of the triples of a question of `count` symbols, by a sheet's table of `kinds` kinds; or 12 or 13 at the first symbol that has
+// either.
 pub fn infer(
     words: &mut [u64],
     question: &[u8],
     count: usize,
     table: &[u64; sheet::TABLE],
     kinds: usize,
-) -> Inferred
+) -> Result<Span, Refusal>
     requires { Asking question.now words.old count kinds }
     ensures { Infers question.now words.old words.new table.now count kinds result }
 {
@@ -96,28 +87,19 @@ pub fn infer(
         let k = symbols::decode(c, 0);
         let b = depth - symbols::operands(c) as usize;
         let x = parts[b];
-        match rule(words, question, table, kinds, k, used, i, x, parts[b + 1]) {
-            Part::Long => {
-                return Inferred::Refused(Refusal::TooLong(i));
-            }
-            Part::Many => {
-                return Inferred::Refused(Refusal::TooMany(i));
-            }
-            Part::Made(n) => {
-                let nodes = Span {
-                    start: used,
-                    end: used + n,
-                };
-                parts[b] = Operand {
-                    nodes,
-                    from: origin(k, i, x),
-                };
-                depth = b + 1;
-                used += n;
-            }
-        }
+        let made = rule(words, question, table, kinds, k, used, i, x, parts[b + 1]);
+        let n = made.map_err(|e| e.at(i))?;
+        let nodes = Span {
+            start: used,
+            end: used + n,
+        };
+        parts[b] = Operand {
+            nodes,
+            from: origin(k, i, x),
+        };
+        depth = b + 1;
+        used += n;
     }
     let q = parts[0];
-    let nodes = q.nodes;
-    Inferred::Triples(nodes.start, nodes.end)
+    Ok(q.nodes)
 }

@@ -15,7 +15,8 @@ use Rattle.rows.proofs.Words.{kept_refl}
 use Rattle.triples.specs.Parts.{part_of, span}
 use Rattle.triples.proofs.Triples.{triple_kept}
 use Rattle.triples.proofs.Growing.{part_kept}
-use Rattle.rules.specs.declared.Part.TheVariants.{Made, Many, Long}
+use Rattle.std.specs.Prelude.{Ok, Err}
+use Rattle.rules.specs.declared.Excess.TheVariants.{Many, Long}
 use Rattle.rules.specs.declared.PairOperator.{PairOperator}
 use Rattle.rules.specs.PairRules.{of_two}
 use Rattle.rules.specs.Outcome.{Ruled, Adds}
@@ -42,7 +43,7 @@ module _ {qs ws₀ : List ℕ} (o : PairOperator) {s p d q e : ℕ} (h : TwoPart
       let z : s + 0 ≡ s = omega arith in
       (record { sound = rw z at h.room.sound; in_table = omega (arith, h.room.room) }, h.left, h.right)
 
-  pub rule_long : short? (rows_of qs ws₀ o p d q e) ≡ false → Ruled qs ws₀ ws₀ s (distinct (rows_of qs ws₀ o p d q e)) Long
+  pub rule_long : short? (rows_of qs ws₀ o p d q e) ≡ false → Ruled qs ws₀ ws₀ s (distinct (rows_of qs ws₀ o p d q e)) (Err Long)
   rule_long f = ruled_long (distinct cs) (short_distinct cs ∙ f) (kept_refl s (s + 129) ws₀)
 
   pub rule_start : short? (rows_of qs ws₀ o p d q e) ≡ true → RowsGrowing qs ws₀ ws₀ o s 0 p d q e p
@@ -101,9 +102,9 @@ module _ {qs ws₀ : List ℕ} (o : PairOperator) {s p d q e : ℕ} (h : TwoPart
               stand = stand_more m;
             }
 
-        pub rule_many : short? (rows_of qs ws₀ o p d q e) ≡ true → 128 < r → Ruled qs ws₀ ws' s (distinct (rows_of qs ws₀ o p d q e)) Many
+        pub rule_many : short? (rows_of qs ws₀ o p d q e) ≡ true → 128 < r → Ruled qs ws₀ ws' s (distinct (rows_of qs ws₀ o p d q e)) (Err Many)
         rule_many a m =
             ruled_many (short_distinct cs ∙ a) (grows_many g.grows (row_of qs ws o i q e) (row_of qs ws₀ o i q e) (rows_of qs ws₀ o (i + 1) d q e) f here next m) m
 
-    pub rule_over : short? (rows_of qs ws₀ o p d q e) ≡ true → d ≤ i → Ruled qs ws₀ ws s (distinct (rows_of qs ws₀ o p d q e)) (Made count)
+    pub rule_over : short? (rows_of qs ws₀ o p d q e) ≡ true → d ≤ i → Ruled qs ws₀ ws s (distinct (rows_of qs ws₀ o p d q e)) (Ok count)
     rule_over a l = ruled_made (short_distinct cs ∙ a) (grows_over g.grows (rows_end qs ws₀ o i d q e l)) g.grows.few

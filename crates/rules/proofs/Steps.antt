@@ -25,14 +25,13 @@ use Rattle.rows.specs.Row.{Word}
 use Rattle.rows.proofs.Masks.{word_yes, word_no, mask_at}
 use Rattle.triples.specs.declared.Node.{Node}
 use Rattle.triples.specs.Paths.{built}
-use Rattle.rules.specs.declared.Part.TheVariants.{Made, Many}
-use Rattle.rules.specs.Outcome.{Ruled, Done, Adds}
+use Rattle.rules.specs.Outcome.{few_of, Ruled, Done, Adds}
 use Rattle.rules.specs.EdgeTriples.{edges_of, leaf_path, Alone, Leaf, AddEdges}
 use Rattle.rules.specs.StepTriples.{marked?, of_marks, StepRow, StepMatrix, Stepping}
 use Rattle.rules.proofs.Short.{short_path?, short_distinct}
 use Rattle.rules.proofs.Grows.{rule_added}
 use Rattle.rules.proofs.Edges.{row_word, edges_are}
-use Rattle.rules.proofs.RuleOutcome.{ruled_many, ruled_made}
+use Rattle.rules.proofs.RuleOutcome.{ruled_few}
 
 -- ---- one word of its matrix
 pub forward_row : (t : List ℕ) (l a K : ℕ) {i : ℕ} → i ≡ cell a l → StepRow t forward l a K (get_or t i 0)
@@ -117,8 +116,5 @@ module _ {qs ws : List ℕ} {d : Direction} {K l s : ℕ} (h : Stepping qs ws K 
     done : Done qs ws ws' s s r (distinct (of_marks t K d l))
     done = subst (λ (ts : List Triple). Done qs ws ws' s s r (distinct ts)) marks_are (rule_added (edges_of xs (leaf_path qs (step_node d l)) K) a)
 
-    pub step_many : 128 < r → Ruled qs ws ws' s (distinct (of_marks t K d l)) Many
-    step_many b = ruled_many (marks_short t d l K) done b
-
-    pub step_made : r ≤ 128 → Ruled qs ws ws' s (distinct (of_marks t K d l)) (Made r)
-    step_made b = ruled_made (marks_short t d l K) done b
+    pub step_told : Ruled qs ws ws' s (distinct (of_marks t K d l)) (few_of r)
+    step_told = ruled_few (marks_short t d l K) done

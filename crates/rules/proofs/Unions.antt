@@ -10,12 +10,13 @@ use Rattle.theory.specs.Inference.{Triple, distinct}
 use Rattle.theory.specs.Narrowing.{short?}
 use Rattle.triples.proofs.Growing.{part_kept}
 use Rattle.triples.specs.Parts.{span}
-use Rattle.rules.specs.declared.Part.TheVariants.{Made, Many}
-use Rattle.rules.specs.Outcome.{Ruled, Adds}
+use Rattle.std.specs.Prelude.{Err}
+use Rattle.rules.specs.declared.Excess.TheVariants.{Many}
+use Rattle.rules.specs.Outcome.{few_of, Ruled, Adds}
 use Rattle.rules.specs.Requirements.{part, op_in, Unite, AddCopies}
 use Rattle.rules.proofs.Short.{short_append, short_distinct}
 use Rattle.rules.proofs.Grows.{Growing, rule_starts, grows_room, grows_over, grows_turn, grows_many}
-use Rattle.rules.proofs.RuleOutcome.{ruled_many, ruled_made}
+use Rattle.rules.proofs.RuleOutcome.{ruled_many, ruled_made, ruled_by}
 
 module _ {qs ws : List ℕ} {s p d q e : ℕ} (h : Unite qs ws s (span p d) (span q e)) where
   abbrev xs : List Triple
@@ -34,7 +35,7 @@ module _ {qs ws : List ℕ} {s p d q e : ℕ} (h : Unite qs ws s (span p d) (spa
   first_asks = record { room = h.two.room; lies = record { ordered = h.two.left.ordered; below = omega (arith, h.two.left.below) } }
 
   module _ {ws₁ : List ℕ} {a : ℕ} (f : Adds qs ws ws₁ s 0 a (part qs ws p d)) where
-    pub first_many : 128 < a → Ruled qs ws ws₁ s (distinct (op_in qs ws union (span p d) (span q e))) Many
+    pub first_many : 128 < a → Ruled qs ws ws₁ s (distinct (op_in qs ws union (span p d) (span q e))) (Err Many)
     first_many m = ruled_many short (grows_many start xs xs ys f refl refl m) m
 
     module _ (m : a ≤ 128) where
@@ -48,8 +49,7 @@ module _ {qs ws : List ℕ} {s p d q e : ℕ} (h : Unite qs ws s (span p d) (spa
         here : part qs ws₁ q e ≡ part qs ws q e
         here = part_kept grown.kept qs q (e - q) (omega (arith, h.two.right.below, h.two.right.ordered))
 
-        pub union_many : 128 < b → Ruled qs ws ws₂ s (distinct (op_in qs ws union (span p d) (span q e))) Many
-        union_many l = ruled_many short (grows_many grown (part qs ws₁ q e) ys [] g here (sym (append-nil ys)) l) l
-
-        pub union_made : b ≤ 128 → Ruled qs ws ws₂ s (distinct (op_in qs ws union (span p d) (span q e))) (Made b)
-        union_made l = ruled_made short (grows_over (grows_turn grown (part qs ws₁ q e) ys [] g here (sym (append-nil ys)) l) refl) l
+        pub union_told : Ruled qs ws ws₂ s (distinct (op_in qs ws union (span p d) (span q e))) (few_of b)
+        union_told =
+            ruled_by b (λ l. ruled_made short (grows_over (grows_turn grown (part qs ws₁ q e) ys [] g here (sym (append-nil ys)) l) refl) l)
+            (λ l. ruled_many short (grows_many grown (part qs ws₁ q e) ys [] g here (sym (append-nil ys)) l) l)

@@ -9,25 +9,45 @@ ghost use Rattle.symbols.specs.Contract.{direction_said, operator_said};
 ghost use Rattle.triples.specs.Paths.{Has};
 ghost use Rattle.triples.specs.Parts.{triples_in};
 ghost use Rattle.rules.specs.PairRules.{pair_code, fitting, giving, ends_of, pair_node, pair_short?};
-ghost use Rattle.rules.specs.Outcome.{Ruled, Adds};
+ghost use Rattle.rules.specs.Outcome.{refusal_at, few_of, Ruled, Adds};
 ghost use Rattle.rules.specs.Requirements.{Lies, pair_of, row_in, rows_in, op_in, Pairing, AddPair, AddRow, AddNewRow, TwoParts, Unite, AddCopies};
 ghost use Rattle.rules.specs.Repeated.{Alike, StandsAlike, Repeats};
 ghost use Rattle.rules.specs.EdgeTriples.{edge_at, edges_from, edges_of, leaf_path, AddEdge, AddEdges};
 ghost use Rattle.rules.specs.StepTriples.{of_marks, StepRow, StepMatrix, Stepping};
 
-use fields::{Kind, Link};
+use fields::{Kind, Link, Refusal};
 use symbols::{Direction, Operator, Symbol};
 use triples::{Node, Span};
 
-// What a rule makes.
-#[derive(Clone, Copy)]
-pub enum Part {
-    // this many triples
-    Made(usize),
-    // 12: over 128
+// Why a rule makes no part.
+#[derive(Clone, Copy, PartialEq, Eq)]
+pub enum Excess {
+    // 12: over 128 triples
     Many,
-    // 13: one over 48 symbols long
+    // 13: a path over 48 symbols long
     Long,
+}
+
+impl Excess {
+    // The refusal at symbol i.
+    pub fn at(self, i: usize) -> Refusal
+        ensures { result ≡ refusal_at self i }
+    {
+        match self {
+            Excess::Many => Refusal::TooMany(i),
+            Excess::Long => Refusal::TooLong(i),
+        }
+    }
+}
+
+// The number of a part's triples, unless it has too many.
+pub fn few(count: usize) -> Result<usize, Excess>
+    ensures { result ≡ few_of count }
+{
+    if triples::MOST < count {
+        return Err(Excess::Many);
+    }
+    Ok(count)
 }
 
 // ---- two nodes under an operator
@@ -41,73 +61,63 @@ pub enum PairOperator {
     BranchLeft,
 }
 
-// Its code.
-fn pair_code(o: PairOperator) -> u8
-    ensures { result ≡ pair_code o }
-{
-    match o {
-        PairOperator::Join => symbols::JOIN,
-        PairOperator::Conjunction => symbols::CONJUNCTION,
-        PairOperator::BranchRight => symbols::BRANCH_RIGHT,
-        PairOperator::BranchLeft => symbols::BRANCH_LEFT,
-    }
-}
-
-// Whether two triples fit under the operator.
-fn fits(o: PairOperator, x: Node, y: Node) -> bool
-    ensures { result ≡ fitting o (ends_of x) (ends_of y) }
-{
-    match o {
-        PairOperator::Join => x.to.0 == y.from.0,
-        PairOperator::Conjunction => {
-            if x.from.0 != y.from.0 {
-                return false;
-            }
-            x.to.0 == y.to.0
+impl PairOperator {
+    // Its code.
+    fn code(self) -> u8
+        ensures { result ≡ pair_code self }
+    {
+        match self {
+            PairOperator::Join => symbols::JOIN,
+            PairOperator::Conjunction => symbols::CONJUNCTION,
+            PairOperator::BranchRight => symbols::BRANCH_RIGHT,
+            PairOperator::BranchLeft => symbols::BRANCH_LEFT,
         }
-        PairOperator::BranchRight => x.to.0 == y.from.0,
-        PairOperator::BranchLeft => x.from.0 == y.from.0,
     }
-}
 
-// The to kind of a pair's triple.
-fn last(o: PairOperator, x: Node, y: Node) -> Kind
-    ensures { result.0 ≡ (giving o (ends_of x) (ends_of y)).to }
-{
-    match o {
-        PairOperator::Join => y.to,
-        PairOperator::Conjunction => x.to,
-        PairOperator::BranchRight => x.to,
-        PairOperator::BranchLeft => y.to,
+    // Whether two triples fit under it.
+    fn fits(self, x: Node, y: Node) -> bool
+        ensures { result ≡ fitting self (ends_of x) (ends_of y) }
+    {
+        match self {
+            PairOperator::Join | PairOperator::BranchRight => x.to.0 == y.from.0,
+            PairOperator::Conjunction => x.from.0 == y.from.0 && x.to.0 == y.to.0,
+            PairOperator::BranchLeft => x.from.0 == y.from.0,
+        }
     }
-}
 
-// The node of a pair.
-fn paired(o: PairOperator, i: usize, j: usize, x: Node, y: Node) -> Node
-    requires { (x.size < 64) × (y.size < 64) }
-    ensures { result ≡ pair_node o i j x y }
-{
-    let from = x.from;
-    let to = last(o, x, y);
-    Node {
-        made: pair_code(o),
-        left: i,
-        right: j,
-        size: x.size + y.size + 1,
-        from,
-        to,
+    // The to kind of a pair's triple.
+    fn last(self, x: Node, y: Node) -> Kind
+        ensures { result.0 ≡ (giving self (ends_of x) (ends_of y)).to }
+    {
+        match self {
+            PairOperator::Join | PairOperator::BranchLeft => y.to,
+            PairOperator::Conjunction => x.to,
+            PairOperator::BranchRight => x.to,
+        }
     }
-}
 
-// Whether the path of the pair, if it fits, has at most 48 symbols.
-fn pair_short(o: PairOperator, x: Node, y: Node) -> bool
-    requires { (x.size < 64) × (y.size < 64) }
-    ensures { result ≡ pair_short? o x y }
-{
-    if !fits(o, x, y) {
-        return true;
+    // The node of a pair.
+    fn pair(self, i: usize, j: usize, x: Node, y: Node) -> Node
+        requires { (x.size < 64) × (y.size < 64) }
+        ensures { result ≡ pair_node self i j x y }
+    {
+        Node {
+            made: self.code(),
+            left: i,
+            right: j,
+            size: x.size + y.size + 1,
+            from: x.from,
+            to: self.last(x, y),
+        }
     }
-    x.size + y.size + 1 <= fields::MEMBER_SYMBOLS
+
+    // Whether the path of the pair, if it fits, has at most 48 symbols.
+    fn short(self, x: Node, y: Node) -> bool
+        requires { (x.size < 64) × (y.size < 64) }
+        ensures { result ≡ pair_short? self x y }
+    {
+        !self.fits(x, y) || x.size + y.size + 1 <= fields::MEMBER_SYMBOLS
+    }
 }
 
 // ---- sizes: 13
@@ -118,13 +128,11 @@ fn row_short(words: &[u64], question: &[u8], o: PairOperator, s: usize, i: usize
     ensures { result ≡ short? (row_in question.now words.now o i ys) }
 {
     let x = triples::load(words, i);
-    let mut j = ys.start;
-    while j < ys.end {
+    for j in ys.start..ys.end {
         let y = triples::load(words, j);
-        if !pair_short(o, x, y) {
+        if !o.short(x, y) {
             return false;
         }
-        j += 1;
     }
     true
 }
@@ -134,12 +142,10 @@ fn rows_short(words: &[u64], question: &[u8], o: PairOperator, s: usize, xs: Spa
     requires { Pairing question.now words.now s × Lies s xs × Lies s ys }
     ensures { result ≡ short? (rows_in question.now words.now o xs ys) }
 {
-    let mut i = xs.start;
-    while i < xs.end {
+    for i in xs.start..xs.end {
         if !row_short(words, question, o, s, i, ys) {
             return false;
         }
-        i += 1;
     }
     true
 }
@@ -151,10 +157,8 @@ fn alike(words: &[u64], used: usize, question: &[u8], i: usize, j: usize) -> boo
     requires { Has question.now words.now used i × Has question.now words.now used j }
     ensures { Alike question.now words.now i j result }
 {
-    if triples::load(words, i).from.0 != triples::load(words, j).from.0 {
-        return false;
-    }
-    triples::same_path(words, used, question, i, j)
+    triples::load(words, i).from.0 == triples::load(words, j).from.0
+        && triples::same_path(words, used, question, i, j)
 }
 
 // Whether one of the nodes p to i, i left out, has the from kind and the path of node i. The newest are tried first,
@@ -163,9 +167,7 @@ fn stands_alike(words: &[u64], used: usize, question: &[u8], p: usize, i: usize)
     requires { Has question.now words.now used i × (p ≤ i) }
     ensures { StandsAlike question.now words.now p i result }
 {
-    let mut j = i;
-    while p < j {
-        j = j - 1;
+    for j in (p..i).rev() {
         if alike(words, used, question, i, j) {
             return true;
         }
@@ -179,10 +181,7 @@ fn repeats(words: &[u64], used: usize, question: &[u8], o: PairOperator, p: usiz
     requires { Has question.now words.now used i × (p ≤ i) }
     ensures { Repeats question.now words.now o p i result }
 {
-    match o {
-        PairOperator::BranchLeft => stands_alike(words, used, question, p, i),
-        _ => false,
-    }
+    matches!(o, PairOperator::BranchLeft) && stands_alike(words, used, question, p, i)
 }
 
 // ---- triples: 12
@@ -202,10 +201,10 @@ fn add_pair(
 {
     let x = triples::load(words, i);
     let y = triples::load(words, j);
-    if !fits(o, x, y) {
+    if !o.fits(x, y) {
         return count;
     }
-    triples::add(words, question, s, count, paired(o, i, j, x, y))
+    triples::add(words, question, s, count, o.pair(i, j, x, y))
 }
 
 // Adds what node i gives with each of the nodes ys, up to the 129th; the new count.
@@ -222,13 +221,11 @@ pub fn add_row(
     ensures { Adds question.now words.old words.new s start result (row_in question.now words.old o i ys) }
 {
     let mut count = start;
-    let mut j = ys.start;
-    while j < ys.end {
+    for j in ys.start..ys.end {
         count = add_pair(words, question, o, s, count, i, j);
         if triples::MOST < count {
             return count;
         }
-        j += 1;
     }
     count
 }
@@ -261,23 +258,18 @@ pub fn pair_rule(
     s: usize,
     xs: Span,
     ys: Span,
-) -> Part
+) -> Result<usize, Excess>
     requires { TwoParts question.now words.old s xs ys }
     ensures { Ruled question.now words.old words.new s (distinct (rows_in question.now words.old o xs ys)) result }
 {
     if !rows_short(words, question, o, s, xs, ys) {
-        return Part::Long;
+        return Err(Excess::Long);
     }
     let mut count = 0;
-    let mut i = xs.start;
-    while i < xs.end {
-        count = add_new_row(words, question, o, s, count, xs.start, i, ys);
-        if triples::MOST < count {
-            return Part::Many;
-        }
-        i += 1;
+    for i in xs.start..xs.end {
+        count = few(add_new_row(words, question, o, s, count, xs.start, i, ys))?;
     }
-    Part::Made(count)
+    Ok(count)
 }
 
 // ---- union
@@ -288,32 +280,30 @@ fn add_copies(words: &mut [u64], question: &[u8], s: usize, start: usize, ys: Sp
     ensures { Adds question.now words.old words.new s start result (triples_in question.now words.old ys) }
 {
     let mut count = start;
-    let mut j = ys.start;
-    while j < ys.end {
+    for j in ys.start..ys.end {
         let n = triples::load(words, j);
         count = triples::add(words, question, s, count, n);
         if triples::MOST < count {
             return count;
         }
-        j += 1;
     }
     count
 }
 
 // The rule of union for the nodes xs and ys: its part is made from s on.
-fn union_rule(words: &mut [u64], question: &[u8], s: usize, xs: Span, ys: Span) -> Part
+fn union_rule(
+    words: &mut [u64],
+    question: &[u8],
+    s: usize,
+    xs: Span,
+    ys: Span,
+) -> Result<usize, Excess>
     requires { Unite question.now words.old s xs ys }
     ensures { Ruled question.now words.old words.new s (distinct (op_in question.now words.old union xs ys)) result }
 {
-    let a = add_copies(words, question, s, 0, xs);
-    if triples::MOST < a {
-        return Part::Many;
-    }
+    let a = few(add_copies(words, question, s, 0, xs))?;
     let b = add_copies(words, question, s, a, ys);
-    if triples::MOST < b {
-        return Part::Many;
-    }
-    Part::Made(b)
+    few(b)
 }
 
 // The rule of an operator other than join.
@@ -324,7 +314,7 @@ pub fn op_rule(
     s: usize,
     xs: Span,
     ys: Span,
-) -> Part
+) -> Result<usize, Excess>
     requires { Unite question.now words.old s xs ys }
     ensures { Ruled question.now words.old words.new s (distinct (op_in question.now words.old (operator_said o) xs ys)) result }
 {
@@ -360,12 +350,9 @@ fn add_edge(
         return count;
     }
     let n = Node {
-        made: node.made,
-        left: node.left,
-        right: node.right,
-        size: node.size,
         from: a,
         to: b,
+        ..node
     };
     triples::add(words, question, s, count, n)
 }
@@ -388,13 +375,11 @@ fn add_edges_from(
         return start;
     }
     let mut count = start;
-    let mut b: usize = 0;
-    while b < kinds {
+    for b in 0..kinds {
         count = add_edge(words, question, matrix, node, s, count, a, Kind(b as u8));
         if triples::MOST < count {
             return count;
         }
-        b += 1;
     }
     count
 }
@@ -413,8 +398,7 @@ pub fn add_edges(
     ensures { Adds question.now words.old words.new s start result (edges_of matrix.now (leaf_path question.now node) kinds) }
 {
     let mut count = start;
-    let mut a: usize = 0;
-    while a < kinds {
+    for a in 0..kinds {
         count = add_edges_from(
             words,
             question,
@@ -428,7 +412,6 @@ pub fn add_edges(
         if triples::MOST < count {
             return count;
         }
-        a += 1;
     }
     count
 }
@@ -491,7 +474,7 @@ pub fn step_rule(
     direction: Direction,
     link: Link,
     s: usize,
-) -> Part
+) -> Result<usize, Excess>
     requires { Stepping question.now words.old kinds link.0 s }
     ensures { Ruled question.now words.old words.new s (distinct (of_marks table.now kinds (direction_said direction) link.0)) result }
 {
@@ -505,9 +488,5 @@ pub fn step_rule(
         from: Kind(0),
         to: Kind(0),
     };
-    let count = add_edges(words, question, &matrix, kinds, node, s, 0);
-    if triples::MOST < count {
-        return Part::Many;
-    }
-    Part::Made(count)
+    few(add_edges(words, question, &matrix, kinds, node, s, 0))
 }

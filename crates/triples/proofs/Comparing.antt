@@ -2,14 +2,12 @@
 -- Assumes nothing.
 use mathlib.Core.Path.{◌≡◌, refl, sym, ap, ◌∙◌, subst}
 use mathlib.Core.Bool.{Bool, true, false, true≢false, false≢true}
-use mathlib.Core.Logic.{◌↔◌}
+use mathlib.Core.Logic.{◌↔◌, ◌⊎◌, inl, inr}
 use mathlib.Core.List.{List}
 use mathlib.Core.Option
-use Prim.Native.Nat.{ℕ, ◌+◌, ◌<◌, ◌≤◌}
-use native.Mathlib.Omega.{arith}
+use Prim.Native.Nat.{ℕ}
 use lib.Dec.{T}
-use lib.ListN.{length, take, drop, get_or, length-drop}
-use lib.Seq.{get_or-take, get_or-drop, length-take-le}
+use lib.ListN.{take, drop}
 use borrow.Author.Tests.{eq-eqb, ne_eqb}
 use Rattle.theory.specs.Lists.{decided}
 use Rattle.theory.specs.KindSet.{singleton, has}
@@ -26,7 +24,6 @@ use Rattle.triples.specs.Tests.{Decides}
 use Rattle.triples.proofs.Triples.{triple_from, triple_to}
 use Rattle.triples.proofs.Codes.{last_code}
 use Rattle.triples.proofs.Nodes.{Binary, step_path, kept_path, kept_copied, last_made, left_has, right_has, join_path, join_binary, op_path, op_binary}
-use Rattle.triples.proofs.Writing.{take_more}
 
 pub decides_yes : {P : Type 0} → P → Decides P true
 decides_yes p = record { holds = λ e. p; fails = λ e. absurd (true≢false e) }
@@ -37,23 +34,13 @@ decides_no n = record { holds = λ e. absurd (false≢true e); fails = λ e. n }
 decides_as : {P Q : Type 0} {r : Bool} → (P → Q) → (Q → P) → Decides P r → Decides Q r
 decides_as f g d = record { holds = λ e. f (d.holds e); fails = λ e q. d.fails e (g q) }
 
+-- a test has one outcome
+pub unlike : {P : Type 0} {b : Bool} → b ≡ false → b ≡ true → P
+unlike f t = absurd (true≢false (sym t ∙ f))
+
 -- one node has one path
 pub same_node : (q ws : List ℕ) {a b : ℕ} → a ≡ b → Decides ((triple_of q ws a).path ≡ (triple_of q ws b).path) true
 same_node q ws e = decides_yes (ap (λ (i : ℕ). (triple_of q ws i).path) e)
-
--- ---- parts of a list
-pub take_both : (q : List ℕ) (s t j : ℕ) → s + j < length q → t + j < length q → take j (drop s q) ≡ take j (drop t q) → get_or q (s + j) 0 ≡ get_or q (t + j) 0
-    → take (j + 1) (drop s q) ≡ take (j + 1) (drop t q)
-take_both q s t j hs ht e f = rw (take_more s j q hs, take_more t j q ht, e, f)
-
-pub take_each : (q : List ℕ) (s t n j : ℕ) → j < n → take n (drop s q) ≡ take n (drop t q) → get_or q (s + j) 0 ≡ get_or q (t + j) 0
-take_each q s t n j h e = sym (at s) ∙ ap (λ (l : List ℕ). get_or l j 0) e ∙ at t
-  where
-    at : (s : ℕ) → get_or (take n (drop s q)) j 0 ≡ get_or q (s + j) 0
-    at s = rw (get_or-take n (drop s q) j 0 h, get_or-drop)
-
-pub length_taken : (q : List ℕ) (s n : ℕ) → s + n ≤ length q → length (take n (drop s q)) ≡ n
-length_taken q s n h = length-take-le n (drop s q) (simp length-drop (omega arith))
 
 -- ---- constructors
 closure_inj : {p q : PathExpr} → closure p ≡ closure q → p ≡ q
@@ -178,13 +165,18 @@ module _ (qs ws : List ℕ) (a b : ℕ) {x y : Node} (ex : x ≡ node_at ws a) (
   tos : (x.to.0 ≡ y.to.0) ↔ (s.to ≡ t.to)
   tos = rw (triple_to qs ws a, triple_to qs ws b, ← ex, ← ey) ((λ e. e), (λ e. e))
 
-  pub from_differ : ¬ (x.from.0 ≡ y.from.0) → false ≡ triple? s t
+  from_differ : ¬ (x.from.0 ≡ y.from.0) → false ≡ triple? s t
   unfolding triple?
   from_differ n = rw (ne_eqb s.from t.from (λ e. n (froms.1 e)))
 
-  pub to_differ : x.from.0 ≡ y.from.0 → ¬ (x.to.0 ≡ y.to.0) → false ≡ triple? s t
+  to_differ : x.from.0 ≡ y.from.0 → ¬ (x.to.0 ≡ y.to.0) → false ≡ triple? s t
   unfolding triple?
   to_differ e n = rw (eq-eqb s.from t.from (froms.0 e), ne_eqb s.to t.to (λ f. n (tos.1 f)))
+
+  -- the kinds at both ends were compared, one after the other
+  pub ends_differ : {v : Bool} → (x.from.0 ≡ y.from.0) × ¬ (x.to.0 ≡ y.to.0) ⊎ ¬ (x.from.0 ≡ y.from.0) → v ≡ false → v ≡ triple? s t
+  ends_differ (inl d) f = f ∙ to_differ d.0 d.1
+  ends_differ (inr d) f = f ∙ from_differ d
 
   pub paths_decide : {r : Bool} → x.from.0 ≡ y.from.0 → x.to.0 ≡ y.to.0 → Decides (s.path ≡ t.path) r → r ≡ triple? s t
   unfolding triple?

@@ -1,13 +1,14 @@
 -- Writing a list after another writes both; the symbols of a path are written operand by operand.
 -- Assumes nothing.
-use mathlib.Core.Path.{◌≡◌, refl, sym, ◌∙◌}
+use mathlib.Core.Path.{◌≡◌, refl, sym, ap, ◌∙◌}
 use mathlib.Core.List.{List, [], ◌∷◌, ◌++◌, map-append}
-use Prim.Native.Nat.{ℕ, ◌+◌, ◌<◌}
-use native.Mathlib.Numerals.{add-one}
+use Prim.Native.Nat.{ℕ, ◌+◌, ◌-◌, ◌≤◌}
 use native.Mathlib.Omega.{arith}
-use lib.ListN.{length, get_or, set, take, drop, replicate, length-append, length-set, length-drop, replicate-append-replicate}
-use lib.Seq.{take-suc, get_or-drop}
+use lib.ListN.{length, set, take, drop, replicate, length-append, length-set, length-drop, length-replicate}
+use lib.Seq.{sets, sets-eq, length-sets, drop-drop, length-take-le}
+use borrow.Rule.Slice.PartMut.{put_mid}
 use Rattle.theory.specs.PathExpr.{Via, Op, PathExpr, join, op, closure, s_join, op_code}
+use Rattle.std.proofs.Common.{append_assoc}
 use Rattle.theory.proofs.Lists.{sets_append}
 use Rattle.theory.specs.JoinSets.{set_of}
 use Rattle.triples.specs.Expansion.{PathWritten, Expanded}
@@ -35,16 +36,31 @@ wrote_none at xs ys = record { codes_are = refl; sets_are = refl; as_many = refl
 pub wrote_as : {at end : ℕ} {cs ss cs' ss' xs ys xs' ys' : List ℕ} → PathWritten at cs ss xs ys xs' ys' end → cs ≡ cs' → ss ≡ ss' → PathWritten at cs' ss' xs ys xs' ys' end
 wrote_as w p q = rw (← p, ← q) w
 
--- ---- a copy, symbol by symbol
-pub take_more : (s j : ℕ) (q : List ℕ) → s + j < length q → take (j + 1) (drop s q) ≡ take j (drop s q) ++ (get_or q (s + j) 0 ∷ [])
-take_more s j q h = rw (add-one, take-suc (drop s q) j 0 (simp length-drop (omega arith)), get_or-drop)
+-- ---- a part that is overwritten
+overwritten : (at n : ℕ) (xs ys : List ℕ) → at + n ≤ length xs → length ys ≡ n → put_mid at (at + n - at) xs ys ≡ sets xs at ys
+overwritten at n xs ys h e =
+    let k : at + n - at ≡ length ys = omega arith in
+    rw (k, sets-eq ys xs at (omega arith), drop-drop, append_assoc) refl
 
-pub copy_more : {at : ℕ} (s j : ℕ) (q : List ℕ) {xs ys xs' ys' : List ℕ} → s + j < length q
-    → PathWritten at (take j (drop s q)) (replicate j 0) xs ys xs' ys' (at + j)
-    → PathWritten at (take (j + 1) (drop s q)) (replicate (j + 1) 0) xs ys (set xs' (at + j) (get_or q (s + j) 0)) (set ys' (at + j) 0) (at + (j + 1))
-copy_more {at} s j q {xs' = xs'} {ys'} h w =
-    let e : at + (j + 1) ≡ at + j + 1 = omega arith in
-    rw e (wrote_as (wrote_then w (wrote_one (at + j) (get_or q (s + j) 0) 0 xs' ys')) (sym (take_more s j q h)) (replicate-append-replicate j 1 0))
+length_taken : (s n : ℕ) (q : List ℕ) → s + n ≤ length q → length (take (s + n - s) (drop s q)) ≡ n
+length_taken s n q h = let k : s + n - s ≡ n = omega arith in rw k (length-take-le n (drop s q) (simp length-drop (omega arith)))
+
+-- n symbols of the question from s on, with no sets
+pub copied : (q xs ys : List ℕ) {us vs : List ℕ} (s n at : ℕ) → s + n ≤ length q → at + n ≤ length xs → at + n ≤ length ys → us ≡ take (s + n - s) (drop s q)
+    → vs ≡ replicate (length (take (at + n - at) (drop at ys))) 0
+    → PathWritten at (take n (drop s q)) (replicate n 0) xs ys (put_mid at (at + n - at) xs us) (put_mid at (at + n - at) ys vs) (at + n)
+copied q xs ys s n at hq hx hy eu ev =
+    let k : s + n - s ≡ n = omega arith in
+    let lc : length (take n (drop s q)) ≡ n = rw k at (length_taken s n q hq) in
+    rw (eu, ev, k, length_taken at n ys hy, overwritten at n xs (take n (drop s q)) hx lc, overwritten at n ys (replicate n 0) hy (length-replicate n 0))
+    (record {
+      codes_are = refl;
+      sets_are = refl;
+      as_many = length-replicate n 0 ∙ sym lc;
+      ends = ap (λ (m : ℕ). at + m) (sym lc);
+      codes_length = length-sets xs at (take n (drop s q));
+      sets_length = length-sets ys at (replicate n 0);
+    })
 
 -- ---- the symbols of a path, operand by operand
 module _ (p q : PathExpr) {at mid end r : ℕ} {xs ys xs₁ ys₁ xs₂ ys₂ xs₃ ys₃ : List ℕ} where

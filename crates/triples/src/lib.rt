@@ -37,13 +37,14 @@ pub struct Node {
     pub to: Kind,
 }
 
-// The nodes from `start` on, up to `end`, which is left out.
+// The nodes from `start` on, up to `end`, which is left out. Not std's Range, which is not Copy: its clone can fail here, and a span is used more than once.
 #[derive(Clone, Copy)]
 pub struct Span {
     pub start: usize,
     pub end: usize,
 }
 
+// A node is packed into one word of the lent area, whose size is fixed, and so not a struct in an array of its own.
 pub fn load(words: &[u64], i: usize) -> Node
     requires { i < length words.now }
     ensures { Loaded words.now i result }
@@ -63,10 +64,10 @@ pub fn store(words: &mut [u64], i: usize, n: Node)
     requires { (i < length words.old) × InRange n }
     ensures { words.new ≡ set words.old i (word_of n) }
 {
-    let x = ((((n.made as usize * PLACES + n.left) * PLACES + n.right) * SIZES + n.size) * KINDS
-        + n.from.0 as usize)
+    let x = ((((usize::from(n.made) * PLACES + n.left) * PLACES + n.right) * SIZES + n.size) * KINDS
+        + usize::from(n.from.0))
         * KINDS
-        + n.to.0 as usize;
+        + usize::from(n.to.0);
     words[i] = x as u64;
 }
 
@@ -85,12 +86,8 @@ fn copy(question: &[u8], s: usize, n: usize, codes: &mut [u8], vias: &mut [u64],
     requires { (s + n ≤ length question.now) × (at + n ≤ length codes.old) × (at + n ≤ length vias.old) }
     ensures { PathWritten at (take n (drop s question.now)) (replicate n 0) codes.old vias.old codes.new vias.new result }
 {
-    let mut j = 0;
-    while j < n {
-        codes[at + j] = question[s + j];
-        vias[at + j] = 0;
-        j += 1;
-    }
+    codes[at..at + n].copy_from_slice(&question[s..s + n]);
+    vias[at..at + n].fill(0);
     at + n
 }
 
@@ -133,17 +130,7 @@ fn same_codes(question: &[u8], s: usize, n: usize, t: usize, m: usize) -> bool
     requires { (s + n ≤ length question.now) × (t + m ≤ length question.now) }
     ensures { Decides (take n (drop s question.now) ≡ take m (drop t question.now)) result }
 {
-    if n != m {
-        return false;
-    }
-    let mut j = 0;
-    while j < n {
-        if question[s + j] != question[t + j] {
-            return false;
-        }
-        j += 1;
-    }
-    true
+    question[s..s + n] == question[t..t + m]
 }
 
 // Whether nodes a and b have the same path. Paths share their operands, so that most comparisons end where two nodes
@@ -163,25 +150,15 @@ pub fn same_path(words: &[u64], used: usize, question: &[u8], a: usize, b: usize
     match symbols::decode(x.made, 0) {
         Symbol::Step(_, _) => true,
         Symbol::Join(_) => {
-            if load(words, x.right).made != load(words, y.right).made {
-                return false;
-            }
-            if load(words, x.left).to.0 != load(words, y.left).to.0 {
-                return false;
-            }
-            if !same_path(words, used, question, x.left, y.left) {
-                return false;
-            }
-            same_path(words, used, question, x.right, y.right)
+            load(words, x.right).made == load(words, y.right).made
+                && load(words, x.left).to.0 == load(words, y.left).to.0
+                && same_path(words, used, question, x.left, y.left)
+                && same_path(words, used, question, x.right, y.right)
         }
         Symbol::Op(_) => {
-            if load(words, x.right).made != load(words, y.right).made {
-                return false;
-            }
-            if !same_path(words, used, question, x.left, y.left) {
-                return false;
-            }
-            same_path(words, used, question, x.right, y.right)
+            load(words, x.right).made == load(words, y.right).made
+                && same_path(words, used, question, x.left, y.left)
+                && same_path(words, used, question, x.right, y.right)
         }
         Symbol::Closure => same_codes(question, x.left, x.right, y.left, y.right),
     }
@@ -194,13 +171,7 @@ pub fn same(words: &[u64], used: usize, question: &[u8], a: usize, b: usize) -> 
 {
     let x = load(words, a);
     let y = load(words, b);
-    if x.from.0 != y.from.0 {
-        return false;
-    }
-    if x.to.0 != y.to.0 {
-        return false;
-    }
-    same_path(words, used, question, a, b)
+    x.from.0 == y.from.0 && x.to.0 == y.to.0 && same_path(words, used, question, a, b)
 }
 
 // Whether the triple of node u is among those of nodes s to u - 1. The newest come first: under a branch right a triple
@@ -209,9 +180,7 @@ fn stands(words: &[u64], question: &[u8], s: usize, u: usize) -> bool
     requires { Has question.now words.now (u + 1) u × (s ≤ u) }
     ensures { result ≡ some? (triple? (triple_of question.now words.now u)) (part_of question.now words.now s (u - s)) }
 {
-    let mut j = u;
-    while s < j {
-        j = j - 1;
+    for j in (s..u).rev() {
         if same(words, u + 1, question, u, j) {
             return true;
         }

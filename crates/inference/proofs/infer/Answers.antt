@@ -1,8 +1,13 @@
 -- `inference::infer` meets its contract: each part on the stack has the triples of its path, and the first symbol whose rule is refused is the first that the definition refuses.
 -- Assumes nothing.
 use native.Mathlib.Omega.{arith}
+use mathlib.Core.Path.{◌≡◌}
+use Rattle.rules.specs.Outcome.{refusal_at}
+use Rattle.std.proofs.Common.{rules}
+use Rattle.std.proofs.lemmas.Result.{err_from_is_err_and}
+use Rattle.inference.proofs.Told.{mapped_ok, mapped_err}
 use Rattle.inference.proofs.Turning.{enough, turn_at}
-use Rattle.inference.proofs.Running.{running_start, running_many, running_long, running_more, running_end}
+use Rattle.inference.proofs.Running.{running_start, running_stops, running_more, running_end}
 use Rattle.inference.proofs.infer.Goals as goal
 
 pub loop-i-init : goal.loop-i-init
@@ -11,28 +16,27 @@ loop-i-init c = (c.requires, running_start c.requires)
 pub overflow_sub-b : goal.overflow_sub-b
 overflow_sub-b c = omega (arith, enough c.loop-i.invariant.0 c.loop-i.invariant.1 c.loop-i-test.true c.decode-k.ensures c.operands.ensures)
 
-pub rule-requires : goal.rule-requires
-rule-requires c = (turn_at c.loop-i.invariant.0 c.loop-i.invariant.1 c.loop-i-test.true c.decode-k.ensures c.operands.ensures).asks
+pub rule-made-requires : goal.rule-made-requires
+rule-made-requires c = (turn_at c.loop-i.invariant.0 c.loop-i.invariant.1 c.loop-i-test.true c.decode-k.ensures c.operands.ensures).asks
 
-pub returns-in-Long : goal.returns-in-Long
-returns-in-Long c =
-    running_long c.loop-i.invariant.0 c.loop-i.invariant.1 c.loop-i-test.true c.decode-k.ensures c.operands.ensures c.rule.ensures c.in-Long.is
-
-pub returns-in-Many : goal.returns-in-Many
-returns-in-Many c =
-    running_many c.loop-i.invariant.0 c.loop-i.invariant.1 c.loop-i-test.true c.decode-k.ensures c.operands.ensures c.rule.ensures c.in-Many.is
+pub returns-in_err-n : goal.returns-in_err-n
+returns-in_err-n c =
+    let p = err_from_is_err_and c.from_residual.result c.from_residual.ensures.1 in
+    let m = mapped_err _ c.rule-made.result c.map_err.ensures.cases c.in_err-n.was in
+    let r : c.in_err-n.field-0.0 ≡ refusal_at m.0 c.loop-i.i-counter = (let q = m.2 in search rules) in
+    rw (p.1, p.2, r) (running_stops c.loop-i.invariant.0 c.loop-i.invariant.1 c.loop-i-test.true c.decode-k.ensures c.operands.ensures c.rule-made.ensures m.0 m.1)
 
 pub overflow_add-nodes : goal.overflow_add-nodes
-overflow_add-nodes c = omega (arith, c.rule.ensures.few c.in-Made.n c.in-Made.is)
+overflow_add-nodes c = omega (arith, c.rule-made.ensures.few c.in_ok-n.n (mapped_ok _ c.rule-made.result c.map_err.ensures.cases c.in_ok-n.was))
 
 pub overflow_add-used : goal.overflow_add-used
-overflow_add-used c = omega (arith, c.rule.ensures.few c.in-Made.n c.in-Made.is)
+overflow_add-used c = omega (arith, c.rule-made.ensures.few c.in_ok-n.n (mapped_ok _ c.rule-made.result c.map_err.ensures.cases c.in_ok-n.was))
 
 pub loop-i-preserved : goal.loop-i-preserved
 loop-i-preserved c = (
   c.loop-i.invariant.0,
-  running_more c.loop-i.invariant.0 c.loop-i.invariant.1 c.loop-i-test.true c.decode-k.ensures c.operands.ensures c.rule.ensures c.in-Made.is
-      c.origin.ensures,
+  running_more c.loop-i.invariant.0 c.loop-i.invariant.1 c.loop-i-test.true c.decode-k.ensures c.operands.ensures c.rule-made.ensures
+      (mapped_ok _ c.rule-made.result c.map_err.ensures.cases c.in_ok-n.was) c.origin.ensures,
 )
 
 pub returns : goal.returns

@@ -5,4 +5,4 @@ use Rattle.inference.proofs.infer.Given as goal
 
 abbrev pub invariant-loop-i : goal.invariant-loop-i
 invariant-loop-i l = (h : Asking l.question l.initial.words l.count l.kinds) × Running l.question l.initial.words l.words l.table l.count l.kinds
-    h.path l.parts l.depth l.used l.i
+    h.path l.parts l.depth l.used l.i-counter

@@ -8,8 +8,8 @@ returns-then-not-fits c = pair_skipped c.requires c.load-x.ensures c.load-y.ensu
 
 pub add-requires : goal.add-requires
 add-requires c =
-    rw c.paired.ensures (pair_candidate c.requires c.load-x.ensures c.load-y.ensures c.fits.ensures c.if-not-fits.false)
+    rw c.pair.ensures (pair_candidate c.requires c.load-x.ensures c.load-y.ensures c.fits.ensures c.if-not-fits.false)
 
 pub returns : goal.returns
 returns c =
-    pair_added c.requires c.load-x.ensures c.load-y.ensures c.fits.ensures c.if-not-fits.false (rw c.paired.ensures at c.add.ensures)
+    pair_added c.requires c.load-x.ensures c.load-y.ensures c.fits.ensures c.if-not-fits.false (rw c.pair.ensures at c.add.ensures)

@@ -6,13 +6,13 @@ use Rattle.rules.proofs.row_short.Goals as goal
 pub loop-j-init : goal.loop-j-init
 loop-j-init c = row_left _ _ _ _ _ _ c.requires.2.ordered
 
-pub returns-then-not-pair_short : goal.returns-then-not-pair_short
-returns-then-not-pair_short c =
-    row_long c.requires.0 c.loop-j.invariant c.requires.1 c.requires.2 c.loop-j-test.true c.load-x.ensures c.load-y.ensures c.pair_short.ensures c.if-not-pair_short.true
+pub returns-then-not-short : goal.returns-then-not-short
+returns-then-not-short c =
+    row_long c.requires.0 c.loop-j.invariant c.requires.1 c.requires.2 c.loop-j-test.true c.load-x.ensures c.load-y.ensures c.short.ensures c.if-not-short.true
 
 pub loop-j-preserved : goal.loop-j-preserved
 loop-j-preserved c =
-    row_goes c.requires.0 c.loop-j.invariant c.requires.1 c.requires.2 c.loop-j-test.true c.load-x.ensures c.load-y.ensures c.pair_short.ensures c.if-not-pair_short.false
+    row_goes c.requires.0 c.loop-j.invariant c.requires.1 c.requires.2 c.loop-j-test.true c.load-x.ensures c.load-y.ensures c.short.ensures c.if-not-short.false
 
 pub returns : goal.returns
 returns c = row_shorter c.requires.0 c.loop-j.invariant c.loop-j-test.false

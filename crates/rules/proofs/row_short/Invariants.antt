@@ -1,10 +1,6 @@
 -- `rules::row_short` meets its contract: while each pair passed is short, the row is short if the rest of it is; one long pair makes the row long.
 use Rattle.rules.proofs.Rows.{RowLeft}
-use Prim.Native.Nat.{◌-◌}
 use Rattle.rules.proofs.row_short.Given as goal
 
 abbrev pub invariant-loop-j : goal.invariant-loop-j
-invariant-loop-j l = RowLeft l.question l.words l.o l.i l.ys.start l.ys.end l.j
-
-abbrev pub decreases-loop-j : goal.decreases-loop-j
-decreases-loop-j l = l.ys.end - l.j
+invariant-loop-j l = RowLeft l.question l.words l.o l.i l.fn.ys.start l.fn.ys.end l.j

@@ -1,20 +1,23 @@
 -- `rules::union_rule` meets its contract: the candidates are one part and then the other, and no path of either is over 48 symbols long.
 -- Assumes nothing.
-use Rattle.rules.proofs.Unions.{first_asks, first_many, second_asks, union_many, union_made}
+use Rattle.std.proofs.lemmas.Result.{err_from_is_err_and}
+use Rattle.rules.proofs.Unions.{first_asks, first_many, second_asks, union_told}
+use Rattle.rules.proofs.RuleOutcome.{few_made, few_not}
 use Rattle.rules.proofs.union_rule.Goals as goal
 
-pub add_copies-a-requires : goal.add_copies-a-requires
-add_copies-a-requires c = first_asks c.requires
+pub add_copies-requires : goal.add_copies-requires
+add_copies-requires c = first_asks c.requires
 
-pub returns-then-a-gt-MOST : goal.returns-then-a-gt-MOST
-returns-then-a-gt-MOST c = first_many c.requires c.add_copies-a.ensures c.if-a-gt-MOST.true
+pub returns-in_err-a : goal.returns-in_err-a
+returns-in_err-a c =
+    let p = err_from_is_err_and c.from_residual.result c.from_residual.ensures.1 in
+    let m = few_not c.in_err-a.ensures in
+    rw (p.1, p.2, m.0) (first_many c.requires c.add_copies.ensures m.1)
 
 pub add_copies-b-requires : goal.add_copies-b-requires
-add_copies-b-requires c = second_asks c.requires c.add_copies-a.ensures c.if-a-gt-MOST.false
-
-pub returns-then-b-gt-MOST : goal.returns-then-b-gt-MOST
-returns-then-b-gt-MOST c = union_many c.requires c.add_copies-a.ensures c.if-a-gt-MOST.false c.add_copies-b.ensures c.if-b-gt-MOST.true
+add_copies-b-requires c = let m = few_made c.in_ok-a.ensures in rw m.0 (second_asks c.requires c.add_copies.ensures m.1)
 
 pub returns : goal.returns
 returns c =
-    union_made c.requires c.add_copies-a.ensures c.if-a-gt-MOST.false c.add_copies-b.ensures c.if-b-gt-MOST.false
+    let m = few_made c.in_ok-a.ensures in
+    rw c.few-2.ensures (union_told c.requires c.add_copies.ensures m.1 (rw m.0 at c.add_copies-b.ensures))

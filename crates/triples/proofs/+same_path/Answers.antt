@@ -2,11 +2,13 @@
 -- Assumes nothing.
 use Rattle.symbols.proofs.Numbers.{decoded}
 use Rattle.triples.specs.declared.Node.{Node}
-use Rattle.triples.proofs.Comparing.{same_node, made_differ, lefts_has, rights_has, same_steps, both_copied, same_kept}
-use Rattle.triples.proofs.Comparing.{joins, kinds_differ, join_lefts_differ, join_rights_differ, same_joins, ops, op_lefts_differ, op_rights_differ, same_ops}
-use mathlib.Core.Path.{sym, ap, ◌∙◌, subst}
+use Rattle.triples.proofs.Comparing.{same_node, made_differ, same_steps, same_kept, unlike}
+use Rattle.triples.proofs.Comparing.{kinds_differ, join_lefts_differ, join_rights_differ, same_joins, op_lefts_differ, op_rights_differ, same_ops}
+use mathlib.Core.Path.{sym, ap, ◌∙◌}
+use borrow.Author.Tests.{eqb-true, eqb-false}
 use native.Mathlib.Omega.{arith}
-use Prim.Native.Nat.{ℕ, ◌<◌}
+use Prim.Native.Nat.{ℕ}
+use Rattle.triples.proofs.+same_path.Goals.{then-load, else-load, then-load-2, else-load-2, then-load-3, else-load-3}
 use Rattle.triples.proofs.+same_path.Goals as goal
 
 -- Tie as tie
@@ -23,116 +25,61 @@ load-y-requires t c = omega (arith, c.requires.1.in_use, c.requires.1.in_table)
 pub returns-then-x-y : goal.returns-then-x-y
 returns-then-x-y t c = made_differ c.requires.0 c.requires.1 c.load-x.ensures.is c.load-y.ensures.is c.if-x-y.true
 
-pub load-requires : goal.load-requires
-load-requires t c =
-    let p = joins c.requires.0 c.requires.1 c.load-x.ensures.is c.load-y.ensures.is c.if-x-y.false _ (decoded c.decode.ensures c.in-Join.is) in
-    let h = (rights_has c.requires.0 c.requires.1 c.load-x.ensures.is c.load-y.ensures.is p.0 p.1).0 in
-    omega (arith, h.in_use, h.in_table)
+abbrev to_kind : Node → ℕ
+to_kind n = n.to.0
 
-pub load-requires-in-Join : goal.load-requires-in-Join
-load-requires-in-Join t c =
-    let p = joins c.requires.0 c.requires.1 c.load-x.ensures.is c.load-y.ensures.is c.if-x-y.false _ (decoded c.decode.ensures c.in-Join.is) in
-    let h = (rights_has c.requires.0 c.requires.1 c.load-x.ensures.is c.load-y.ensures.is p.0 p.1).1 in
-    omega (arith, h.in_use, h.in_table)
-
-pub returns-then-load : goal.returns-then-load
-returns-then-load t c =
-    join_rights_differ c.requires.0 c.requires.1 c.load-x.ensures.is c.load-y.ensures.is c.if-x-y.false _ (decoded c.decode.ensures c.in-Join.is)
-    (λ e. c.if-load.true (ap (λ (n : Node). n.made) c.load.ensures.is ∙ e ∙ sym (ap (λ (n : Node). n.made) c.load-in-Join.ensures.is)))
-
-pub load-requires-in-Join-2 : goal.load-requires-in-Join-2
-load-requires-in-Join-2 t c =
-    let p = joins c.requires.0 c.requires.1 c.load-x.ensures.is c.load-y.ensures.is c.if-x-y.false _ (decoded c.decode.ensures c.in-Join.is) in
-    let h = (lefts_has c.requires.0 c.requires.1 c.load-x.ensures.is c.load-y.ensures.is p.0 p.1).0 in
-    omega (arith, h.in_use, h.in_table)
-
-pub load-requires-in-Join-3 : goal.load-requires-in-Join-3
-load-requires-in-Join-3 t c =
-    let p = joins c.requires.0 c.requires.1 c.load-x.ensures.is c.load-y.ensures.is c.if-x-y.false _ (decoded c.decode.ensures c.in-Join.is) in
-    let h = (lefts_has c.requires.0 c.requires.1 c.load-x.ensures.is c.load-y.ensures.is p.0 p.1).1 in
-    omega (arith, h.in_use, h.in_table)
-
-pub returns-then-load-2 : goal.returns-then-load-2
-returns-then-load-2 t c =
-    kinds_differ c.requires.0 c.requires.1 c.load-x.ensures.is c.load-y.ensures.is c.if-x-y.false _ (decoded c.decode.ensures c.in-Join.is)
-    (λ e. c.if-load-2.true (ap (λ (n : Node). n.to.0) c.load-in-Join-2.ensures.is ∙ e ∙ sym (ap (λ (n : Node). n.to.0) c.load-in-Join-3.ensures.is)))
-
-pub same_path-requires : goal.same_path-requires
-same_path-requires t c =
-    let p = joins c.requires.0 c.requires.1 c.load-x.ensures.is c.load-y.ensures.is c.if-x-y.false _ (decoded c.decode.ensures c.in-Join.is) in (
-      subst (λ (j : ℕ). c.load-x.result.left < j) c.decreases p.0.two.left_below,
-      lefts_has c.requires.0 c.requires.1 c.load-x.ensures.is c.load-y.ensures.is p.0 p.1,
-    )
-
-pub returns-then-not-same_path : goal.returns-then-not-same_path
-returns-then-not-same_path t c =
-    join_lefts_differ c.requires.0 c.requires.1 c.load-x.ensures.is c.load-y.ensures.is c.if-x-y.false _ (decoded c.decode.ensures c.in-Join.is)
-    (c.same_path.ensures.fails c.if-not-same_path.true)
-
-pub same_path-requires-in-Join : goal.same_path-requires-in-Join
-same_path-requires-in-Join t c =
-    let p = joins c.requires.0 c.requires.1 c.load-x.ensures.is c.load-y.ensures.is c.if-x-y.false _ (decoded c.decode.ensures c.in-Join.is) in (
-      subst (λ (j : ℕ). c.load-x.result.right < j) c.decreases p.0.two.right_below,
-      rights_has c.requires.0 c.requires.1 c.load-x.ensures.is c.load-y.ensures.is p.0 p.1,
-    )
-
-pub load-requires-in-Op : goal.load-requires-in-Op
-load-requires-in-Op t c =
-    let p = ops c.requires.0 c.requires.1 c.load-x.ensures.is c.load-y.ensures.is c.if-x-y.false _ (decoded c.decode.ensures c.in-Op.is) in
-    let h = (rights_has c.requires.0 c.requires.1 c.load-x.ensures.is c.load-y.ensures.is p.0 p.1).0 in
-    omega (arith, h.in_use, h.in_table)
-
-pub load-requires-in-Op-2 : goal.load-requires-in-Op-2
-load-requires-in-Op-2 t c =
-    let p = ops c.requires.0 c.requires.1 c.load-x.ensures.is c.load-y.ensures.is c.if-x-y.false _ (decoded c.decode.ensures c.in-Op.is) in
-    let h = (rights_has c.requires.0 c.requires.1 c.load-x.ensures.is c.load-y.ensures.is p.0 p.1).1 in
-    omega (arith, h.in_use, h.in_table)
-
-pub returns-then-load-3 : goal.returns-then-load-3
-returns-then-load-3 t c =
-    op_rights_differ c.requires.0 c.requires.1 c.load-x.ensures.is c.load-y.ensures.is c.if-x-y.false _ (decoded c.decode.ensures c.in-Op.is)
-    (λ e. c.if-load-3.true (ap (λ (n : Node). n.made) c.load-in-Op.ensures.is ∙ e ∙ sym (ap (λ (n : Node). n.made) c.load-in-Op-2.ensures.is)))
-
-pub same_path-requires-in-Op : goal.same_path-requires-in-Op
-same_path-requires-in-Op t c =
-    let p = ops c.requires.0 c.requires.1 c.load-x.ensures.is c.load-y.ensures.is c.if-x-y.false _ (decoded c.decode.ensures c.in-Op.is) in (
-      subst (λ (j : ℕ). c.load-x.result.left < j) c.decreases p.0.two.left_below,
-      lefts_has c.requires.0 c.requires.1 c.load-x.ensures.is c.load-y.ensures.is p.0 p.1,
-    )
-
-pub returns-then-not-same_path-2 : goal.returns-then-not-same_path-2
-returns-then-not-same_path-2 t c =
-    op_lefts_differ c.requires.0 c.requires.1 c.load-x.ensures.is c.load-y.ensures.is c.if-x-y.false _ (decoded c.decode.ensures c.in-Op.is)
-    (c.same_path-in-Op.ensures.fails c.if-not-same_path-2.true)
-
-pub same_path-requires-in-Op-2 : goal.same_path-requires-in-Op-2
-same_path-requires-in-Op-2 t c =
-    let p = ops c.requires.0 c.requires.1 c.load-x.ensures.is c.load-y.ensures.is c.if-x-y.false _ (decoded c.decode.ensures c.in-Op.is) in (
-      subst (λ (j : ℕ). c.load-x.result.right < j) c.decreases p.0.two.right_below,
-      rights_has c.requires.0 c.requires.1 c.load-x.ensures.is c.load-y.ensures.is p.0 p.1,
-    )
-
-pub same_codes-requires : goal.same_codes-requires
-same_codes-requires t c =
-    let p = both_copied c.requires.0 c.requires.1 c.load-x.ensures.is c.load-y.ensures.is c.if-x-y.false (decoded c.decode.ensures c.in-Closure.is) in
-    (p.0.inside, p.1.inside)
+abbrev made_of : Node → ℕ
+made_of n = n.made
 
 pub returns-in-Step : goal.returns-in-Step
 returns-in-Step t c =
     same_steps c.requires.0 c.requires.1 c.load-x.ensures.is c.load-y.ensures.is c.if-x-y.false _ _ (decoded c.decode.ensures c.in-Step.is)
 
-pub returns-else-not-same_path : goal.returns-else-not-same_path
-returns-else-not-same_path t c =
-    same_joins c.requires.0 c.requires.1 c.load-x.ensures.is c.load-y.ensures.is c.if-x-y.false _ (decoded c.decode.ensures c.in-Join.is)
-    (sym (ap (λ (n : Node). n.to.0) c.load-in-Join-2.ensures.is) ∙ c.if-load-2.false ∙ ap (λ (n : Node). n.to.0) c.load-in-Join-3.ensures.is)
-    (c.same_path.ensures.holds c.if-not-same_path.false) c.same_path-in-Join.ensures
-
-pub returns-else-not-same_path-2 : goal.returns-else-not-same_path-2
-returns-else-not-same_path-2 t c =
-    same_ops c.requires.0 c.requires.1 c.load-x.ensures.is c.load-y.ensures.is c.if-x-y.false _ (decoded c.decode.ensures c.in-Op.is)
-    (c.same_path-in-Op.ensures.holds c.if-not-same_path-2.false) c.same_path-in-Op-2.ensures
-
 pub returns-in-Closure : goal.returns-in-Closure
 returns-in-Closure t c =
     same_kept c.requires.0 c.requires.1 c.load-x.ensures.is c.load-y.ensures.is c.if-x-y.false (decoded c.decode.ensures c.in-Closure.is)
     c.same_codes.ensures
+
+-- a join: the tests in a row have said yes, or one of them has said no
+pub returns-then-same_path : goal.returns-then-same_path
+returns-then-same_path t c =
+    elim c.if-load-2.branch [
+      | then-load-2 w ↦ elim c.if-load.branch [
+        | then-load v ↦
+            same_joins c.requires.0 c.requires.1 c.load-x.ensures.is c.load-y.ensures.is c.if-x-y.false _ (decoded c.decode.ensures c.in-Join.is)
+            (sym (ap to_kind v.load-then-load.ensures.is) ∙ eqb-true _ _ (sym v.value-is ∙ w.if-load-2.true) ∙ ap to_kind v.load-then-load-2.ensures.is)
+            (w.same_path.ensures.holds (sym w.value-is ∙ c.if-same_path.true)) c.same_path-then-same_path.ensures
+        | else-load v ↦ absurd (v.if-load.false (eqb-true _ _ (sym v.value-is ∙ w.if-load-2.true)))
+      ]
+      | else-load-2 w ↦ unlike (w.value-is ∙ w.if-load-2.false) c.if-same_path.true
+    ]
+
+pub returns-else-same_path : goal.returns-else-same_path
+returns-else-same_path t c =
+    rw c.if-same_path.false (elim c.if-load-2.branch [
+      | then-load-2 w ↦ join_lefts_differ c.requires.0 c.requires.1 c.load-x.ensures.is c.load-y.ensures.is c.if-x-y.false _ (decoded c.decode.ensures c.in-Join.is) (w.same_path.ensures.fails (sym w.value-is ∙ c.if-same_path.false))
+      | else-load-2 w ↦ elim c.if-load.branch [
+        | then-load v ↦
+            kinds_differ c.requires.0 c.requires.1 c.load-x.ensures.is c.load-y.ensures.is c.if-x-y.false _ (decoded c.decode.ensures c.in-Join.is)
+            (λ e. eqb-false _ _ (sym v.value-is ∙ w.if-load-2.false) (ap to_kind v.load-then-load.ensures.is ∙ e ∙ sym (ap to_kind v.load-then-load-2.ensures.is)))
+        | else-load v ↦
+            join_rights_differ c.requires.0 c.requires.1 c.load-x.ensures.is c.load-y.ensures.is c.if-x-y.false _ (decoded c.decode.ensures c.in-Join.is) (λ e. v.if-load.false (ap made_of c.load.ensures.is ∙ e ∙ sym (ap made_of c.load-in-Join.ensures.is)))
+      ]
+    ])
+
+-- another operator: the same without kinds
+pub returns-then-same_path-2 : goal.returns-then-same_path-2
+returns-then-same_path-2 t c =
+    elim c.if-load-3.branch [
+      | then-load-3 w ↦
+          same_ops c.requires.0 c.requires.1 c.load-x.ensures.is c.load-y.ensures.is c.if-x-y.false _ (decoded c.decode.ensures c.in-Op.is)
+          (w.same_path-then-load-3.ensures.holds (sym w.value-is ∙ c.if-same_path-2.true)) c.same_path-then-same_path-2.ensures
+      | else-load-3 w ↦ absurd (w.if-load-3.false (eqb-true _ _ (sym w.value-is ∙ c.if-same_path-2.true)))
+    ]
+
+pub returns-else-same_path-2 : goal.returns-else-same_path-2
+returns-else-same_path-2 t c =
+    rw c.if-same_path-2.false (elim c.if-load-3.branch [
+      | then-load-3 w ↦ op_lefts_differ c.requires.0 c.requires.1 c.load-x.ensures.is c.load-y.ensures.is c.if-x-y.false _ (decoded c.decode.ensures c.in-Op.is) (w.same_path-then-load-3.ensures.fails (sym w.value-is ∙ c.if-same_path-2.false))
+      | else-load-3 w ↦ op_rights_differ c.requires.0 c.requires.1 c.load-x.ensures.is c.load-y.ensures.is c.if-x-y.false _ (decoded c.decode.ensures c.in-Op.is) (λ e. w.if-load-3.false (ap made_of c.load-in-Op.ensures.is ∙ e ∙ sym (ap made_of c.load-in-Op-2.ensures.is)))
+    ])

@@ -4,24 +4,20 @@ use mathlib.Core.Path.{sym, ◌∙◌}
 use Rattle.theory.specs.Inference.{triple?}
 use Rattle.triples.proofs.Growing.{look_yes, look_on, look_end}
 use Rattle.triples.specs.Paths.{triple_of}
-use native.Mathlib.Omega.{arith}
 use Rattle.triples.proofs.stands.Goals as goal
 
 pub returns-then-same : goal.returns-then-same
 returns-then-same c =
     let a = c.args in
-    sym (c.loop-j.invariant.2 ∙ look_yes a.question.now a.words.now (triple? (triple_of a.question.now a.words.now a.u)) a.s c.loop-j.j (omega arith)
+    sym (c.loop-j.invariant ∙ look_yes a.question.now a.words.now (triple? (triple_of a.question.now a.words.now a.u)) a.s c.loop-j.j c.loop-j-test.true
     (sym c.same.ensures ∙ c.if-same.true))
 
 pub loop-j-preserved : goal.loop-j-preserved
 loop-j-preserved c =
-    let a = c.args in (
-      omega arith,
-      omega arith,
-      c.loop-j.invariant.2 ∙ look_on a.question.now a.words.now (triple? (triple_of a.question.now a.words.now a.u)) a.s c.loop-j.j (omega arith)
-          (sym c.same.ensures ∙ c.if-same.false),
-    )
+    let a = c.args in
+    c.loop-j.invariant ∙ look_on a.question.now a.words.now (triple? (triple_of a.question.now a.words.now a.u)) a.s c.loop-j.j c.loop-j-test.true
+    (sym c.same.ensures ∙ c.if-same.false)
 
 pub returns : goal.returns
 returns c = let a = c.args in
-    sym (c.loop-j.invariant.2 ∙ look_end a.question.now a.words.now (triple? (triple_of a.question.now a.words.now a.u)) a.s c.loop-j.j (omega arith))
+    sym (c.loop-j.invariant ∙ look_end a.question.now a.words.now (triple? (triple_of a.question.now a.words.now a.u)) a.s c.loop-j.j c.loop-j-test.false)

@@ -4,12 +4,9 @@ use Rattle.theory.specs.Lists.{some?}
 use Rattle.theory.specs.Inference.{triple?}
 use Rattle.triples.specs.Paths.{triple_of}
 use Rattle.triples.specs.Parts.{part_of}
-use Prim.Native.Nat.{◌-◌, ◌≤◌}
+use Prim.Native.Nat.{◌-◌}
 use Rattle.triples.proofs.stands.Given as goal
 
 abbrev pub invariant-loop-j : goal.invariant-loop-j
-invariant-loop-j l = (l.s ≤ l.j) × (l.j ≤ l.u) × (some? (triple? (triple_of l.question l.words l.u)) (part_of l.question l.words l.s (l.u - l.s)) ≡ some? (triple? (triple_of l.question l.words l.u))
+invariant-loop-j l = (some? (triple? (triple_of l.question l.words l.u)) (part_of l.question l.words l.s (l.u - l.s)) ≡ some? (triple? (triple_of l.question l.words l.u))
     (part_of l.question l.words l.s (l.j - l.s)))
-
-abbrev pub decreases-loop-j : goal.decreases-loop-j
-decreases-loop-j l = l.j

@@ -35,7 +35,7 @@ use Rattle.job.proofs.Needs.{larger_both}
 use Rattle.job.proofs.Accepted as job·Accepted
 use Rattle.printing.specs.Text.{answer_text, refusal_text}
 use Rattle.printing.proofs.Room.{answer_most, refusal_most}
-use Rattle.paths_main.specs.Output.{zeros, job_of, printed, Prints, Printable, answer_of}
+use Rattle.paths_main.specs.Output.{zeros, copies, job_of, printed, Prints, Printable, answer_of}
 
 -- ---- the area
 prints : {o out : List ℕ} {n : ℕ} {text : List ℕ} → BytesWritten o out 0 n text → length text ≤ length o → Prints text n out
@@ -105,12 +105,16 @@ module _ (s q g : List ℕ) {o : Written} {work answer area : List ℕ} (j : Ret
     }
 
 -- ---- the code's call, with the areas as it lends them
-as_lent : (s q g : List ℕ) {work answer file : List ℕ} → work ≡ zeros 8192 → answer ≡ zeros 256 → file ≡ zeros 65536
+copies_zeros : (n : ℕ) → copies 0 n ≡ zeros n
+unfolding copies zeros
+copies_zeros n = refl
+
+as_lent : (s q g : List ℕ) {work answer file : List ℕ} → work ≡ copies 0 8192 → answer ≡ copies 0 256 → file ≡ copies 0 65536
     → {o : Outcome Size} {work' : List ℕ} {to : Results} → Returns (job_call s q g work answer file) o work' to → Returns (job_of s q g) o work' to
 unfolding job_of
-as_lent s q g ew ea ef j = rw (ew, ea, ef) at j
+as_lent s q g ew ea ef j = rw (ew ∙ copies_zeros 8192, ea ∙ copies_zeros 256, ef ∙ copies_zeros 65536) at j
 
-module _ (s q g : List ℕ) {work answer file : List ℕ} (ew : work ≡ zeros 8192) (ea : answer ≡ zeros 256) (ef : file ≡ zeros 65536)
+module _ (s q g : List ℕ) {work answer file : List ℕ} (ew : work ≡ copies 0 8192) (ea : answer ≡ copies 0 256) (ef : file ≡ copies 0 65536)
     {o : Written} {work' answer' file' : List ℕ} (j : Returns (job_call s q g work answer file) (written_said o) work' (results answer' file')) where
   pub job_fits : (m b : ℕ) → o ≡ written.File m b → Printable g answer'
   job_fits m b e = fits s q g (as_lent s q g ew ea ef j) m b e

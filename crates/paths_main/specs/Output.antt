@@ -15,6 +15,10 @@ use Rattle.printing.specs.Text.{answer_text, text_of}
 unfoldable pub zeros : ℕ → List ℕ
 zeros n = replicate n 0
 
+-- an area of n copies of x
+unfoldable pub copies : {A : Type 0} → A → ℕ → List A
+copies x n = replicate n x
+
 -- the job as the program calls it
 unfoldable pub job_of : List ℕ → List ℕ → List ℕ → Returned Size Results
 job_of sheet question register = job_call sheet question register (zeros 8192) (zeros 256) (zeros 65536)

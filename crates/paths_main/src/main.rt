@@ -5,7 +5,7 @@
 ghost use Rattle.std.specs.Prelude.{◌≡◌, ◌<◌, ◌≤◌, length, take, IfSome};
 ghost use Rattle.register.specs.Form.{register_in};
 ghost use Rattle.encode.specs.BytesWritten.{BytesWritten};
-ghost use Rattle.paths_main.specs.Output.{zeros, printed, Prints, Printable, answer_of};
+ghost use Rattle.paths_main.specs.Output.{copies, printed, Prints, Printable, answer_of};
 
 use fields::{Source, Written};
 use std::io::Read;
@@ -19,32 +19,16 @@ const ANSWER: usize = 256;
 
 const FILE: usize = 65536;
 
-fn work_words() -> [u64; WORK]
-    ensures { (result ≡ zeros 8192) × (8192 ≡ length result) }
+// An area that is lent. Its contract keeps a proof from unfolding so long a list.
+fn filled<T: Copy, const N: usize>(x: T) -> [T; N]
+    ensures all { result ≡ copies x N }
+    ensures size { length result ≡ N }
 {
-    [0; WORK]
-}
-
-fn answer_words() -> [u64; ANSWER]
-    ensures { (result ≡ zeros 256) × (256 ≡ length result) }
-{
-    [0; ANSWER]
-}
-
-fn file_bytes() -> [u8; FILE]
-    ensures { (result ≡ zeros 65536) × (65536 ≡ length result) }
-{
-    [0; FILE]
+    [x; N]
 }
 
 // Room for what is printed: 8 bytes for each of the pairs of 128 records, and the first line.
 const PAGE: usize = 131128;
-
-fn page() -> [u8; PAGE]
-    ensures { 131128 ≡ length result }
-{
-    [0; PAGE]
-}
 
 // Writes what is printed for an accepted job. Its register is read again for the number of records, and is not refused here.
 fn put_answer(out: &mut [u8], members: usize, answer: &[u64], register: &[u8]) -> usize
@@ -69,9 +53,9 @@ fn run(sheet: &[u8], question: &[u8], register: &[u8], out: &mut [u8]) -> usize
     requires { 131128 ≤ length out.old }
     ensures { Prints (printed sheet.now question.now register.now) result out.new }
 {
-    let mut work = work_words();
-    let mut answer = answer_words();
-    let mut file = file_bytes();
+    let mut work: [u64; WORK] = filled(0);
+    let mut answer: [u64; ANSWER] = filled(0);
+    let mut file: [u8; FILE] = filled(0);
     match job::whole_job(sheet, question, register, &mut work, &mut answer, &mut file) {
         Written::Refused(source, r) => printing::put_refusal(out, 0, source, r),
         Written::File(members, _) => put_answer(out, members, &answer, register),
@@ -80,12 +64,6 @@ fn run(sheet: &[u8], question: &[u8], register: &[u8], out: &mut [u8]) -> usize
 
 // The most bytes of a file that are read.
 const ROOM: usize = 65536;
-
-fn room() -> [u8; ROOM]
-    ensures { 65536 ≡ length result }
-{
-    [0; ROOM]
-}
 
 // Reads a file to its end, up to the room's length, and returns the number of bytes; 0 where a read fails.
 fn contents<R: Read>(file: &mut R, room: &mut [u8]) -> usize
@@ -114,13 +92,13 @@ fn load<R: Files>(rt: &R, name: &str, room: &mut [u8]) -> usize
 }
 
 fn main(rt: HostRuntime) -> io::Result<()> {
-    let mut sheet = room();
-    let mut question = room();
-    let mut register = room();
+    let mut sheet: [u8; ROOM] = filled(0);
+    let mut question: [u8; ROOM] = filled(0);
+    let mut register: [u8; ROOM] = filled(0);
     let s = load(&rt, "sheet", &mut sheet);
     let q = load(&rt, "question", &mut question);
     let r = load(&rt, "register", &mut register);
-    let mut out = page();
+    let mut out: [u8; PAGE] = filled(0);
     let n = run(&sheet[..s], &question[..q], &register[..r], &mut out);
     rt.write_all(&out[..n])
 }

@@ -10,3 +10,5 @@ pub mod Decimal
 pub mod Room
 -- answers that agree have one text
 pub mod Same
+-- what std's chains give of the numbers below n
+pub mod Chains

@@ -1,11 +1,10 @@
 -- The lines of pairs and their number, as pieces.
 -- Assumes nothing.
 use mathlib.Core.Path.{◌≡◌, refl, ap, ◌∙◌, sym}
-use mathlib.Core.Bool.{Bool, true, false, cond}
-use mathlib.Core.List.{List, [], ◌∷◌}
-use Prim.Native.Nat.{ℕ, ◌*◌, ◌≤◌}
+use mathlib.Core.Bool.{Bool}
+use mathlib.Core.List.{List}
+use Prim.Native.Nat.{ℕ, ◌*◌}
 use native.Mathlib.Nat.{zero-add}
-use native.Mathlib.Omega.{arith}
 use lib.ListN.{length}
 use Rattle.theory.specs.Lists.{guard, filter, concat_map, range}
 use Rattle.rows.specs.Row.{row_bit}
@@ -29,14 +28,9 @@ count_pieces f n = refl
 pub row_of : (ws : List ℕ) (w s : ℕ) → row_bit ws (s * w) ≡ pair_at ws 0 w s
 row_of ws w s = ap (λ (r : ℕ). row_bit ws r) (sym (zero-add (s * w)))
 
--- one more where the test holds
-pub told : {i : ℕ} {b t : Bool} (x : ℕ) → i ≡ cond b 1 0 → b ≡ t → i ≡ length (guard t (x ∷ []))
-told {i} {b} {t} x e f = e ∙ ap (λ (u : Bool). cond u 1 0) f ∙ go t
-  where
-    go : (u : Bool) → cond u 1 0 ≡ length (guard u (x ∷ []))
-    go true = refl
-    go false = refl
+-- the pairs from s, and how many a count of row s tells
+abbrev pub row : (ws : List ℕ) (w n s : ℕ) → List ℕ
+row ws w n s = filter (pair_at ws 0 w s) (range n)
 
-pub one_at_most : {i : ℕ} (b : Bool) → i ≡ cond b 1 0 → i ≤ 1
-one_at_most true e = omega arith
-one_at_most false e = omega arith
+pub row_told : (ws : List ℕ) (w n s : ℕ) {r : ℕ} → r ≡ length (filter (row_bit ws (s * w)) (range n)) → r ≡ length (row ws w n s)
+row_told ws w n s e = e ∙ ap (λ (f : ℕ → Bool). length (filter f (range n))) (row_of ws w s)

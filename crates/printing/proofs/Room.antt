@@ -40,7 +40,7 @@ unfolding decimal
 decimal_three n h = digits_next 19 n 2 (digits_next 18 (n / 10) 1 (omega (arith, one_digit 17 (n / 10 / 10) (omega arith))))
 
 -- ---- pieces of at most b each
-pieces_most : (g : ℕ → List ℕ) (b i k : ℕ) → ((x : ℕ) → x < i + k → length (g x) ≤ b) → length (concat_map g (tabulate (λ x. x) i k)) ≤ b * k
+pub pieces_most : (g : ℕ → List ℕ) (b i k : ℕ) → ((x : ℕ) → x < i + k → length (g x) ≤ b) → length (concat_map g (tabulate (λ x. x) i k)) ≤ b * k
 pieces_most g b i zero h = omega arith
 pieces_most g b i (suc k) h =
     let rest : length (concat_map g (tabulate (λ x. x) (suc i) k)) ≤ b * k = pieces_most g b (suc i) k (λ x l. h x (omega arith)) in

@@ -1,8 +1,9 @@
-// What the program prints, as bytes in an area that is lent.
+// What the program prints, as bytes in an area that is lent. Not by Display: a fmt, derived or written, ensures nothing that a proof can use,
+// and `paths_main::run` promises each byte (Prints).
 #![tactic(auto)]
 
-ghost use Rattle.std.specs.Prelude.{◌≡◌, cond, ◌++◌, ◌+◌, ◌*◌, ◌≤◌, length};
-ghost use Rattle.theory.specs.Lists.{guard, filter, range};
+ghost use Rattle.std.specs.Prelude.{◌≡◌, ◌++◌, ◌+◌, ◌*◌, ◌≤◌, length};
+ghost use Rattle.theory.specs.Lists.{filter, range};
 ghost use Rattle.theory.specs.Words.{row_words};
 ghost use Rattle.rows.specs.Row.{row_bit};
 ghost use Rattle.relation.specs.Pairs.{pair_at};
@@ -19,8 +20,8 @@ fn put_text(out: &mut [u8], at: usize, s: &[u8]) -> usize
     ensures { BytesWritten out.old out.new at result s.now }
 {
     let mut a = at;
-    for i in 0..s.len() {
-        a = encode::put_byte(out, a, s[i]);
+    for &b in s {
+        a = encode::put_byte(out, a, b);
     }
     a
 }
@@ -53,17 +54,6 @@ fn put_line(out: &mut [u8], at: usize, s: usize, t: usize) -> usize
     put_text(out, b, b"\n")
 }
 
-// The same, if there is such a pair.
-fn put_if(out: &mut [u8], at: usize, there: bool, s: usize, t: usize) -> usize
-    requires { at + length (guard there (line s t)) ≤ length out.old }
-    ensures { BytesWritten out.old out.new at result (guard there (line s t)) }
-{
-    if there {
-        return put_line(out, at, s, t);
-    }
-    at
-}
-
 // A line for each pair from s: the row of n bits at r.
 fn put_row(out: &mut [u8], at: usize, words: &[u64], r: usize, s: usize, n: usize) -> usize
     requires { (r + row_words n ≤ length words.now) × (at + length (row_lines (row_bit words.now r) s n) ≤ length out.old) }
@@ -71,7 +61,9 @@ fn put_row(out: &mut [u8], at: usize, words: &[u64], r: usize, s: usize, n: usiz
 {
     let mut a = at;
     for t in 0..n {
-        a = put_if(out, a, rows::has(words, r, t), s, t);
+        if rows::has(words, r, t) {
+            a = put_line(out, a, s, t);
+        }
     }
     a
 }
@@ -88,25 +80,12 @@ fn put_pairs(out: &mut [u8], at: usize, words: &[u64], n: usize, w: usize) -> us
     a
 }
 
-fn one_if(there: bool) -> usize
-    ensures { result ≡ cond there 1 0 }
-{
-    if there {
-        return 1;
-    }
-    0
-}
-
 // How many of the n bits of the row at r are set.
 fn count_row(words: &[u64], r: usize, n: usize) -> usize
     requires { (n ≤ 1024) × (r + row_words n ≤ length words.now) }
     ensures { (result ≡ length (filter (row_bit words.now r) (range n))) × (result ≤ n) }
 {
-    let mut k = 0;
-    for t in 0..n {
-        k = k + one_if(rows::has(words, r, t));
-    }
-    k
+    (0..n).filter(|&t| rows::has(words, r, t)).count()
 }
 
 // How many pairs of n records the words of an answer have.
@@ -114,11 +93,7 @@ fn count_pairs(words: &[u64], n: usize, w: usize) -> usize
     requires { (w ≡ row_words n) × (n ≤ 1024) × (n * w ≤ length words.now) }
     ensures { result ≡ count (pair_at words.now 0 w) n }
 {
-    let mut k = 0;
-    for s in 0..n {
-        k = k + count_row(words, s * w, n);
-    }
-    k
+    (0..n).map(|s| count_row(words, s * w, n)).sum()
 }
 
 // What is printed of an answer on n records: the number of members, that of pairs, and the pairs.
@@ -140,16 +115,15 @@ pub fn put_answer(
 }
 
 // ` in ` and the name of what a refusal is about.
-fn put_source(out: &mut [u8], at: usize, source: Source) -> usize
-    requires { at + length (in_source source) ≤ length out.old }
-    ensures { BytesWritten out.old out.new at result (in_source source) }
+fn source_text(source: Source) -> &'static [u8]
+    ensures { result.now ≡ in_source source }
 {
     match source {
-        Source::Sheet => put_text(out, at, b" in sheet"),
-        Source::Question => put_text(out, at, b" in question"),
-        Source::Narrowed => put_text(out, at, b" in narrowed"),
-        Source::Register => put_text(out, at, b" in register"),
-        Source::Work => put_text(out, at, b" in work"),
+        Source::Sheet => b" in sheet",
+        Source::Question => b" in question",
+        Source::Narrowed => b" in narrowed",
+        Source::Register => b" in register",
+        Source::Work => b" in work",
     }
 }
 
@@ -158,8 +132,8 @@ pub fn put_refusal(out: &mut [u8], at: usize, source: Source, r: Refusal) -> usi
     requires { at + length (refusal_text source (number_of r) (place_of r)) ≤ length out.old }
     ensures { BytesWritten out.old out.new at result (refusal_text source (number_of r) (place_of r)) }
 {
-    let a = put_number(out, at, b"refused ", bits::wide(fields::number_of(r)));
-    let b = put_source(out, a, source);
+    let a = put_number(out, at, b"refused ", u64::from(fields::number_of(r)));
+    let b = put_text(out, a, source_text(source));
     let c = put_number(out, b, b" at ", fields::place_of(r) as u64);
     put_text(out, c, b"\n")
 }

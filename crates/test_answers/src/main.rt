@@ -32,68 +32,51 @@ fn outcome(rt: &impl Print, o: Outcome) -> io::Result<()> {
     }
 }
 
-fn run_check(rt: &impl Print, s: &[u8], files: Files) -> io::Result<()> {
-    let sheet = fields::body_at(s, files.sheet);
-    let register = fields::body_at(s, files.register);
-    outcome(rt, conformance::check(sheet, register))?;
+fn run_check(rt: &impl Print, files: Files) -> io::Result<()> {
+    outcome(rt, conformance::check(files.sheet, files.register))?;
     println!(rt)
 }
 
-fn call(tag: u8, s: &[u8], files: Files, work: &mut [u64], answer: &mut [u64]) -> Outcome {
-    let register = fields::body_at(s, files.register);
+fn call(tag: u8, files: Files, work: &mut [u64], answer: &mut [u64]) -> Outcome {
     if tag == PLAIN {
-        return answer::plain_answer(fields::body_at(s, files.question), register, work, answer);
+        answer::plain_answer(files.question, files.register, work, answer)
+    } else {
+        answer::narrowed_answer(files.narrowed, files.register, work, answer)
     }
-    answer::narrowed_answer(fields::body_at(s, files.narrowed), register, work, answer)
 }
 
 fn call_in(
     rt: &impl Print,
     tag: u8,
-    s: &[u8],
     files: Files,
     work: &mut [u64],
     answer: &mut [u64],
 ) -> io::Result<()> {
     test_report::mark(work);
     test_report::mark(answer);
-    outcome(rt, call(tag, s, files, work, answer))?;
+    outcome(rt, call(tag, files, work, answer))?;
     print!(rt; " ")?;
     test_report::number(rt, test_report::mix_words(0, work))?;
     test_report::end(rt, test_report::mix_words(0, answer))
 }
 
-fn run_answer(rt: &impl Print, tag: u8, s: &[u8], files: Files, sizes: &[u8]) -> io::Result<()> {
+fn run_answer(rt: &impl Print, tag: u8, files: Files, sizes: &[u8]) -> io::Result<()> {
     let mut work = [0u64; WORK];
     let mut answer = [0u64; ANSWER];
     let n = test_report::lent(test_report::two_at(sizes, WORK_IN), WORK);
     let m = test_report::lent(test_report::two_at(sizes, ANSWER_IN), ANSWER);
-    call_in(rt, tag, s, files, &mut work[..n], &mut answer[..m])
+    call_in(rt, tag, files, &mut work[..n], &mut answer[..m])
 }
 
-fn run(rt: &impl Print, tag: u8, s: &[u8], files: Files, body: &[u8]) -> io::Result<()> {
+fn run(rt: &impl Print, tag: Option<u8>, body: &[u8], files: Files) -> io::Result<()> {
     match tag {
-        CHECK => run_check(rt, s, files),
-        PLAIN | NARROWED => run_answer(rt, tag, s, files, body),
+        Some(CHECK) => run_check(rt, files),
+        Some(call @ (PLAIN | NARROWED)) => run_answer(rt, call, files, body),
         _ => Ok(()),
     }
 }
 
 // Each field is a file, from there on, or a call.
-fn run_all(rt: &impl Print, s: &[u8]) -> io::Result<()> {
-    let mut files = test_report::no_files(s);
-    let mut at = 0;
-    while at < s.len() {
-        let field = test_report::field_at(s, at);
-        files = test_report::with_file(files, field.tag, at);
-        run(rt, field.tag, s, files, fields::body_at(s, at))?;
-        at = field.next;
-    }
-    Ok(())
-}
-
 fn main(rt: HostRuntime) -> io::Result<()> {
-    let mut text = test_report::room();
-    let n = test_report::fill(&mut rt.reader(), &mut text);
-    run_all(&rt, &text[..n])
+    test_report::run_all(&rt, |tag, body, files| run(&rt, tag, body, files))
 }

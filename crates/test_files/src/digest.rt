@@ -4,7 +4,6 @@ ghost use Rattle.theory.specs.Register.{records};
 ghost use Rattle.register.specs.Form.{register_in};
 ghost use Rattle.register.specs.LinksAhead.{Accepted};
 
-use bits::wide;
 use narrowed_question::Members;
 use register::NextLink;
 use test_report::{mix, mix_bytes, mix_words};
@@ -12,11 +11,7 @@ use test_report::{mix, mix_bytes, mix_words};
 pub fn mix_kinds(d: u64, s: &[u8], n: usize) -> u64
     requires { n ≡ records (register_in s.now) }
 {
-    let mut e = d;
-    for i in 0..n {
-        e = mix(e, wide(register::kind_at(s, i).0));
-    }
-    e
+    (0..n).fold(d, |e, i| mix(e, u64::from(register::kind_at(s, i).0)))
 }
 
 pub fn mix_links(d: u64, s: &[u8]) -> u64
@@ -26,11 +21,9 @@ pub fn mix_links(d: u64, s: &[u8]) -> u64
     let mut c = register::links_of(s);
     loop {
         match register::next_link(s, c) {
-            NextLink::Done => {
-                return e;
-            }
+            NextLink::Done => return e,
             NextLink::Link(from, label, to, rest) => {
-                e = mix(mix(mix(e, from as u64), wide(label.0)), to as u64);
+                e = mix(mix(mix(e, from as u64), u64::from(label.0)), to as u64);
                 c = rest;
             }
         }

@@ -23,43 +23,30 @@ const FROM_AT: usize = ROWS_AT + 1;
 const TO_AT: usize = ROWS_AT + 9;
 
 fn byte_at(s: &[u8], at: usize) -> u8 {
-    if at < s.len() {
-        return s[at];
-    }
-    0
+    s.get(at).copied().unwrap_or(0)
 }
 
 fn long_at(s: &[u8], at: usize) -> u64 {
-    if at < s.len() {
-        if 7 < s.len() - at {
-            return fields::eight_at(s, at);
-        }
+    match s.get(at..) {
+        Some([a, b, c, d, e, f, g, h, ..]) => u64::from_be_bytes([*a, *b, *c, *d, *e, *f, *g, *h]),
+        _ => 0,
     }
-    0
 }
 
 fn empty_members(count: usize) -> Members {
-    let sizes = [0u8; MEMBERS];
-    let from = [0u64; MEMBERS];
-    let to = [0u64; MEMBERS];
-    let numbers = [0u8; SYMBOLS];
-    let sets = [0u64; SYMBOLS];
     Members {
         count,
-        sizes,
-        from,
-        to,
-        numbers,
-        sets,
+        sizes: [0; MEMBERS],
+        from: [0; MEMBERS],
+        to: [0; MEMBERS],
+        numbers: [0; SYMBOLS],
+        sets: [0; SYMBOLS],
     }
 }
 
 fn with_rows(q: Members, s: &[u8], rows: usize) -> Members {
     let mut r = q;
-    for i in 0..MEMBERS {
-        if rows <= i {
-            return r;
-        }
+    for i in 0..rows.min(MEMBERS) {
         r.sizes[i] = byte_at(s, ROWS_AT + ROW * i);
         r.from[i] = long_at(s, FROM_AT + ROW * i);
         r.to[i] = long_at(s, TO_AT + ROW * i);

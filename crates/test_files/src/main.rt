@@ -22,8 +22,8 @@ fn run_sheet(rt: &impl Print, s: &[u8]) -> io::Result<()> {
     let outcome = r.outcome;
     match outcome {
         sheet::Outcome::Accepted(k, e) => {
-            line::read(rt, bits::wide(k))?;
-            test_report::number(rt, bits::wide(e))?;
+            line::read(rt, u64::from(k))?;
+            test_report::number(rt, u64::from(e))?;
         }
         sheet::Outcome::Refused(x) => line::refused(rt, x)?,
     }
@@ -79,30 +79,18 @@ fn run_writer(rt: &impl Print, s: &[u8]) -> io::Result<()> {
     write_into(rt, &mut space[..n], s)
 }
 
-fn run(rt: &impl Print, tag: u8, s: &[u8]) -> io::Result<()> {
+fn run(rt: &impl Print, tag: Option<u8>, s: &[u8]) -> io::Result<()> {
     match tag {
-        SHEET => run_sheet(rt, s),
-        QUESTION => run_question(rt, s),
-        REGISTER => run_register(rt, s),
-        NARROWED => run_narrowed(rt, s),
-        WRITER => run_writer(rt, s),
+        Some(SHEET) => run_sheet(rt, s),
+        Some(QUESTION) => run_question(rt, s),
+        Some(REGISTER) => run_register(rt, s),
+        Some(NARROWED) => run_narrowed(rt, s),
+        Some(WRITER) => run_writer(rt, s),
         _ => test_report::end(rt, 0),
     }
 }
 
 // A vector is a field: a tag that says which call it is for, a two-byte length, and what is handed in as its body.
-fn run_all(rt: &impl Print, s: &[u8]) -> io::Result<()> {
-    let mut at = 0;
-    while at < s.len() {
-        let field = test_report::field_at(s, at);
-        run(rt, field.tag, fields::body_at(s, at))?;
-        at = field.next;
-    }
-    Ok(())
-}
-
 fn main(rt: HostRuntime) -> io::Result<()> {
-    let mut text = test_report::room();
-    let n = test_report::fill(&mut rt.reader(), &mut text);
-    run_all(&rt, &text[..n])
+    test_report::run_all(&rt, |tag, body, _| run(&rt, tag, body))
 }

@@ -32,23 +32,18 @@ fn outcome(rt: &impl Print, o: Written) -> io::Result<()> {
     }
 }
 
-fn call_in(
-    rt: &impl Print,
-    s: &[u8],
-    files: Files,
-    work: &mut [u64],
-    file: &mut [u8],
-) -> io::Result<()> {
-    let sheet = fields::body_at(s, files.sheet);
-    let question = fields::body_at(s, files.question);
+fn call_in(rt: &impl Print, files: Files, work: &mut [u64], file: &mut [u8]) -> io::Result<()> {
     test_report::mark(work);
-    outcome(rt, narrowing::narrowing(sheet, question, work, file))?;
+    outcome(
+        rt,
+        narrowing::narrowing(files.sheet, files.question, work, file),
+    )?;
     print!(rt; " ")?;
     test_report::number(rt, test_report::mix_words(0, work))?;
     test_report::end(rt, test_report::mix_bytes(0, file))
 }
 
-fn run_narrowing(rt: &impl Print, s: &[u8], files: Files, sizes: &[u8]) -> io::Result<()> {
+fn run_narrowing(rt: &impl Print, files: Files, sizes: &[u8]) -> io::Result<()> {
     let mut work = [0u64; WORK];
     let mut file = [test_report::LEFT; FILE];
     let n = test_report::lent(test_report::two_at(sizes, WORK_IN), WORK);
@@ -56,31 +51,17 @@ fn run_narrowing(rt: &impl Print, s: &[u8], files: Files, sizes: &[u8]) -> io::R
         test_report::two_at(sizes, FILE_IN) * TWO_BYTES + test_report::two_at(sizes, FILE_REST_IN),
         FILE,
     );
-    call_in(rt, s, files, &mut work[..n], &mut file[..m])
+    call_in(rt, files, &mut work[..n], &mut file[..m])
 }
 
-fn run(rt: &impl Print, tag: u8, s: &[u8], files: Files, body: &[u8]) -> io::Result<()> {
-    if tag == NARROWING {
-        run_narrowing(rt, s, files, body)?;
+fn run(rt: &impl Print, tag: Option<u8>, body: &[u8], files: Files) -> io::Result<()> {
+    if tag == Some(NARROWING) {
+        run_narrowing(rt, files, body)?;
     }
     Ok(())
 }
 
 // Each field is a file, from there on, or a call.
-fn run_all(rt: &impl Print, s: &[u8]) -> io::Result<()> {
-    let mut files = test_report::no_files(s);
-    let mut at = 0;
-    while at < s.len() {
-        let field = test_report::field_at(s, at);
-        files = test_report::with_file(files, field.tag, at);
-        run(rt, field.tag, s, files, fields::body_at(s, at))?;
-        at = field.next;
-    }
-    Ok(())
-}
-
 fn main(rt: HostRuntime) -> io::Result<()> {
-    let mut text = test_report::room();
-    let n = test_report::fill(&mut rt.reader(), &mut text);
-    run_all(&rt, &text[..n])
+    test_report::run_all(&rt, |tag, body, files| run(&rt, tag, body, files))
 }

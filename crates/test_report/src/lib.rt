@@ -4,7 +4,6 @@
 
 ghost use Rattle.std.specs.Prelude.{◌≡◌, ◌<◌, ◌≤◌, length};
 
-use bits::wide;
 use fields::{Raw, Refusal, Source};
 use std::io;
 use std::io::Read;
@@ -33,7 +32,7 @@ pub fn fill<R: Read>(from: &mut R, room: &mut [u8]) -> usize
     done
 }
 
-// The tags of fields that are files; a program has others for its calls. None has the tag 0.
+// The tags of fields that are files; a program has others for its calls.
 pub const SHEET: u8 = 1;
 
 pub const QUESTION: u8 = 2;
@@ -42,95 +41,116 @@ pub const REGISTER: u8 = 3;
 
 pub const NARROWED: u8 = 4;
 
-const NO_TAG: u8 = 0;
-
-// A field of the input: its tag, and the place after it.
+// A field of the input: its tag, its body, and what comes after it.
 #[derive(Clone, Copy)]
-pub struct Field {
-    pub tag: u8,
-    pub next: usize,
+struct Field<'a> {
+    tag: Option<u8>,
+    body: &'a [u8],
+    rest: &'a [u8],
 }
 
-// The field at a place; where no whole one stands there it has no tag, and ends with the input.
-pub fn field_at(s: &[u8], at: usize) -> Field
-    requires { at < length s.now }
-    ensures { (at < result.next) × (result.next ≤ length s.now) }
+// The first field; where no whole one stands there it has no tag and no body, and nothing comes after it.
+fn first_field(s: &[u8]) -> Field<'_>
+    requires { 0 < length s.now }
+    ensures { length result.rest.now < length s.now }
 {
-    let mut f = Field {
-        tag: NO_TAG,
-        next: s.len(),
-    };
-    match fields::step_at(s, at) {
-        Raw::Whole(tag, len) => {
-            f.tag = tag;
-            f.next = at + fields::HEAD + len as usize;
-        }
-        _ => (),
+    match fields::step_at(s, 0) {
+        Raw::Whole(tag, len) => Field {
+            tag: Some(tag),
+            body: fields::body_at(s, 0),
+            rest: &s[fields::HEAD + len as usize..],
+        },
+        _ => Field {
+            tag: None,
+            body: &[],
+            rest: &[],
+        },
     }
-    f
 }
 
-// Where the fields stand whose bodies are the files of the next call.
+// The files of the next call, each empty where no field has set it.
 #[derive(Clone, Copy)]
-pub struct Files {
-    pub sheet: usize,
-    pub question: usize,
-    pub register: usize,
-    pub narrowed: usize,
+pub struct Files<'a> {
+    pub sheet: &'a [u8],
+    pub question: &'a [u8],
+    pub register: &'a [u8],
+    pub narrowed: &'a [u8],
 }
 
-// A file that no field has set is empty, for there is no field where the input ends.
-pub fn no_files(s: &[u8]) -> Files {
-    let end = s.len();
-    Files {
-        sheet: end,
-        question: end,
-        register: end,
-        narrowed: end,
+impl<'a> Files<'a> {
+    // With the body of a field as a file, if its tag says that it is one.
+    fn with(self, tag: Option<u8>, body: &'a [u8]) -> Files<'a> {
+        match tag {
+            Some(SHEET) => Files {
+                sheet: body,
+                ..self
+            },
+            Some(QUESTION) => Files {
+                question: body,
+                ..self
+            },
+            Some(REGISTER) => Files {
+                register: body,
+                ..self
+            },
+            Some(NARROWED) => Files {
+                narrowed: body,
+                ..self
+            },
+            _ => self,
+        }
     }
 }
 
-// With the file of a field, if its tag says that it is one.
-pub fn with_file(files: Files, tag: u8, at: usize) -> Files {
-    let mut f = files;
-    match tag {
-        SHEET => f.sheet = at,
-        QUESTION => f.question = at,
-        REGISTER => f.register = at,
-        NARROWED => f.narrowed = at,
-        _ => (),
+// Hands each field of standard input to a call, by its tag and body, with the files that came before it and with it.
+pub fn run_all<F: FnMut(Option<u8>, &[u8], Files<'_>) -> io::Result<()>>(
+    rt: &impl Input,
+    mut run: F,
+) -> io::Result<()>
+    requires { F.IsAlwaysCallable run }
+{
+    let mut space = room();
+    let n = fill(&mut rt.reader(), &mut space);
+    let mut files = Files {
+        sheet: &[],
+        question: &[],
+        register: &[],
+        narrowed: &[],
+    };
+    let mut rest = &space[..n];
+    while !rest.is_empty() {
+        let field = first_field(rest);
+        files = files.with(field.tag, field.body);
+        run(field.tag, field.body, files)?;
+        rest = field.rest;
     }
-    f
+    Ok(())
 }
 
 // The number in two bytes of a vector, 0 where it has too few.
 pub fn two_at(s: &[u8], at: usize) -> usize
     ensures { result < 65536 }
 {
-    if at < s.len() {
-        if 1 < s.len() - at {
-            return fields::two(s, at) as usize;
-        }
+    match s.get(at..) {
+        Some([high, low, ..]) => usize::from(u16::from_be_bytes([*high, *low])),
+        _ => 0,
     }
-    0
 }
 
 // How long an area a call is lent: as long as it says, and no longer than there is.
 pub fn lent(n: usize, most: usize) -> usize
     ensures { result ≤ most }
 {
-    if n < most { n } else { most }
+    n.min(most)
 }
 
 // What bytes are before a call, so that those that are left show in a digest.
 pub const LEFT: u8 = 165;
 
-const LAST_WORD: u64 = 18446744073709551615;
-
 // What words are before it: none is 0 and no two are equal, so that words that are left, cleared or written all show.
 pub fn mark(area: &mut [u64]) {
     for (i, word) in area.iter_mut().enumerate() {
-        *word = LAST_WORD - i as u64;
+        *word = u64::MAX - i as u64;
     }
 }
 
@@ -165,17 +185,9 @@ pub fn mix(d: u64, x: u64) -> u64 {
 }
 
 pub fn mix_words(d: u64, s: &[u64]) -> u64 {
-    let mut e = d;
-    for word in s {
-        e = mix(e, *word);
-    }
-    e
+    s.iter().fold(d, |e, &word| mix(e, word))
 }
 
 pub fn mix_bytes(d: u64, s: &[u8]) -> u64 {
-    let mut e = d;
-    for byte in s {
-        e = mix(e, wide(*byte));
-    }
-    e
+    s.iter().fold(d, |e, &byte| mix(e, u64::from(byte)))
 }

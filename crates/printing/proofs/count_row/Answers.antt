@@ -1,26 +1,17 @@
--- `printing::count_row` meets its contract: a turn adds one where the bit is set, and what was counted with the bits still to come is the whole number, at most one a turn.
+-- `printing::count_row` meets its contract: what the chain counts of the numbers below n is the bits that are set.
 -- Assumes nothing.
-use native.Mathlib.Omega.{arith}
-use mathlib.Core.Path.{ap, ◌∙◌, sym}
-use lib.ListN.{length}
-use Rattle.theory.specs.Lists.{range}
-use Rattle.printing.proofs.Pieces.{counted_start, counted_next, counted_end, filter_pieces}
-use Rattle.printing.proofs.Lines.{told, one_at_most}
+use Rattle.std.proofs.Common.{rules, ◌≡◌, length, arith, ap, ◌∙◌}
+use borrow.Author.Tests.{tests}
+use Rattle.std.specs.List.{range_with_len, filter as passing}
+use Rattle.std.proofs.lemmas.Iterator.{YieldsList-from_range}
+use Rattle.std.proofs.lemmas.Iterator.Consumers.{YieldsList-from_filter, count_from_yields_List}
+use Rattle.rows.specs.Row.{row_bit}
+use Rattle.printing.proofs.Chains.{passed_below, passed_most}
 use Rattle.printing.proofs.count_row.Goals as goal
-
-pub loop-t-init : goal.loop-t-init
-loop-t-init c = (counted_start _ _, omega arith)
-
-pub has-requires : goal.has-requires
-has-requires c = omega (arith, c.requires.1)
-
-pub overflow_add-k : goal.overflow_add-k
-overflow_add-k c = omega (arith, one_at_most c.has.result c.one_if-k.ensures, c.requires.0)
-
-pub loop-t-preserved : goal.loop-t-preserved
-loop-t-preserved c =
-    (counted_next c.loop-t.invariant.0 (told _ c.one_if-k.ensures c.has.ensures) c.loop-t-test.true, omega (arith, one_at_most c.has.result c.one_if-k.ensures))
 
 pub returns : goal.returns
 returns c =
-    (counted_end c.loop-t.invariant.0 c.loop-t-test.false ∙ sym (ap length (filter_pieces _ (range c.args.n))), omega (arith, c.loop-t.invariant.0.within))
+    let f = row_bit c.args.words.now c.args.r in
+    let e : c.count.result ≡ length (passing f (range_with_len 0 c.args.n)) = count_from_yields_List c.filter.result _ c.count.ensures.ran
+    (YieldsList-from_filter _ f (YieldsList-from_range 0 c.args.n c.args.n (cc) (omega arith)) c.filter.ensures.closure (λ x b q k. search (rules, tests))) in
+    (e ∙ ap length (passed_below f c.args.n), rw (e ∙ ap length (passed_below f c.args.n)) (passed_most f c.args.n))

@@ -5,5 +5,5 @@ use lib.ListN.{length, drop}
 use Rattle.printing.proofs.Filling.{Filling}
 use Rattle.printing.proofs.put_text.Given as goal
 
-abbrev pub invariant-loop-i : goal.invariant-loop-i
-invariant-loop-i l = (l.i-end ≡ length l.s) × (l.i ≤ length l.s) × Filling l.initial.out l.at l.s l.out l.a (drop l.i l.s)
+abbrev pub invariant-loop-b : goal.invariant-loop-b
+invariant-loop-b l = (l.b-index-end ≡ length l.s) × (l.b-index ≤ length l.s) × Filling l.initial.out l.at l.s l.out l.a (drop l.b-index l.s)

@@ -41,6 +41,7 @@ fn first_forbidden(register: &Register<'_>, sheet: &Sheet) -> Option<usize>
 pub fn first_breach(register: &Register<'_>, sheet: &Sheet) -> Option<usize>
     ensures { failing_said result ≡ first_breach sheet.now.kinds sheet.now.table (register_in register.now.file.now) }
 {
+    // With `or_else` the closure would have to say again, as a clause, what `first_forbidden` promises.
     match first_unknown(register, sheet.kinds) {
         None => first_forbidden(register, sheet),
         found => found,

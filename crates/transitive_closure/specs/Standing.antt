@@ -1,6 +1,6 @@
 -- The same of the code's structs: a place and its marks, a row that grows, and a walk.
 -- Assumes nothing.
-use Rattle.std.specs.Prelude.{◌≡◌, Bool, true, false, List, ℕ, ◌*◌, ◌/◌, ◌+◌, ◌<◌, ◌≤◌}
+use Rattle.std.specs.Prelude.{◌≡◌, Bool, true, List, ℕ, ◌*◌, ◌+◌, ◌<◌}
 use Rattle.rows.specs.Row.{row_bit, Row}
 use Rattle.transitive_closure.specs.declared.Place.{Place}
 use Rattle.transitive_closure.specs.declared.Marks.{Marks}

@@ -2,7 +2,6 @@
 -- Assumes nothing.
 use mathlib.Core.Path.{refl}
 use native.Mathlib.Omega.{arith}
-use lib.ListN.{length-replicate}
 use Rattle.transitive_closure.proofs.Stages.{stage_none}
 use Rattle.transitive_closure.proofs.Trails.{trail_none}
 use Rattle.transitive_closure.proofs.walk.Goals as goal

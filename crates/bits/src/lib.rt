@@ -1,4 +1,4 @@
-// A word as a set of bits: test, set, clear, lowest; and a byte as a word. The union of two words is `|` itself.
+// A word as a set of bits: test, set, clear, lowest. The union of two words is `|` itself.
 #![tactic(auto)]
 
 ghost use Rattle.std.specs.Prelude.{◌≡◌, ◌^◌, ◌<◌};
@@ -33,12 +33,5 @@ pub fn lowest(w: u64) -> usize
     requires { w ≡ 0 → ⊥ }
     ensures { Lowest 64 w result }
 {
-    u64::trailing_zeros(w) as usize
-}
-
-// A byte as a word.
-pub fn wide(b: u8) -> u64
-    ensures { (result ≡ b) × (result < 256) }
-{
-    b as u64
+    w.trailing_zeros() as usize
 }

@@ -1,12 +1,19 @@
-// A reader of fields: it holds a file that it does not own, and a cursor. The work is left to `fields`, over the slice and the place.
+// A reader of fields: it holds a file that it does not own, and the place of its next field. `fields` says what lies there.
 #![tactic(auto)]
 
-ghost use Rattle.std.specs.Prelude.{◌≡◌};
+ghost use Rattle.std.specs.Prelude.{◌≡◌, IfOk, IfSome};
 ghost use Rattle.fields.specs.Reading.{field_at};
-ghost use Rattle.fields.specs.Raw.{body_in};
-ghost use Rattle.fields.specs.Contract.{field_said};
+ghost use Rattle.fields.specs.Contract.{field_said, FoundAt};
+ghost use Rattle.field_reader.specs.Reader.{next_place};
 
-use fields::{Due, Seen};
+use fields::{Due, Found, Refusal};
+
+// Where the reading of a file stands: at its head, or within what comes after it, with what is known there.
+#[derive(Clone, Copy, PartialEq, Eq)]
+pub enum Standing<T> {
+    Head,
+    Within(T),
+}
 
 // The file, and the place of its next field.
 #[derive(Clone, Copy)]
@@ -15,37 +22,25 @@ pub struct Reader<'a> {
     pub at: usize,
 }
 
-// At a place of the file.
-pub fn new<'a>(src: &'a [u8], at: usize) -> Reader<'a>
-    ensures { (result.src ≡ src.entry) × (result.at ≡ at) }
-{
-    Reader { src, at }
-}
+impl<'a> Reader<'a> {
+    // At the file's start.
+    pub fn new(src: &'a [u8]) -> Reader<'a>
+        ensures { (result.src ≡ src.entry) × (result.at ≡ 0) }
+    {
+        Reader { src, at: 0 }
+    }
 
-// What the field at the cursor is to the reader.
-pub fn next<'a>(r: Reader<'a>, due: Due) -> Seen
-    ensures { field_said result ≡ field_at due r.entry.src.now r.entry.at }
-{
-    fields::field(r.src, r.at, due)
-}
-
-// Its body, as that part of the file; an empty part where there is no whole field.
-pub fn body<'a>(r: Reader<'a>) -> &'a [u8]
-    ensures { result.now ≡ body_in r.entry.src.now r.entry.at }
-{
-    fields::body_at(r.src, r.at)
-}
-
-// The field at a place of a file, for callers that hold no reader.
-pub fn field(s: &[u8], at: usize, due: Due) -> Seen
-    ensures { field_said result ≡ field_at due s.now at }
-{
-    next(new(s, at), due)
-}
-
-// The body of the field at a place of a file, as that part of it; an empty part where there is no whole field.
-pub fn body_at(s: &[u8], at: usize) -> &[u8]
-    ensures { result.now ≡ body_in s.now at }
-{
-    body(new(s, at))
+    // The field at its place, which it then goes past; none at the file's end.
+    pub fn next(&mut self, due: Due) -> Result<Option<Found<'a>>, Refusal>
+        ensures said { field_said result ≡ field_at due self.old.src.now self.old.at }
+        ensures part { IfOk result (λ r. IfSome r (FoundAt self.old.src.now self.old.at)) }
+        ensures file { self.new.src ≡ self.old.src }
+        ensures place { self.new.at ≡ next_place self.old.at result }
+    {
+        let found = fields::field(self.src, self.at, due)?;
+        if let Some(f) = found {
+            self.at = f.next;
+        }
+        Ok(found)
+    }
 }

@@ -1,9 +1,12 @@
 -- Tests that came out one way, taken apart; and answers that were got.
 -- Assumes nothing.
 use mathlib.Core.Path.{◌≡◌, refl, sym, ap}
-use mathlib.Core.Bool.{Bool, true, false, cond, ◌&&◌, false≢true}
+use mathlib.Core.Logic.{◌⊎◌, inl, inr}
+use mathlib.Core.Bool.{Bool, true, false, cond, not, ◌&&◌, and-false, false≢true}
 use Prim.Native.Nat.{ℕ}
 use native.Mathlib.Omega.{arith}
+use lib.Dec.{eqb}
+use borrow.Author.Tests.{ne_eqb}
 use Rattle.theory.specs.Result.{Result, got, refused, onward}
 
 -- a choice that is z, where one side is not z
@@ -22,6 +25,15 @@ and_left false b e = e
 pub and_right : (a b : Bool) → (a && b) ≡ true → b ≡ true
 and_right true b e = e
 and_right false b e = absurd (false≢true e)
+
+-- a test of two, by how the code fell through it
+pub fell_through : {a b : Bool} → ((a ≡ true) × (b ≡ true)) ⊎ (a ≡ false) → (a && not b) ≡ false
+fell_through (inl (p, q)) = rw (p, q)
+fell_through (inr p) = rw p
+
+pub went_in : {b : Bool} {m n : ℕ} → (b ≡ false) ⊎ ((b ≡ true) × (m ≡ n → ⊥)) → (eqb m n && b) ≡ false
+went_in {m = m} {n = n} (inl p) = rw (p, and-false (eqb m n))
+went_in {m = m} {n = n} (inr (p, q)) = rw (p, ne_eqb m n q)
 
 pub not_got : {A : Type 0} (n p : ℕ) (x : A) → refused n p ≡ got x → ⊥
 not_got n p x e = let z : ◌≡◌ {A = ℕ} 0 1 = cc in omega arith

@@ -1,7 +1,7 @@
 -- The frame of a call: what it returns where a file is refused, where the work area is short, and otherwise; and, from an outcome that is
 -- accepted, that none of these refused.
 -- Assumes nothing.
-use mathlib.Core.Path.{◌≡◌, refl, ap, ◌∙◌}
+use mathlib.Core.Path.{◌≡◌, refl, sym, ap, subst, ◌∙◌}
 use mathlib.Core.Bool.{Bool, true, false}
 use mathlib.Core.List.{List}
 use Prim.Native.Nat.{ℕ, ◌≤◌, ◌<◌}
@@ -10,7 +10,13 @@ use lib.Dec.{ltb}
 use lib.ListN.{length}
 use borrow.Author.Tests.{lt-ltb, le-ltb, ltb-false}
 use Rattle.theory.specs.Result.{Result, got, refused}
+use Rattle.std.specs.Prelude as std
+use Rattle.std.specs.Prelude.{Ok, Err}
+use Rattle.std.specs.Borrow.{Bor}
 use Rattle.fields.specs.declared.Source.{Source}
+use Rattle.fields.specs.declared.Refusal.{Refusal}
+use Rattle.fields.specs.declared.Failure.{Failure}
+use Rattle.fields.specs.Contract.{failure, about_of, AboutRef, read_said, call_said}
 use Rattle.fields.specs.declared.Source.TheVariants as source
 use Rattle.fields.specs.Call.{Outcome, accepts, refuses, about, and_then, Output, Gives, Task, returned, Returns, zeroed, performed, call}
 
@@ -21,6 +27,45 @@ not_accepted x n p z e = let w : ◌≡◌ {A = ℕ} 0 1 = cc in absurd (omega a
 pub about_accepted : {A : Type 0} (s : Source) (r : Result A) (x : A) → about s r ≡ accepts x → r ≡ got x
 about_accepted s (got y) x e = cc
 about_accepted s (refused n p) x e = not_accepted s n p x e
+
+-- ---- a reader's result, with what it is about, and back
+module _ {A : Type 0} (s : Source) (a : std.Result A Refusal) where
+  pub about_said : {B : Type 0} (f : A → B) → call_said f (about_of s a) ≡ about s (read_said f a)
+  about_said f = by_result a
+    where
+      by_result : (a : std.Result A Refusal) → call_said f (about_of s a) ≡ about s (read_said f a)
+      by_result (Ok x) = refl
+      by_result (Err r) = refl
+
+  module _ {b : std.Result A Failure} (e : b ≡ about_of s a) where
+    pub about_ok : {x : A} → b ≡ Ok x → a ≡ Ok x
+    about_ok {x} h = by_result a (sym e ∙ h)
+      where
+        by_result : (a : std.Result A Refusal) → about_of s a ≡ Ok x → a ≡ Ok x
+        by_result (Ok y) h = cc
+        by_result (Err r) h = let w : ◌≡◌ {A = ℕ} 0 1 = cc in absurd (omega arith)
+
+    pub about_err : {x : Failure} → b ≡ Err x → (x.source ≡ s) × (a ≡ Err x.refusal)
+    about_err {x} h = by_result a (sym e ∙ h)
+      where
+        by_result : (a : std.Result A Refusal) → about_of s a ≡ Err x → (x.source ≡ s) × (a ≡ Err x.refusal)
+        by_result (Ok y) h = let w : ◌≡◌ {A = ℕ} 0 1 = cc in absurd (omega arith)
+        by_result (Err r) h = let w : failure s r ≡ x = cc in (sym (ap (λ (z : Failure). z.source) w), ap (λ (z : Failure). Err z.refusal) w)
+
+  module _ {b : std.Result (Bor A) Failure} (e : AboutRef s a b) where
+    pub about_ref_ok : {y : Bor A} → b ≡ Ok y → a ≡ Ok y.now
+    about_ref_ok {y} h = by_result a (subst (AboutRef s a) h e)
+      where
+        by_result : (a : std.Result A Refusal) → AboutRef s a (Ok y) → a ≡ Ok y.now
+        by_result (Ok x) h = ap Ok (sym h)
+        by_result (Err r) h = let w : ◌≡◌ {A = ℕ} 0 1 = cc in absurd (omega arith)
+
+    pub about_ref_err : {x : Failure} → b ≡ Err x → (x.source ≡ s) × (a ≡ Err x.refusal)
+    about_ref_err {x} h = by_result a (subst (AboutRef s a) h e)
+      where
+        by_result : (a : std.Result A Refusal) → AboutRef s a (Err x) → (x.source ≡ s) × (a ≡ Err x.refusal)
+        by_result (Ok y) h = absurd h
+        by_result (Err r) h = let w : x ≡ failure s r = cc in (ap (λ (z : Failure). z.source) w, sym (ap (λ (z : Failure). Err z.refusal) w))
 
 -- ---- 15, or what the call does
 module _ {A R : Type 0} (t : Task A R) (work : List ℕ) (areas : R) where

@@ -1,5 +1,7 @@
 -- What is known where a field was found, and where the file's end was.
 -- Assumes nothing.
+use Rattle.std.specs.Prelude as std
+use Rattle.std.specs.Prelude.{Option, Some, Ok, IfOk, IfSome}
 use Prim.Native.Nat.{ℕ, ◌+◌, ◌<◌, ◌≤◌}
 use mathlib.Core.Path.{◌≡◌, refl, ap, ◌∙◌, sym}
 use mathlib.Core.Bool.{Bool, true, false, cond}
@@ -11,15 +13,13 @@ use native.Mathlib.Omega.{arith}
 use borrow.Author.Tests.{leb-true, ltb-false}
 use Rattle.fields.specs.declared.File.{File}
 use Rattle.fields.specs.declared.Due.{Due}
-use Rattle.fields.specs.declared.Seen.{Seen}
+use Rattle.fields.specs.declared.Refusal.{Refusal}
+use Rattle.fields.specs.declared.Found as declared·Found
 use Rattle.fields.specs.Reading.{ends, wrong, body, field_at, due_rows, tags_due, fitting, beyond?, word}
-use Rattle.fields.specs.Contract.{field_said}
+use Rattle.fields.specs.Contract.{field_said, FoundAt}
 use Rattle.fields.proofs.Rows.{OneOf, due_one}
 use Rattle.fields.proofs.Bools.{cond_else, cond_then}
-
--- what the definition finds at a place where e is due, by what the code saw there with d for it
-pub seen_at : (s : List ℕ) (at : ℕ) {d e : Due} {r x : Seen} → d ≡ e → field_said r ≡ field_at d s at → r ≡ x → field_at e s at ≡ field_said x
-seen_at s at p q u = ap (λ (f : Due). field_at f s at) (sym p) ∙ sym q ∙ ap field_said u
+use Rattle.fields.proofs.Raws.{whole_body}
 
 pub record Found (d : Due) (s : List ℕ) (at t n : ℕ) : Type 0 where
   pub fit : fitting d t n ≡ true
@@ -48,6 +48,27 @@ found d s at t n e =
 
 pub body_length : {d : Due} {s : List ℕ} {at t n : ℕ} → Found d s at t n → length (take n (drop (at + 3) s)) ≡ n
 body_length r = let h = r.room in simp (length-take, length-drop) (omega arith)
+
+-- ---- what the code hands out
+-- a field at a place where d is due
+pub record Handed (d : Due) (s : List ℕ) (at : ℕ) (f : declared·Found.Found) : Type 0 where
+  pub here : f.at ≡ at
+  pub seen : field_at d s at ≡ body f.tag (length f.body.now)
+  pub body_is : f.body.now ≡ take (length f.body.now) (drop (at + 3) s)
+  pub next : f.next ≡ at + 3 + length f.body.now
+  pub room : f.next ≤ length s
+
+module _ (s : List ℕ) (at : ℕ) {d e : Due} {a : std.Result (Option declared·Found.Found) Refusal} (p : d ≡ e) (q : field_said a ≡ field_at d s at) where
+  pub seen_at : {x : std.Result (Option declared·Found.Found) Refusal} → a ≡ x → field_at e s at ≡ field_said x
+  seen_at u = ap (λ (f : Due). field_at f s at) (sym p) ∙ sym q ∙ ap field_said u
+
+  pub handed : IfOk a (λ r. IfSome r (FoundAt s at)) → {f : declared·Found.Found} → a ≡ Ok (Some f) → Handed e s at f
+  handed h {f} u =
+      let i = seen_at u in
+      let r = found e s at f.tag (length f.body.now) i in
+      let m = r.room in
+      let k : FoundAt s at f = rw u at h in
+      record { here = k.here; seen = i; body_is = k.body ∙ whole_body s at _ r.room r.len; next = k.next; room = omega (arith, k.next) }
 
 -- it is one of the rows that are due
 pub found_one : (f : File) (ts : List ℕ) (c b : Bool) {s : List ℕ} {at t n : ℕ} → Found (tags_due f ts c b) s at t n → (b ≡ false) × OneOf (due_rows (tags_due f ts c false)) t n

@@ -2,13 +2,14 @@
 -- `A` is the answer that is sought; a reader that starts at the file's beginning takes `read F s`.
 -- Assumes nothing.
 use Prim.Native.Nat.{ℕ, suc, zero, ◌+◌, ◌<◌, ◌≤◌}
-use mathlib.Core.Path.{◌≡◌, refl, ap, ◌∙◌}
+use mathlib.Core.Path.{◌≡◌, refl, sym, ap, ap₂, subst, ◌∙◌}
 use mathlib.Core.List.{List}
 use lib.ListN.{length, take, drop}
 use native.Mathlib.Omega.{arith}
 use Rattle.theory.specs.Result.{Result, got, refused, onward}
 use Rattle.fields.specs.Reading.{Field, ends, wrong, body, field_at, Form, after, walk, read}
-use Rattle.fields.proofs.Fields.{found}
+use Rattle.fields.specs.declared.Found as declared·Found
+use Rattle.fields.proofs.Fields.{found, Handed}
 
 -- a number above 0 is a successor
 pub suc_of : (k : ℕ) → 0 < k → (j : ℕ) × (k ≡ suc j)
@@ -49,3 +50,16 @@ module _ (F : Form) (s : List ℕ) (A : Result F.Value) (st : F.State) (at : ℕ
         let r = (found (F.due st) s at t n e).room in
         let (i, h) = suc_of g.k (omega arith) in
         record { k = i; fuel = omega arith; inside = r; rest = going_judge (got st') j ∙ ap (λ (z : ℕ). walk F s z st' (at + 3 + n)) h }
+
+  -- the same by what the code hands out: the field f, judged by its parts
+  module _ {f : declared·Found.Found} (h : Handed (F.due st) s at f) where
+    judged : F.judge st at (at + 3 + length f.body.now) f.tag (take (length f.body.now) (drop (at + 3) s)) ≡ F.judge st f.at f.next f.tag f.body.now
+    judged =
+        ap₂ (λ (n : ℕ) (b : List ℕ). F.judge st at n f.tag b) (sym h.next) (sym h.body_is)
+        ∙ ap (λ (k : ℕ). F.judge st k f.next f.tag f.body.now) (sym h.here)
+
+    pub handed_refused : (m p : ℕ) → F.judge st f.at f.next f.tag f.body.now ≡ refused m p → A ≡ refused m p
+    handed_refused m p j = going_refused f.tag (length f.body.now) h.seen m p (judged ∙ j)
+
+    pub handed_more : (st' : F.State) → F.judge st f.at f.next f.tag f.body.now ≡ got st' → Going F s A st' f.next
+    handed_more st' j = subst (λ (n : ℕ). Going F s A st' n) (sym h.next) (going_more f.tag (length f.body.now) h.seen st' (judged ∙ j))

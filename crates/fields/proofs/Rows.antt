@@ -13,9 +13,7 @@ use Rattle.fields.specs.declared.Due.{Due}
 use Rattle.fields.specs.Table.{rows, in_set, allowed, row_in, row_of}
 use Rattle.fields.specs.Reading.{due_row?, due_rows, due_tag?, fitting, beyond?, tags_due}
 use Rattle.fields.proofs.Bools.{and_left, and_right}
-use Rattle.fields.specs.Raw.{fit_number}
 use borrow.Author.Tests.{eqb-true}
-use native.Mathlib.Omega.{arith}
 use lib.Dec.{eqb}
 use lib.ListN.{length}
 
@@ -88,57 +86,13 @@ row_fits : (d : Due) (t n : ℕ) → eqb (row_of t).1 n && due_row? d (row_of t)
 unfolding row_of rows fitting due_rows
 row_fits d t n = one_passes t (due_row? d) (λ r. eqb r.0 t && eqb r.1 n) (λ r. eqb r.1 n) (λ r e. rw e) (λ r e. rw e) rows refl (no_row d t)
 
--- what a field is to what is due, by the row of its tag
-pub by_row : (d : Due) (t n : ℕ) (r : Row) → r ≡ row_of t → fit_number d t n ≡ cond (due_row? d r) (cond (eqb r.1 n) 0 2) (cond d.closing 5 2)
-by_row d t n r e =
-    ap₂ (λ (x y : Bool). cond (d.closing && not x) 5 (cond y 0 2)) (sym (ap (due_row? d) e ∙ row_tag d t)) (sym (ap (λ (x : Row). eqb x.1 n && due_row? d x) e ∙ row_fits d t n))
-    ∙ by_tests (due_row? d r) (eqb r.1 n) d.closing
-  where
-    by_tests : (a b c : Bool) → ◌≡◌ {A = ℕ} (cond (c && not a) 5 (cond (b && a) 0 2)) (cond a (cond b 0 2) (cond c 5 2))
-    by_tests true true true = refl
-    by_tests true true false = refl
-    by_tests true false true = refl
-    by_tests true false false = refl
-    by_tests false true true = refl
-    by_tests false true false = refl
-    by_tests false false true = refl
-    by_tests false false false = refl
+-- whether a tag is due, and with a length, by the row that it has
+module _ (d : Due) (t : ℕ) {r : Row} {b : Bool} (e : r ≡ row_of t) (h : b ≡ due_row? d r) where
+  pub tag_due : due_tag? d t ≡ b
+  tag_due = sym (h ∙ ap (due_row? d) e ∙ row_tag d t)
 
--- and back from the number
-abbrev number : Bool → Bool → ℕ
-number a b = cond a 5 (cond b 0 2)
-
-module _ (d : Due) (t n : ℕ) where
-  pub number_5 : fit_number d t n ≡ 5 → beyond? d t ≡ true
-  number_5 e = by_tests (beyond? d t) (fitting d t n) e
-    where
-      by_tests : (a b : Bool) → number a b ≡ 5 → a ≡ true
-      by_tests true b e = refl
-      by_tests false true e = absurd (omega arith)
-      by_tests false false e = absurd (omega arith)
-
-  pub number_not_5 : (fit_number d t n ≡ 5 → ⊥) → beyond? d t ≡ false
-  number_not_5 e = by_test (beyond? d t) e
-    where
-      by_test : (a : Bool) → (number a (fitting d t n) ≡ 5 → ⊥) → a ≡ false
-      by_test true e = absurd (e refl)
-      by_test false e = refl
-
-  pub number_0 : fit_number d t n ≡ 0 → (beyond? d t ≡ false) × (fitting d t n ≡ true)
-  number_0 e = by_tests (beyond? d t) (fitting d t n) e
-    where
-      by_tests : (a b : Bool) → number a b ≡ 0 → (a ≡ false) × (b ≡ true)
-      by_tests true b e = absurd (omega arith)
-      by_tests false true e = (refl, refl)
-      by_tests false false e = absurd (omega arith)
-
-  pub number_2 : (fit_number d t n ≡ 0 → ⊥) → (fit_number d t n ≡ 5 → ⊥) → (beyond? d t ≡ false) × (fitting d t n ≡ false)
-  number_2 e f = by_tests (beyond? d t) (fitting d t n) e f
-    where
-      by_tests : (a b : Bool) → (number a b ≡ 0 → ⊥) → (number a b ≡ 5 → ⊥) → (a ≡ false) × (b ≡ false)
-      by_tests true b e f = absurd (f refl)
-      by_tests false true e f = absurd (e refl)
-      by_tests false false e f = (refl, refl)
+  pub tag_fits : (n : ℕ) → fitting d t n ≡ eqb r.1 n && b
+  tag_fits n = sym (ap₂ (λ (x : Row) (y : Bool). eqb x.1 n && y) e (h ∙ ap (due_row? d) e) ∙ row_fits d t n)
 
 -- ---- a field that fits
 -- it is one of the rows: where one alone is due, these are its tag and its length

@@ -6,6 +6,7 @@ use Rattle.std.proofs.lemmas.List.Edits.{sets}
 use Rattle.theory.specs.Result.{Result, got, refused}
 use Rattle.fields.specs.declared.Source.{Source}
 use Rattle.fields.specs.declared.Source.TheVariants as source
+pub use Rattle.fields.specs.declared.Size.{Size}
 use Rattle.fields.specs.Reading.{Form, read}
 
 -- what a call gives: a value; or a refusal, with what it is about, its number and its place
@@ -84,10 +85,6 @@ simple_call (refuses s n p) areas = output (refuses s n p) areas
 
 -- ---- a file in the area that is lent for it
 -- how large it is: how many members a narrowed question has, or symbols a question; and how many bytes
-pub record Size : Type 0 where
-  pub count : ℕ
-  pub bytes : ℕ
-
 abbrev pub size : ℕ → ℕ → Size
 size count bytes = record { count = count; bytes = bytes }
 

@@ -1,18 +1,17 @@
 -- What the code's enums say, in the numbers of SPECIFICATION, Refusals: of each case its number and its values.
 -- Assumes nothing.
-use Rattle.std.specs.Prelude.{ℕ}
+use Rattle.std.specs.Prelude as std
+use Rattle.std.specs.Prelude.{◌≡◌, ℕ, ◌+◌, List, length, Option, Some, None, Ok, Err, IsOkAnd}
+use Rattle.std.specs.Borrow.{Bor}
 use Rattle.fields.specs.declared.Refusal.{Refusal}
 use Rattle.fields.specs.declared.Refusal.TheVariants.{Truncated, Unexpected, OutOfRange, NotAscending, WrongEnd, Operands, UnnamedLink, TooMany, TooLong, AreaShort, WorkShort, Breach}
 use Rattle.fields.specs.declared.Source.{Source}
 use Rattle.fields.specs.declared.Source.TheVariants.{Sheet, Question, Narrowed, Register, Work}
-use Rattle.fields.specs.declared.Outcome as declared·Outcome
-use Rattle.fields.specs.declared.Outcome.TheVariants as outcome
-use Rattle.fields.specs.declared.Written as declared·Written
-use Rattle.fields.specs.declared.Written.TheVariants as written
-use Rattle.fields.specs.declared.Seen as declared·Seen
-use Rattle.fields.specs.declared.Seen.TheVariants as seen
-use Rattle.theory.specs.Result.{Result, refused}
-use Rattle.fields.specs.Call.{Outcome, accepts, refuses, Size, size}
+use Rattle.fields.specs.declared.Failure.{Failure}
+use Rattle.fields.specs.declared.Found as declared·Found
+use Rattle.theory.specs.Result.{Result, got, refused}
+use Rattle.fields.specs.Call.{Outcome, accepts, refuses, Size}
+use Rattle.fields.specs.Raw.{body_in}
 use Rattle.fields.specs.Reading.{Field, ends, wrong, body}
 
 abbrev pub number_of : Refusal → ℕ
@@ -53,15 +52,44 @@ source_number Work = 5
 abbrev pub refusal_said : {A : Type 0} → Refusal → Result A
 refusal_said r = refused (number_of r) (place_of r)
 
-abbrev pub outcome_said : declared·Outcome.Outcome → Outcome (Unit {0})
-outcome_said outcome.Accepted = accepts tt
-outcome_said (outcome.Refused f r) = refuses f (number_of r) (place_of r)
+-- a refusal, with what it is about
+abbrev pub failure : Source → Refusal → Failure
+failure s r = record { source = s; refusal = r }
 
-abbrev pub written_said : declared·Written.Written → Outcome Size
-written_said (written.File count bytes) = accepts (size count bytes)
-written_said (written.Refused f r) = refuses f (number_of r) (place_of r)
+-- a reader's result, with what it is about
+abbrev pub about_of : {A : Type 0} → Source → std.Result A Refusal → std.Result A Failure
+about_of s (Ok x) = Ok x
+about_of s (Err r) = Err (failure s r)
 
-abbrev pub field_said : declared·Seen.Seen → Field
-field_said seen.Ends = ends
-field_said (seen.Wrong r) = wrong (number_of r) (place_of r)
-field_said (seen.Body t n) = body t n
+-- the same of a reference to it
+abbrev pub AboutRef : {A : Type 0} → Source → std.Result A Refusal → std.Result (Bor A) Failure → Type 0
+AboutRef s (Ok x) b = IsOkAnd b (λ y. y.now ≡ x)
+AboutRef s (Err r) b = b ≡ Err (failure s r)
+
+-- what a reader's result says, and what a call's does: of a value what f says of it
+abbrev pub read_said : {A B : Type 0} → (A → B) → std.Result A Refusal → Result B
+read_said f (Ok x) = got (f x)
+read_said f (Err r) = refusal_said r
+
+abbrev pub call_said : {A B : Type 0} → (A → B) → std.Result A Failure → Outcome B
+call_said f (Ok x) = accepts (f x)
+call_said f (Err e) = refuses e.source (number_of e.refusal) (place_of e.refusal)
+
+-- of a call that returns nothing else, and of one that writes a file or tells its size
+abbrev pub outcome_said : std.Result (Unit {0}) Failure → Outcome (Unit {0})
+outcome_said a = call_said (λ u. u) a
+
+abbrev pub written_said : std.Result Size Failure → Outcome Size
+written_said a = call_said (λ z. z) a
+
+-- what lies at a place where something is due
+abbrev pub field_said : std.Result (Option declared·Found.Found) Refusal → Field
+field_said (Ok None) = ends
+field_said (Ok (Some f)) = body f.tag (length f.body.now)
+field_said (Err r) = wrong (number_of r) (place_of r)
+
+-- the field that was found: its place, its body, which is that part of the file, and the place after it
+pub record FoundAt (s : List ℕ) (at : ℕ) (f : declared·Found.Found) : Type 0 where
+  pub here : f.at ≡ at
+  pub body : f.body.now ≡ body_in s at
+  pub next : f.next ≡ at + 3 + length f.body.now

@@ -1,14 +1,14 @@
-// Fields of a file: why one is refused, the table of tags, and the field reader.
+// Fields of a file: why one is refused, the table of tags, and the field at a place.
 #![tactic(auto)]
 
-ghost use Rattle.std.specs.Prelude.{◌≡◌, ◌+◌, ◌<◌, length};
+ghost use Rattle.std.specs.Prelude.{◌≡◌, ◌+◌, ◌<◌, length, IfOk, IfSome};
 ghost use Rattle.fields.specs.Table.{allowed, row_of};
 ghost use Rattle.fields.specs.Reading.{due_row?, rows_due, field_at, word, eight};
-ghost use Rattle.fields.specs.Raw.{fit_number, raw_at, body_in, judged};
-ghost use Rattle.fields.specs.Contract.{number_of, place_of, source_number, field_said};
+ghost use Rattle.fields.specs.Raw.{raw_at, body_in};
+ghost use Rattle.fields.specs.Contract.{number_of, place_of, source_number, failure, about_of, AboutRef, field_said, FoundAt};
 
 // Why a file or a call is refused: the numbers 1 to 6 and 11 to 16 of SPECIFICATION, Refusals, each with its place.
-#[derive(Clone, Copy)]
+#[derive(Clone, Copy, PartialEq, Eq)]
 pub enum Refusal {
     Truncated(usize),
     Unexpected(usize),
@@ -24,91 +24,116 @@ pub enum Refusal {
     Breach(usize),
 }
 
-// The number of a refusal, and its place.
-pub fn number_of(r: Refusal) -> u8
-    ensures { result ≡ number_of r }
-{
-    match r {
-        Refusal::Truncated(_) => 1,
-        Refusal::Unexpected(_) => 2,
-        Refusal::OutOfRange(_) => 3,
-        Refusal::NotAscending(_) => 4,
-        Refusal::WrongEnd(_) => 5,
-        Refusal::Operands(_) => 6,
-        Refusal::UnnamedLink(_) => 11,
-        Refusal::TooMany(_) => 12,
-        Refusal::TooLong(_) => 13,
-        Refusal::AreaShort(_) => 14,
-        Refusal::WorkShort(_) => 15,
-        Refusal::Breach(_) => 16,
+impl Refusal {
+    // Its number.
+    pub fn number(self) -> u8
+        ensures { result ≡ number_of self }
+    {
+        match self {
+            Refusal::Truncated(_) => 1,
+            Refusal::Unexpected(_) => 2,
+            Refusal::OutOfRange(_) => 3,
+            Refusal::NotAscending(_) => 4,
+            Refusal::WrongEnd(_) => 5,
+            Refusal::Operands(_) => 6,
+            Refusal::UnnamedLink(_) => 11,
+            Refusal::TooMany(_) => 12,
+            Refusal::TooLong(_) => 13,
+            Refusal::AreaShort(_) => 14,
+            Refusal::WorkShort(_) => 15,
+            Refusal::Breach(_) => 16,
+        }
+    }
+
+    // Its place.
+    pub fn place(self) -> usize
+        ensures { result ≡ place_of self }
+    {
+        match self {
+            Refusal::Truncated(p)
+            | Refusal::Unexpected(p)
+            | Refusal::OutOfRange(p)
+            | Refusal::NotAscending(p)
+            | Refusal::WrongEnd(p)
+            | Refusal::Operands(p)
+            | Refusal::UnnamedLink(p)
+            | Refusal::TooMany(p)
+            | Refusal::TooLong(p)
+            | Refusal::AreaShort(p)
+            | Refusal::WorkShort(p)
+            | Refusal::Breach(p) => p,
+        }
+    }
+
+    // The same with what it is about.
+    pub fn about(self, source: Source) -> Failure
+        ensures { result ≡ failure source self }
+    {
+        Failure {
+            source,
+            refusal: self,
+        }
     }
 }
 
-pub fn place_of(r: Refusal) -> usize
-    ensures { result ≡ place_of r }
-{
-    match r {
-        Refusal::Truncated(p) => p,
-        Refusal::Unexpected(p) => p,
-        Refusal::OutOfRange(p) => p,
-        Refusal::NotAscending(p) => p,
-        Refusal::WrongEnd(p) => p,
-        Refusal::Operands(p) => p,
-        Refusal::UnnamedLink(p) => p,
-        Refusal::TooMany(p) => p,
-        Refusal::TooLong(p) => p,
-        Refusal::AreaShort(p) => p,
-        Refusal::WorkShort(p) => p,
-        Refusal::Breach(p) => p,
-    }
-}
-
-// What a call's refusal is about: one of its files, or, for 11 to 16, the work at hand.
-#[derive(Clone, Copy)]
+// What a call's refusal is about: one of its files, or, for 11 to 16, the work at hand. Callers in C get its number.
+#[derive(Clone, Copy, PartialEq, Eq)]
 pub enum Source {
-    Sheet,
+    Sheet = 1,
     Question,
     Narrowed,
     Register,
     Work,
 }
 
-// The outcome of a call that returns nothing else.
-#[derive(Clone, Copy)]
-pub enum Outcome {
-    Accepted,
-    Refused(Source, Refusal),
-}
+impl From<Source> for u8 {
+    ghost from_gives = { λ source number. number ≡ source_number source };
 
-// The outcome of a call that writes a file or tells its size: the number of its members (of a question: its symbols), and of its bytes.
-#[derive(Clone, Copy)]
-pub enum Written {
-    File(usize, usize),
-    Refused(Source, Refusal),
-}
-
-// Its number, for callers in C.
-pub fn source_number(s: Source) -> u8
-    ensures { result ≡ source_number s }
-{
-    match s {
-        Source::Sheet => 1,
-        Source::Question => 2,
-        Source::Narrowed => 3,
-        Source::Register => 4,
-        Source::Work => 5,
+    fn from(source: Source) -> u8 {
+        source as u8
     }
 }
 
+// Why a call is refused, and what that is about.
+#[derive(Clone, Copy, PartialEq, Eq)]
+pub struct Failure {
+    pub source: Source,
+    pub refusal: Refusal,
+}
+
+// A reader's result, with what it is about.
+pub fn about<T>(source: Source, read: Result<T, Refusal>) -> Result<T, Failure>
+    ensures { result ≡ about_of source read }
+{
+    read.map_err(|r| r.about(source))
+}
+
+// The same of a result that stays where it is, as a large one should.
+pub fn about_ref<T>(source: Source, read: &Result<T, Refusal>) -> Result<&T, Failure>
+    ensures { AboutRef source read.now result }
+{
+    match read {
+        Ok(x) => Ok(x),
+        Err(r) => Err(r.about(source)),
+    }
+}
+
+// The size of a file that a call writes or tells of: the number of its members (of a question: its symbols), and of its bytes.
+#[derive(Clone, Copy, PartialEq, Eq)]
+pub struct Size {
+    pub count: usize,
+    pub bytes: usize,
+}
+
 // Kind numbers and link numbers are two numberings, and both begin at 0.
-#[derive(Clone, Copy)]
+#[derive(Clone, Copy, PartialEq, Eq)]
 pub struct Kind(pub u8);
 
-#[derive(Clone, Copy)]
+#[derive(Clone, Copy, PartialEq, Eq)]
 pub struct Link(pub u8);
 
 // The four kinds of file.
-#[derive(Clone, Copy)]
+#[derive(Clone, Copy, PartialEq, Eq)]
 pub enum File {
     Sheet,
     Question,
@@ -135,7 +160,8 @@ pub const BYTE: u16 = 256;
 pub const TWO_BYTES: u64 = BYTE as u64 * BYTE as u64;
 
 // A tag, its length, whether a sheet, a question, a register, a narrowed question may have it, and the row's bit in a set of rows.
-#[derive(Clone, Copy)]
+// The columns have no names, since with them the formatter makes 88 lines of the table's 11.
+#[derive(Clone, Copy, PartialEq, Eq)]
 pub struct Row(
     pub u8,
     pub u16,
@@ -242,7 +268,7 @@ fn allows(row: Row, file: File) -> bool
 
 // The row of a tag, or one that allows no file. Each tag names its row by a constant, since a row at an index that is only known when it
 // runs costs a copy of the whole table. Where a tag gets a second row, that row comes from a function like this one, with an arm for each
-// such tag, and `misfit` asks of both rows.
+// such tag, and `field` asks of both rows.
 fn row_of(tag: u8) -> Row
     ensures { result ≡ row_of tag }
 {
@@ -265,7 +291,7 @@ fn row_of(tag: u8) -> Row
 
 // What is due at a place: the rows of a set, as far as the file may have them. Where the file is complete it may end; where what is due is
 // closing nothing else may follow, and a byte that is no tag of it is refusal 5.
-#[derive(Clone, Copy)]
+#[derive(Clone, Copy, PartialEq, Eq)]
 pub struct Due {
     pub file: File,
     pub rows: u16,
@@ -300,37 +326,7 @@ fn row_due(due: Due, row: Row) -> bool
     if due.rows & row.6 == 0 {
         return false;
     }
-    let file = due.file;
-    allows(row, file)
-}
-
-// What a tag and a length are to what is due: a number, since an enum goes through memory and is too much to be taken in by each reader.
-const FITS: u8 = 0;
-
-const UNEXPECTED: u8 = 2;
-
-const WRONG_END: u8 = 5;
-
-fn misfit(due: Due, tag: u8, len: u16) -> u8
-    ensures { result ≡ fit_number due tag len }
-{
-    let row = row_of(tag);
-    if row_due(due, row) {
-        if row.1 == len {
-            return FITS;
-        }
-        return UNEXPECTED;
-    }
-    if due.closing {
-        return WRONG_END;
-    }
-    UNEXPECTED
-}
-
-fn wide(b: u8) -> u16
-    ensures { (result ≡ b) × (result < 256) }
-{
-    b as u16
+    allows(row, due.file)
 }
 
 // The number in two bytes, the high one first.
@@ -338,14 +334,7 @@ pub fn two(s: &[u8], at: usize) -> u16
     requires { at + 1 < length s.now }
     ensures { result ≡ word s.now at }
 {
-    wide(s[at]) * BYTE + wide(s[at + 1])
-}
-
-// A number of two bytes as a word.
-pub fn long(n: u16) -> u64
-    ensures { (result ≡ n) × (result < 65536) }
-{
-    n as u64
+    u16::from_be_bytes([s[at], s[at + 1]])
 }
 
 // The number in eight bytes, the high one first.
@@ -353,13 +342,20 @@ pub fn eight_at(s: &[u8], at: usize) -> u64
     requires { at + 7 < length s.now }
     ensures { result ≡ eight s.now at }
 {
-    ((long(two(s, at)) * TWO_BYTES + long(two(s, at + 2))) * TWO_BYTES + long(two(s, at + 4)))
-        * TWO_BYTES
-        + long(two(s, at + 6))
+    u64::from_be_bytes([
+        s[at],
+        s[at + 1],
+        s[at + 2],
+        s[at + 3],
+        s[at + 4],
+        s[at + 5],
+        s[at + 6],
+        s[at + 7],
+    ])
 }
 
 // The field at a place, whatever is due: its tag and length, the same with the body cut short, the tag of a head cut short, or the file's end.
-#[derive(Clone, Copy)]
+#[derive(Clone, Copy, PartialEq, Eq)]
 pub enum Raw {
     Whole(u8, u16),
     Short(u8, u16),
@@ -387,58 +383,54 @@ pub fn step_at(s: &[u8], at: usize) -> Raw
 pub fn body_at(s: &[u8], at: usize) -> &[u8]
     ensures { result.now ≡ body_in s.now at }
 {
-    match step_at(s, at) {
-        Raw::Whole(_, len) => {
-            let a = at + HEAD;
-            let e = a + len as usize;
-            &s[a..e]
-        }
-        Raw::Short(_, _) => &s[..0],
-        Raw::Cut(_) => &s[..0],
-        Raw::End => &s[..0],
-    }
+    let Raw::Whole(_, len) = step_at(s, at) else {
+        return &s[..0];
+    };
+    let body = at + HEAD;
+    &s[body..body + len as usize]
 }
 
-// What the field at a place is to the reader: the file's end, a refusal, or a tag and length.
+// A field that was found: its place, its tag, its body as that part of the file, and the place after it.
 #[derive(Clone, Copy)]
-pub enum Seen {
-    Ends,
-    Wrong(Refusal),
-    Body(u8, u16),
+pub struct Found<'a> {
+    pub at: usize,
+    pub tag: u8,
+    pub body: &'a [u8],
+    pub next: usize,
 }
 
-// The refusals 5, 1 for the head, 2, 1 for the body, in that order.
-fn judge(raw: Raw, at: usize, due: Due) -> Seen
-    ensures { field_said result ≡ judged due at raw }
+// The field at a place where something is due, or none at the file's end. The refusals 5, 1 for the head, 2, 1 for the body, in that order.
+pub fn field(s: &[u8], at: usize, due: Due) -> Result<Option<Found<'_>>, Refusal>
+    ensures said { field_said result ≡ field_at due s.now at }
+    ensures part { IfOk result (λ r. IfSome r (FoundAt s.now at)) }
 {
-    match raw {
-        Raw::End => {
-            if due.complete {
-                return Seen::Ends;
-            }
-            Seen::Wrong(Refusal::WrongEnd(at))
-        }
-        Raw::Cut(t) => {
-            if misfit(due, t, 0) == WRONG_END {
-                return Seen::Wrong(Refusal::WrongEnd(at));
-            }
-            Seen::Wrong(Refusal::Truncated(at))
-        }
-        Raw::Short(t, n) => match misfit(due, t, n) {
-            FITS => Seen::Wrong(Refusal::Truncated(at)),
-            WRONG_END => Seen::Wrong(Refusal::WrongEnd(at)),
-            _ => Seen::Wrong(Refusal::Unexpected(at)),
-        },
-        Raw::Whole(t, n) => match misfit(due, t, n) {
-            FITS => Seen::Body(t, n),
-            WRONG_END => Seen::Wrong(Refusal::WrongEnd(at)),
-            _ => Seen::Wrong(Refusal::Unexpected(at)),
-        },
+    if s.len() <= at {
+        return if due.complete {
+            Ok(None)
+        } else {
+            Err(Refusal::WrongEnd(at))
+        };
     }
-}
-
-pub fn field(s: &[u8], at: usize, due: Due) -> Seen
-    ensures { field_said result ≡ field_at due s.now at }
-{
-    judge(step_at(s, at), at, due)
+    let row = row_of(s[at]);
+    let is_due = row_due(due, row);
+    if due.closing && !is_due {
+        return Err(Refusal::WrongEnd(at));
+    }
+    if s.len() < at + HEAD {
+        return Err(Refusal::Truncated(at));
+    }
+    let len = two(s, at + 1);
+    if !is_due || row.1 != len {
+        return Err(Refusal::Unexpected(at));
+    }
+    let next = at + HEAD + len as usize;
+    match s.get(at + HEAD..next) {
+        Some(body) => Ok(Some(Found {
+            at,
+            tag: s[at],
+            body,
+            next,
+        })),
+        None => Err(Refusal::Truncated(at)),
+    }
 }

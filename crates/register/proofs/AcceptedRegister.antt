@@ -17,8 +17,9 @@ use Rattle.fields.specs.Reading.{read}
 use Rattle.fields.proofs.Bools.{and_left, and_right}
 use Rattle.fields.proofs.Fields.{ended}
 use Rattle.fields.proofs.Accepted.{accepted_ind}
-use Rattle.register.specs.declared.Position.{Position}
-use Rattle.register.specs.declared.Position.TheVariants.{Start, Within}
+use Rattle.field_reader.specs.declared.Standing.{Standing}
+use Rattle.register.specs.declared.Progress.{Progress}
+use Rattle.field_reader.specs.declared.Standing.TheVariants.{Head, Within}
 use Rattle.register.specs.Form.{due, no_register, register_form, value_of, register_in, kind?, link?}
 use Rattle.register.specs.Contract.{sizes, sized}
 use Rattle.register.specs.LinksAhead.{Accepted}
@@ -49,9 +50,9 @@ ends_linked n (e ∷ es) h =
 label_below : (n : ℕ) (e : Edge) → link? n e ≡ true → e.label < 64
 label_below n e h = ltb-true e.label 64 (and_right (ltb e.from n) _ (and_left _ (ltb e.to n) h))
 
-sound_limits : (st : Position) (r : Register) → (due st).complete ≡ true → SoundState (st, r) → Limits r
+sound_limits : (st : Standing Progress) (r : Register) → (due st).complete ≡ true → SoundState (st, r) → Limits r
 unfolding well_formed?
-sound_limits Start r e w = absurd (false≢true e)
+sound_limits Head r e w = absurd (false≢true e)
 sound_limits (Within q) r e w =
     let a : q.kindless ≡ 0 = eqb-true q.kindless 0 (and_left _ (eqb q.left 0) e) in
     let b : q.left ≡ 0 = eqb-true q.left 0 (and_right (eqb q.kindless 0) _ e) in
@@ -72,7 +73,7 @@ accepted_register s r e =
     accepted_ind register_form s (λ st at v. SoundState st → Limits v)
     (λ st at f. sound_limits st.0 st.1 (ended (due st.0) s at f).may)
     (λ st at t n st' v f j ih w. ih (sound_more st s at t n st' f j w))
-    (suc (length s)) (Start, no_register) 0 r e refl
+    (suc (length s)) (Head, no_register) 0 r e refl
 
 -- what the reader's answer says of the register in the file
 pub accepted_sizes : (s : List ℕ) (n l : ℕ) → got (sizes n l) ≡ sized (read register_form s)

@@ -7,21 +7,20 @@ use Prim.Native.Nat.{ℕ, ◌+◌, ◌<◌}
 use native.Mathlib.Omega.{arith}
 use borrow.Author.Tests.{eqb-false}
 use lib.Dec.{eqb}
-use lib.ListN.{length, take, drop}
 use Rattle.fields.specs.Table.{tag_length, rows, rows_of}
 use Rattle.fields.specs.Reading.{body, field_at, due_rows, tags_due}
 use Rattle.fields.proofs.Rows.{OneOf}
-use Rattle.fields.proofs.Fields.{found, found_one, body_length}
+use Rattle.fields.proofs.Fields.{found, found_one}
 use Rattle.fields.specs.declared.File.TheVariants as file
 use Rattle.register.specs.declared.Progress.{Progress}
-use Rattle.register.specs.declared.Position.{Position}
-use Rattle.register.specs.declared.Position.TheVariants.{Start, Within}
+use Rattle.field_reader.specs.declared.Standing.{Standing}
+use Rattle.field_reader.specs.declared.Standing.TheVariants.{Head, Within}
 use Rattle.register.specs.Form.{due_tag, due, complete?}
 use Rattle.register.specs.Internal.{BodyReady}
 
-pub head_length : (s : List ℕ) (at t n : ℕ) → field_at (due Start) s at ≡ body t n → n ≡ 4
+pub head_length : (s : List ℕ) (at t n : ℕ) → field_at (due Head) s at ≡ body t n → n ≡ 4
 unfolding due_rows rows_of rows
-head_length s at t n e = (found_one file.Register (0x31 ∷ []) false false (found (due Start) s at t n e)).1.1
+head_length s at t n e = (found_one file.Register (0x31 ∷ []) false false (found (due Head) s at t n e)).1.1
 
 module _ (q : Progress) (s : List ℕ) (at t n : ℕ) (e : field_at (due (Within q)) s at ≡ body t n) where
   pub entry_due : complete? q ≡ false
@@ -44,11 +43,10 @@ some_due q e = by_tests (eqb q.kindless 0) (eqb q.left 0) refl refl e
     by_tests true false a b e = let h : q.left ≡ 0 → ⊥ = eqb-false q.left 0 b in omega arith
     by_tests false y a b e = let h : q.kindless ≡ 0 → ⊥ = eqb-false q.kindless 0 a in omega arith
 
-pub ready : (st : Position) (s : List ℕ) (at t n : ℕ) → field_at (due st) s at ≡ body t n → BodyReady st (length (take n (drop (at + 3) s)))
+pub ready : (st : Standing Progress) (s : List ℕ) (at t n : ℕ) → field_at (due st) s at ≡ body t n → BodyReady st n
 unfolding tag_length rows
-ready Start s at t n e = body_length (found (due Start) s at t n e) ∙ head_length s at t n e
-ready (Within q) s at t n e =
-    (body_length (found (due (Within q)) s at t n e) ∙ entry_length q s at t n e ∙ by_kind (eqb q.kindless 0), some_due q (entry_due q s at t n e))
+ready Head s at t n e = head_length s at t n e
+ready (Within q) s at t n e = (entry_length q s at t n e ∙ by_kind (eqb q.kindless 0), some_due q (entry_due q s at t n e))
   where
     by_kind : (c : Bool) → cond c 5 1 ≡ tag_length (cond c 0x33 0x32)
     by_kind true = refl

@@ -16,7 +16,7 @@ use Rattle.fields.specs.Reading.{body, field_at, due_rows, tags_due, fitting, wo
 use Rattle.fields.proofs.Rows.{fits_within}
 use Rattle.fields.proofs.Fields.{found, body_get}
 use Rattle.register.specs.declared.Progress.{Progress}
-use Rattle.register.specs.declared.Position.TheVariants.{Within}
+use Rattle.field_reader.specs.declared.Standing.TheVariants.{Within}
 use Rattle.register.specs.Form.{due, kind_of, link_of, entry_of, after_link, key}
 use Rattle.register.specs.Passed.{KindAt, NumberAt, Passes, Passed, here, further}
 use Rattle.register.proofs.Loop.{Reading, reading_more}

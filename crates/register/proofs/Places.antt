@@ -16,19 +16,13 @@ use Rattle.fields.proofs.Bools.{and_left, and_right}
 use Rattle.fields.proofs.Fields.{found, ended, body_get}
 use Rattle.fields.proofs.Accepted.{accepted_ind}
 use Rattle.register.specs.declared.Progress.{Progress}
-use Rattle.register.specs.declared.Position.{Position}
-use Rattle.register.specs.declared.Position.TheVariants.{Start, Within}
-use Rattle.register.specs.declared.Links as declared·Links
-use Rattle.register.specs.declared.NextLink.TheVariants as next-link
+use Rattle.field_reader.specs.declared.Standing.{Standing}
+use Rattle.field_reader.specs.declared.Standing.TheVariants.{Head, Within}
 use Rattle.register.specs.Form.{due, with_kind, with_link, no_register, register_form, value_of, register_in, edge_of, after_head}
-use Rattle.register.specs.LinksAhead.{Accepted, cursor_at, OnLinks, to_come, handed}
+use Rattle.register.specs.LinksAhead.{Accepted, cursor_at, OnLinks, to_come}
 use Rattle.register.proofs.Fields.{head_length, entry_length}
-use Rattle.register.proofs.Walk.{to_come_length}
+use Rattle.register.proofs.Walk.{no_length, to_come_length, to_come_next}
 use Rattle.register.proofs.Sound.{by_head, by_entry, head_got, kind_got, link_got}
-
-no_length : {A : Type 0} (xs : List A) → length xs ≡ 0 → xs ≡ []
-no_length [] e = refl
-no_length (x ∷ xs) e = absurd (omega arith)
 
 -- ---- a file from a place on
 -- the kinds ks lie one after the other
@@ -64,13 +58,13 @@ record Placed (s : List ℕ) (v : Register) : Type 0 where
   kinds_lie : KindsLie s 7 v.kinds
   links_lie : Lie s (7 + 4 * records v) v.links
 
-abbrev Ends : List ℕ → Position × Register → ℕ → Register → Type 0
-Ends s (Start, r) at v = r ≡ no_register → at ≡ 0 → Placed s v
+abbrev Ends : List ℕ → Standing Progress × Register → ℕ → Register → Type 0
+Ends s (Head, r) at v = r ≡ no_register → at ≡ 0 → Placed s v
 Ends s (Within q, r) at v = at ≤ length s → Rest s q r at v
 
 module _ (s : List ℕ) where
-  at_end : (st : Position × Register) (at : ℕ) → field_at (register_form.due st) s at ≡ ends → Ends s st at (register_form.value st)
-  at_end (Start, r) at e = absurd (false≢true (ended (due Start) s at e).may)
+  at_end : (st : Standing Progress × Register) (at : ℕ) → field_at (register_form.due st) s at ≡ ends → Ends s st at (register_form.value st)
+  at_end (Head, r) at e = absurd (false≢true (ended (due Head) s at e).may)
   at_end (Within q, r) at e = λ inside.
       let x = ended (due (Within q)) s at e in
       record {
@@ -144,13 +138,13 @@ module _ (s : List ℕ) where
             (ap (edge_at s) o ∙ body_edge at n hn, subst (λ (a : ℕ). Lie s a r.more_links) h r.links_lie);
       }
 
-  at_body : (st : Position × Register) (at t n : ℕ) (st' : Position × Register) (v : Register) → field_at (register_form.due st) s at ≡ body t n
+  at_body : (st : Standing Progress × Register) (at t n : ℕ) (st' : Standing Progress × Register) (v : Register) → field_at (register_form.due st) s at ≡ body t n
       → register_form.judge st at (at + 3 + n) t (take n (drop (at + 3) s)) ≡ got st' → Ends s st' (at + 3 + n) v → Ends s st at v
-  at_body (Start, x) at t n st' v e j ih = λ w z.
+  at_body (Head, x) at t n st' v e j ih = λ w z.
       by_head (λ y. Ends s y (at + 3 + n) v → Placed s v) x at (at + 3 + n) t (take n (drop (at + 3) s)) st' j
       (λ q g r.
       let h = (head_got at (take n (drop (at + 3) s)) q g).2 in
-      let room = (found (due Start) s at t n e).room in
+      let room = (found (due Head) s at t n e).room in
       let here = subst (λ (p : Progress). Rest s p x (at + 3 + n) v) (sym h) (r room) in
       after_31 at n v (head_length s at t n e) z room (subst (λ (y : Register). Rest s (after_head (take n (drop (at + 3) s))) y (at + 3 + n) v) w here))
       ih
@@ -170,7 +164,7 @@ module _ (s : List ℕ) where
 
   placed : (v : Register) → read register_form s ≡ got v → Placed s v
   unfolding read
-  placed v e = accepted_ind register_form s (Ends s) at_end at_body (suc (length s)) (Start, no_register) 0 v e refl refl
+  placed v e = accepted_ind register_form s (Ends s) at_end at_body (suc (length s)) (Head, no_register) 0 v e refl refl
 
 -- ---- kind i
 kinds_at : (s : List ℕ) (at : ℕ) (ks : List ℕ) (i : ℕ) → KindsLie s at ks → i < length ks → (at + 4 * i + 3 < length s) × (get_or s (at + 4 * i + 3) 0 ≡ get_or ks i 0)
@@ -209,51 +203,51 @@ lie_drop s at (e ∷ es) (suc k) l h =
 whole_length : (s : List ℕ) (v : Register) → Placed s v → 7 + 4 * records v + 8 * length v.links ≡ length s
 whole_length s v p = lie_end s (7 + 4 * records v) v.links p.links_lie
 
-pub head_room : (s : List ℕ) → Accepted s → 7 ≤ length s
-head_room s e = (placed s (register_in s) e).head
-
--- the cursor, with the eight bytes of a link's field
-cursor_place : (s : List ℕ) (k : ℕ) → (cursor_at s k).at ≡ length s - 8 * k
+-- a cursor's place, with the eight bytes of a link's field
+cursor_place : (s : List ℕ) (k : ℕ) → cursor_at s k ≡ length s - 8 * k
 unfolding cursor_at field_size tag_length rows
 cursor_place s k = refl
 
-cursor_is : (s : List ℕ) (c : declared·Links.Links) (k : ℕ) → c.at ≡ length s - 8 * k → c.left ≡ k → c ≡ cursor_at s k
-unfolding cursor_at field_size tag_length rows
-cursor_is s c k a l = λ i. record { at = a i; left = l i }
+-- the first link lies after the kinds
+pub start_room : (s : List ℕ) (n : ℕ) → Accepted s → n ≡ length (register_in s).kinds → 7 + 4 * n ≤ length s
+start_room s n e h = omega (arith, whole_length s (register_in s) (placed s (register_in s) e))
 
-pub links_start : (s : List ℕ) (c : declared·Links.Links) → Accepted s → c.at ≡ 7 + 4 * word s 3 → c.left ≡ word s 5 → c ≡ cursor_at s (length (register_in s).links)
-links_start s c e a l =
-    let p = placed s (register_in s) e in
-    cursor_is s c (length (register_in s).links) (omega (arith, p.kinds, whole_length s (register_in s) p)) (l ∙ sym p.links)
+pub on_start : (s : List ℕ) (n l : ℕ) → Accepted s → n ≡ length (register_in s).kinds → l ≡ length (register_in s).links → OnLinks s (7 + 4 * n) l
+on_start s n l e hn hl = record {
+  accepted = e;
+  few = omega (arith, hl);
+  placed = omega (arith, cursor_place s l, whole_length s (register_in s) (placed s (register_in s) e));
+}
 
-module _ (s : List ℕ) (c : declared·Links.Links) (h : OnLinks s c) where
+module _ (s : List ℕ) (at left : ℕ) (h : OnLinks s at left) where
   -- those to come lie from the cursor on
-  lies : Lie s c.at (to_come s c)
+  lies : Lie s at (to_come s left)
   unfolding to_come
   lies =
       let p = placed s (register_in s) h.accepted in
       let n = length (register_in s).links in
-      let e = ap (λ (d : declared·Links.Links). d.at) h.placed ∙ cursor_place s c.left in
-      let z : 7 + 4 * records (register_in s) + 8 * (n - c.left) ≡ c.at = omega (arith, whole_length s (register_in s) p, h.few, e) in
-      subst (λ (a : ℕ). Lie s a (to_come s c)) z (lie_drop s (7 + 4 * records (register_in s)) (register_in s).links (n - c.left) p.links_lie (omega arith))
+      let z : 7 + 4 * records (register_in s) + 8 * (n - left) ≡ at = omega (arith, whole_length s (register_in s) p, h.few, h.placed, cursor_place s left) in
+      subst (λ (a : ℕ). Lie s a (to_come s left)) z (lie_drop s (7 + 4 * records (register_in s)) (register_in s).links (n - left) p.links_lie (omega arith))
 
-  pub next_done : c.left ≡ 0 → next-link.Done ≡ handed s (to_come s c)
-  unfolding handed
-  next_done z = sym (ap (handed s) (no_length (to_come s c) (to_come_length s c h ∙ z)))
+  module _ (some : left ≡ 0 → ⊥) where
+    pub next_room : at + 8 ≤ length s
+    next_room = omega (arith, lie_end s at (to_come s left) lies, to_come_length s left h.few)
 
-  module _ (some : c.left ≡ 0 → ⊥) where
-    pub next_room : c.at + 8 ≤ length s
-    next_room = omega (arith, lie_end s c.at (to_come s c) lies, to_come_length s c h)
+    -- the cursor after the first of the links to come
+    pub on_next : OnLinks s (at + 8) (left - 1)
+    on_next = record {
+      accepted = h.accepted;
+      few = omega (arith, h.few);
+      placed = omega (arith, lie_end s at (to_come s left) lies, to_come_length s left h.few, cursor_place s (left - 1));
+    }
 
-    pub next_more : (from label to : ℕ) (d : declared·Links.Links)
-        → from ≡ word s (c.at + 3) → label ≡ get_or s (c.at + 3 + 2) 0 → to ≡ word s (c.at + 3 + 3) → d.at ≡ c.at + 8 → d.left ≡ c.left - 1
-        → next-link.Link from (record { 0 = label }) to d ≡ handed s (to_come s c)
-    unfolding handed
-    next_more from label to d hf hl ht ha hd = by_links (to_come s c) (to_come_length s c h) lies
+    pub next_link : (from label to : ℕ) → from ≡ word s (at + 3 + 0) → label ≡ get_or s (at + 3 + 2) 0 → to ≡ word s (at + 3 + 3)
+        → to_come s left ≡ edge from label to ∷ to_come s (left - 1)
+    next_link from label to hf hl ht = by_links (to_come s left) refl lies
       where
-        by_links : (es : List Edge) → length es ≡ c.left → Lie s c.at es → next-link.Link from (record { 0 = label }) to d ≡ handed s es
-        by_links [] n l = absurd (some (sym n))
-        by_links (e ∷ es) n l =
-            let z : edge from label to ≡ e = (λ i. edge (hf i) (hl i) (ht i)) ∙ l.0 in
-            let w : d ≡ cursor_at s (length es) = cursor_is s d (length es) (omega (arith, lie_end s _ es l.1)) (omega arith) in
-            λ i. next-link.Link (z i).from (record { 0 = (z i).label }) (z i).to (w i)
+        by_links : (es : List Edge) → to_come s left ≡ es → Lie s at es → to_come s left ≡ edge from label to ∷ to_come s (left - 1)
+        by_links [] e l = absurd (some (sym (to_come_length s left h.few) ∙ ap length e))
+        by_links (x ∷ es) e l =
+            let o : at + 3 + 0 ≡ at + 3 = omega arith in
+            let z : edge from label to ≡ x = (λ i. edge ((hf ∙ ap (word s) o) i) (hl i) (ht i)) ∙ l.0 in
+            e ∙ (λ i. sym z i ∷ sym (to_come_next s left h.few x es e) i)

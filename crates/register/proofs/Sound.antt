@@ -15,8 +15,8 @@ use Rattle.fields.specs.Reading.{word, body, field_at}
 use Rattle.fields.proofs.Bools.{cond_then, and_left, and_right, not_got, onward_got, got_same, got_both}
 use Rattle.fields.proofs.Accepted.{taken}
 use Rattle.register.specs.declared.Progress.{Progress}
-use Rattle.register.specs.declared.Position.{Position}
-use Rattle.register.specs.declared.Position.TheVariants.{Start, Within}
+use Rattle.field_reader.specs.declared.Standing.{Standing}
+use Rattle.field_reader.specs.declared.Standing.TheVariants.{Head, Within}
 use Rattle.register.specs.Form.{due, head_of, kind_of, link_of, entry_of, after_head, after_kind, after_link, kind?, link?, edge_of, key}
 use Rattle.register.specs.Form.{no_entry, kind_entry, link_entry, handed_over, with_kind, with_link, keep, no_register, register_format, register_form}
 use Rattle.register.proofs.Fields.{entry_due, some_due}
@@ -45,7 +45,7 @@ link_got q at b q' e =
     (a.0, h)
 
 -- a field within the file is a link or a kind, and there is one due
-module _ (P : Position × Register → Type 0) (q : Progress) (r : Register) (s : List ℕ) (at t n : ℕ) (st : Position × Register) (e : field_at (due (Within q)) s at ≡ body t n) where
+module _ (P : Standing Progress × Register → Type 0) (q : Progress) (r : Register) (s : List ℕ) (at t n : ℕ) (st : Standing Progress × Register) (e : field_at (due (Within q)) s at ≡ body t n) where
   abbrev B : List ℕ
   B = take n (drop (at + 3) s)
 
@@ -72,10 +72,10 @@ module _ (P : Position × Register → Type 0) (q : Progress) (r : Register) (s 
       let v = got_both w in
       by_test (eqb q.kindless 0) refl q' g v.0 (ap (keep r) v.1 ∙ x.kept)
 
-pub by_head : (P : Position × Register → Type 0) (r : Register) (at next t : ℕ) (b : List ℕ) (st : Position × Register) → register_form.judge (Start, r) at next t b ≡ got st
+pub by_head : (P : Standing Progress × Register → Type 0) (r : Register) (at next t : ℕ) (b : List ℕ) (st : Standing Progress × Register) → register_form.judge (Head, r) at next t b ≡ got st
     → ((q : Progress) → head_of at b ≡ got q → P (Within q, r)) → P st
 by_head P r at next t b st j head =
-    let x = taken register_format Start r at next t b st j in
+    let x = taken register_format Head r at next t b st j in
     let (q, g, w) = onward_got (λ q. got (Within q, no_entry)) (head_of at b) _ x.judged in
     let v = got_both w in
     let k : keep r no_entry ≡ got st.1 = ap (keep r) v.1 ∙ x.kept in
@@ -90,17 +90,17 @@ pub record Sound (q : Progress) (r : Register) : Type 0 where
   pub kinds : every? kind? r.kinds ≡ true
   pub edges : every? (link? q.records) r.links ≡ true
 
-abbrev pub SoundState : Position × Register → Type 0
-SoundState (Start, r) = r ≡ no_register
+abbrev pub SoundState : Standing Progress × Register → Type 0
+SoundState (Head, r) = r ≡ no_register
 SoundState (Within q, r) = Sound q r
 
 every_snoc : {A : Type 0} (f : A → Bool) (xs : List A) (x : A) → every? f xs ≡ true → f x ≡ true → every? f (xs ++ (x ∷ [])) ≡ true
 every_snoc f [] x e h = rw h
 every_snoc f (y ∷ ys) x e h = rw (and_left (f y) (every? f ys) e, every_snoc f ys x (and_right (f y) (every? f ys) e) h)
 
-pub sound_more : (st : Position × Register) (s : List ℕ) (at t n : ℕ) (st' : Position × Register) → field_at (register_form.due st) s at ≡ body t n
+pub sound_more : (st : Standing Progress × Register) (s : List ℕ) (at t n : ℕ) (st' : Standing Progress × Register) → field_at (register_form.due st) s at ≡ body t n
     → register_form.judge st at (at + 3 + n) t (take n (drop (at + 3) s)) ≡ got st' → SoundState st → SoundState st'
-sound_more (Start, r) s at t n st' e j w =
+sound_more (Head, r) s at t n st' e j w =
     by_head SoundState r at (at + 3 + n) t (take n (drop (at + 3) s)) st' j (λ q g.
     let h = head_got at (take n (drop (at + 3) s)) q g in
     subst (λ (p : Progress). Sound p r) h.2

@@ -8,8 +8,8 @@ use Rattle.fields.specs.declared.Due.{Due}
 use Rattle.theory.specs.Result.{Result, got, refused, onward}
 use Rattle.fields.specs.Reading.{word, tags_due, Form, Format, form, read}
 use Rattle.register.specs.declared.Progress.{Progress}
-use Rattle.register.specs.declared.Position.{Position}
-use Rattle.register.specs.declared.Position.TheVariants.{Start, Within}
+use Rattle.field_reader.specs.declared.Standing.{Standing}
+use Rattle.field_reader.specs.declared.Standing.TheVariants.{Head, Within}
 
 -- 31 is due; or a 32, the kinds first, or a 33. `Progress` has the numbers of records and links, of records whose kind is due, of links
 -- left, and `floor`, the least key that is above the link before
@@ -19,8 +19,8 @@ due_tag q = cond (eqb q.kindless 0) 0x33 0x32
 abbrev pub complete? : Progress → Bool
 complete? q = eqb q.kindless 0 && eqb q.left 0
 
-abbrev pub due : Position → Due
-due Start = tags_due file.Register (0x31 ∷ []) false false
+abbrev pub due : Standing Progress → Due
+due Head = tags_due file.Register (0x31 ∷ []) false false
 due (Within q) = tags_due file.Register (due_tag q ∷ []) (complete? q) (complete? q)
 
 -- 31: the numbers of records and links; refusal 3
@@ -62,8 +62,8 @@ unfoldable pub entry_of : Progress → ℕ → List ℕ → Result Progress
 entry_of q at b = cond (eqb q.kindless 0) (link_of q at b) (kind_of q at b)
 
 -- how far the reading comes by a field
-abbrev pub advance : Position → ℕ → List ℕ → Result Progress
-advance Start at b = head_of at b
+abbrev pub advance : Standing Progress → ℕ → List ℕ → Result Progress
+advance Head at b = head_of at b
 advance (Within q) at b = entry_of q at b
 
 -- what it hands over: nothing, the kind of a record, or a link
@@ -72,8 +72,8 @@ pub data Entry : Type 0 where
   kind_entry : ℕ → Entry
   link_entry : Edge → Entry
 
-abbrev pub handed_over : Position → List ℕ → Entry
-handed_over Start b = no_entry
+abbrev pub handed_over : Standing Progress → List ℕ → Entry
+handed_over Head b = no_entry
 handed_over (Within q) b = cond (eqb q.kindless 0) (link_entry (edge_of b)) (kind_entry (get_or b 0 0))
 
 -- the register so far
@@ -93,11 +93,11 @@ no_register = record { kinds = []; links = [] }
 
 abbrev pub register_format : Format
 register_format = record {
-  Control = Position;
+  Control = Standing Progress;
   Item = Entry;
   Kept = Register;
   Value = Register;
-  start = Start;
+  start = Head;
   empty = no_register;
   due = due;
   judge = λ st at next t b. onward (λ q. got (Within q, handed_over st b)) (advance st at b);

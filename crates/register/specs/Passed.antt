@@ -5,7 +5,7 @@ use Rattle.fields.specs.Table.{tag_length, field_size}
 use Rattle.theory.specs.Result.{got}
 use Rattle.fields.specs.Reading.{word, eight, body, field_at}
 use Rattle.register.specs.declared.Progress.{Progress}
-use Rattle.register.specs.declared.Position.TheVariants.{Within}
+use Rattle.field_reader.specs.declared.Standing.TheVariants.{Within}
 use Rattle.register.specs.Form.{due, entry_of}
 
 -- a kind is due at a place, and a whole field with its tag and length lies there

@@ -1,23 +1,25 @@
 // Reads a register's file, and hands on its kinds and links from where they lie.
 #![tactic(auto)]
 
-ghost use Rattle.std.specs.Prelude.{◌≡◌, true, ◌<◌, ◌≤◌, length};
-ghost use Rattle.fields.specs.Table.{tag_length};
+ghost use Rattle.std.specs.Prelude.{◌≡◌, true, ◌<◌, ◌≤◌, length, IfOk};
+ghost use Rattle.std.specs.Iterator.{YieldsFirstBy, item_count};
 ghost use Rattle.fields.specs.Reading.{read};
-ghost use Rattle.theory.specs.Register.{records, kind};
+ghost use Rattle.theory.specs.Register.{kind};
 ghost use Rattle.register.specs.Form.{head_of, kind_of, link_of, entry_of, advance, key, register_format, register_form, register_in};
-ghost use Rattle.register.specs.Contract.{outcome_said, sized};
-ghost use Rattle.register.specs.Internal.{BodyReady, turn_said, sizes_of};
+ghost use Rattle.fields.specs.Contract.{read_said};
+ghost use Rattle.register.specs.Contract.{sizes, sized};
+ghost use Rattle.register.specs.Internal.{BodyReady};
 ghost use Rattle.register.specs.Passed.{KindAt, NumberAt, Passes, Passed};
-ghost use Rattle.register.specs.LinksAhead.{Accepted, cursor_at, OnLinks, to_come, handed};
+ghost use Rattle.register.specs.LinksAhead.{Accepted, OnLinks, Edges, to_come, edge_said};
 
-use bits::wide;
-use fields::{Due, File, HEAD, Kind, Link, Refusal, Seen, long};
+use field_reader::Standing;
+use fields::{Due, File, HEAD, KIND_LENGTH, Kind, LINK_LENGTH, Link, REGISTER_LENGTH, Refusal};
+use std::marker::Model;
 
 // The bytes of a whole field of a kind, and of a link.
-const KIND_BYTES: usize = HEAD + fields::KIND_LENGTH as usize;
+const KIND_BYTES: usize = HEAD + KIND_LENGTH as usize;
 
-const LINK_BYTES: usize = HEAD + fields::LINK_LENGTH as usize;
+const LINK_BYTES: usize = HEAD + LINK_LENGTH as usize;
 
 // The most records of a register, and its most links.
 const MOST_RECORDS: u16 = 1024;
@@ -42,7 +44,7 @@ const RECORD_COUNT_AT: usize = HEAD + RECORDS_IN;
 
 const LINK_COUNT_AT: usize = HEAD + LINKS_IN;
 
-const KINDS_AT: usize = HEAD + fields::REGISTER_LENGTH as usize;
+const KINDS_AT: usize = HEAD + REGISTER_LENGTH as usize;
 
 const FIRST_KIND_AT: usize = KINDS_AT + HEAD + KIND_IN;
 
@@ -59,8 +61,7 @@ const FROM_WEIGHT: u64 = LABEL_WEIGHT * LABELS;
 const KEYS: u64 = FROM_WEIGHT * fields::TWO_BYTES;
 
 // A link's field as one number, but for its key: tag and length above the bits of the key.
-const LINK_NUMBER: u64 = (fields::LINK_TAG as u64 * fields::TWO_BYTES + fields::LINK_LENGTH as u64)
-    * KEYS;
+const LINK_NUMBER: u64 = (fields::LINK_TAG as u64 * fields::TWO_BYTES + LINK_LENGTH as u64) * KEYS;
 
 // How far the reading has come: the numbers of records and links, of records whose kind is due, of links left, and the least key allowed next.
 #[derive(Clone, Copy)]
@@ -72,38 +73,16 @@ pub struct Progress {
     pub floor: u64,
 }
 
-#[derive(Clone, Copy)]
-pub enum Position {
-    Start,
-    Within(Progress),
-}
-
-#[derive(Clone, Copy)]
-pub enum Turn {
-    Go(Progress),
-    Stop(Refusal),
-}
-
-// The numbers of records and links; or the refusal.
-#[derive(Clone, Copy)]
-pub enum Outcome {
-    Accepted(usize, usize),
-    Refused(Refusal),
-}
-
-fn judge_head(at: usize, b: &[u8]) -> Turn
-    requires { length b.now ≡ tag_length 0x31 }
-    ensures { turn_said result ≡ head_of at b.now }
+fn judge_head(at: usize, b: &[u8]) -> Result<Progress, Refusal>
+    requires { length b.now ≡ REGISTER_LENGTH }
+    ensures { read_said (λ q. q) result ≡ head_of at b.now }
 {
     let records = fields::two(b, RECORDS_IN);
     let links = fields::two(b, LINKS_IN);
-    if MOST_RECORDS < records {
-        return Turn::Stop(Refusal::OutOfRange(at));
+    if MOST_RECORDS < records || MOST_LINKS < links {
+        return Err(Refusal::OutOfRange(at));
     }
-    if MOST_LINKS < links {
-        return Turn::Stop(Refusal::OutOfRange(at));
-    }
-    Turn::Go(Progress {
+    Ok(Progress {
         records,
         links,
         kindless: records,
@@ -112,100 +91,78 @@ fn judge_head(at: usize, b: &[u8]) -> Turn
     })
 }
 
-fn judge_kind(q: Progress, at: usize, b: &[u8]) -> Turn
-    requires { (length b.now ≡ tag_length 0x32) × (0 < q.kindless) }
-    ensures { turn_said result ≡ kind_of q at b.now }
+fn judge_kind(q: Progress, at: usize, b: &[u8]) -> Result<Progress, Refusal>
+    requires { (length b.now ≡ KIND_LENGTH) × (0 < q.kindless) }
+    ensures { read_said (λ q. q) result ≡ kind_of q at b.now }
 {
     if fields::KINDS <= b[KIND_IN] {
-        return Turn::Stop(Refusal::OutOfRange(at));
+        return Err(Refusal::OutOfRange(at));
     }
-    Turn::Go(Progress {
-        records: q.records,
-        links: q.links,
+    Ok(Progress {
         kindless: q.kindless - 1,
-        left: q.left,
-        floor: q.floor,
+        ..q
     })
 }
 
 // From, link and to as one number, by which links ascend.
 fn key_of(b: &[u8]) -> u64
-    requires { length b.now ≡ tag_length 0x33 }
+    requires { length b.now ≡ LINK_LENGTH }
     ensures { (result ≡ key b.now) × (result < 1099511627776) }
 {
-    (long(fields::two(b, FROM_IN)) * LABELS + wide(b[LABEL_IN])) * LABEL_WEIGHT
-        + long(fields::two(b, TO_IN))
+    u64::from_be_bytes([0, 0, 0, b[0], b[1], b[2], b[3], b[4]])
 }
 
-fn judge_link(q: Progress, at: usize, b: &[u8]) -> Turn
-    requires { (length b.now ≡ tag_length 0x33) × (0 < q.left) }
-    ensures { turn_said result ≡ link_of q at b.now }
+fn judge_link(q: Progress, at: usize, b: &[u8]) -> Result<Progress, Refusal>
+    requires { (length b.now ≡ LINK_LENGTH) × (0 < q.left) }
+    ensures { read_said (λ q. q) result ≡ link_of q at b.now }
 {
-    let records = q.records;
-    if records <= fields::two(b, FROM_IN) {
-        return Turn::Stop(Refusal::OutOfRange(at));
-    }
-    if fields::LINKS <= b[LABEL_IN] {
-        return Turn::Stop(Refusal::OutOfRange(at));
-    }
-    if records <= fields::two(b, TO_IN) {
-        return Turn::Stop(Refusal::OutOfRange(at));
+    let from = fields::two(b, FROM_IN);
+    let to = fields::two(b, TO_IN);
+    if q.records <= from || fields::LINKS <= b[LABEL_IN] || q.records <= to {
+        return Err(Refusal::OutOfRange(at));
     }
     let key = key_of(b);
     if key < q.floor {
-        return Turn::Stop(Refusal::NotAscending(at));
+        return Err(Refusal::NotAscending(at));
     }
-    Turn::Go(Progress {
-        records,
-        links: q.links,
-        kindless: q.kindless,
+    Ok(Progress {
         left: q.left - 1,
         floor: key + 1,
+        ..q
     })
 }
 
-fn judge_entry(q: Progress, at: usize, b: &[u8]) -> Turn
-    requires { BodyReady (Position.Within q) (length b.now) }
-    ensures { turn_said result ≡ entry_of q at b.now }
+fn judge_entry(q: Progress, at: usize, b: &[u8]) -> Result<Progress, Refusal>
+    requires { BodyReady (Standing.Within q) (length b.now) }
+    ensures { read_said (λ q. q) result ≡ entry_of q at b.now }
 {
     if q.kindless == 0 {
-        return judge_link(q, at, b);
+        judge_link(q, at, b)
+    } else {
+        judge_kind(q, at, b)
     }
-    judge_kind(q, at, b)
 }
 
-fn judge(st: Position, at: usize, b: &[u8]) -> Turn
+fn judge(st: Standing<Progress>, at: usize, b: &[u8]) -> Result<Progress, Refusal>
     requires { BodyReady st (length b.now) }
-    ensures { turn_said result ≡ advance st at b.now }
+    ensures { read_said (λ q. q) result ≡ advance st at b.now }
 {
     match st {
-        Position::Start => judge_head(at, b),
-        Position::Within(q) => judge_entry(q, at, b),
+        Standing::Head => judge_head(at, b),
+        Standing::Within(q) => judge_entry(q, at, b),
     }
 }
 
-fn due_at(st: Position) -> Due
+fn due_at(st: Standing<Progress>) -> Due
     ensures { result ≡ register_format.due st }
 {
     match st {
-        Position::Start => fields::rows_due(File::Register, fields::REGISTER_ROW, false, false),
-        Position::Within(q) => {
-            if q.kindless == 0 {
-                let full = q.left == 0;
-                return fields::rows_due(File::Register, fields::LINK_ROW, full, full);
-            }
-            fields::rows_due(File::Register, fields::KIND_ROW, false, false)
+        Standing::Head => fields::rows_due(File::Register, fields::REGISTER_ROW, false, false),
+        Standing::Within(q) if q.kindless == 0 => {
+            let full = q.left == 0;
+            fields::rows_due(File::Register, fields::LINK_ROW, full, full)
         }
-    }
-}
-
-// The outcome where the file ends.
-fn sizes(st: Position) -> Outcome
-    ensures { outcome_said result ≡ sizes_of st }
-{
-    match st {
-        Position::Start => Outcome::Accepted(0, 0),
-        Position::Within(q) => Outcome::Accepted(q.records as usize, q.links as usize),
+        Standing::Within(_) => fields::rows_due(File::Register, fields::KIND_ROW, false, false),
     }
 }
 
@@ -221,16 +178,10 @@ fn kind_lies(s: &[u8], at: usize, q: Progress) -> bool
     requires { at ≤ length s.now }
     ensures { result ≡ true → KindAt s.now q at }
 {
-    if q.kindless == 0 {
-        return false;
-    }
-    if s.len() - at < KIND_BYTES {
-        return false;
-    }
-    if s[at] != fields::KIND_TAG {
-        return false;
-    }
-    fields::two(s, at + 1) == fields::KIND_LENGTH
+    q.kindless != 0
+        && KIND_BYTES <= s.len() - at
+        && s[at] == fields::KIND_TAG
+        && fields::two(s, at + 1) == KIND_LENGTH
 }
 
 // The number in the bytes of a link's field, which are eight, at a place; or 0 where there are fewer.
@@ -248,19 +199,11 @@ fn number_at(s: &[u8], at: usize) -> u64
 fn link_passes(v: u64, left: u16, floor: u64, top: u64, records: u64) -> bool
     ensures { result ≡ true → Passes v left floor top records }
 {
-    if left == 0 {
-        return false;
-    }
-    if v < floor {
-        return false;
-    }
-    if top <= v {
-        return false;
-    }
-    if LINKS <= v / LABEL_WEIGHT % LABELS {
-        return false;
-    }
-    v % LABEL_WEIGHT < records
+    left != 0
+        && floor <= v
+        && v < top
+        && v / LABEL_WEIGHT % LABELS < LINKS
+        && v % LABEL_WEIGHT < records
 }
 
 // Passes over valid kinds in a quick loop of their own; whatever else lies there is left to the general loop.
@@ -271,15 +214,11 @@ fn past_kinds(s: &[u8], from: usize, start: Progress) -> Reached
     let mut at = from;
     let mut q = start;
     while kind_lies(s, at, q) {
-        match judge_kind(q, at, &s[at + HEAD..at + KIND_BYTES]) {
-            Turn::Stop(_) => {
-                return Reached { at, progress: q };
-            }
-            Turn::Go(next) => {
-                q = next;
-                at = at + KIND_BYTES;
-            }
-        }
+        let Ok(next) = judge_kind(q, at, &s[at + HEAD..at + KIND_BYTES]) else {
+            break;
+        };
+        q = next;
+        at += KIND_BYTES;
     }
     Reached { at, progress: q }
 }
@@ -291,38 +230,30 @@ fn past_links(s: &[u8], from: usize, start: Progress) -> Reached
     requires { from ≤ length s.now }
     ensures { Passed s.now start from result.progress result.at }
 {
-    if start.kindless != 0 {
+    if start.kindless != 0 || KEYS < start.floor {
         return Reached {
             at: from,
             progress: start,
         };
     }
-    if KEYS < start.floor {
-        return Reached {
-            at: from,
-            progress: start,
-        };
-    }
-    let records = long(start.records);
+    let records = u64::from(start.records);
     let top = LINK_NUMBER + records * FROM_WEIGHT;
     let mut at = from;
     let mut left = start.left;
     let mut floor = LINK_NUMBER + start.floor;
     let mut v = number_at(s, at);
     while link_passes(v, left, floor, top, records) {
-        at = at + LINK_BYTES;
-        left = left - 1;
+        at += LINK_BYTES;
+        left -= 1;
         floor = v + 1;
         v = number_at(s, at);
     }
     Reached {
         at,
         progress: Progress {
-            records: start.records,
-            links: start.links,
-            kindless: 0,
             left,
             floor: floor - LINK_NUMBER,
+            ..start
         },
     }
 }
@@ -335,87 +266,103 @@ fn past(s: &[u8], from: usize, start: Progress) -> Reached
     past_links(s, r.at, r.progress)
 }
 
-pub fn read(s: &[u8]) -> Outcome
-    ensures { outcome_said result ≡ sized (read register_form s.now) }
+// A register whose file is accepted, where it lies, and its numbers of records and links.
+#[derive(Clone, Copy)]
+pub struct Register<'a> {
+    pub file: &'a [u8],
+    pub records: usize,
+    pub links: usize,
+    ghost accepted: { Accepted file.now },
+    ghost counted: { records ≡ length (register_in file.now).kinds },
+    ghost linked: { links ≡ length (register_in file.now).links },
+}
+
+pub fn read(s: &[u8]) -> Result<Register<'_>, Refusal>
+    ensures said { read_said (λ r. sizes r.records r.links) result ≡ sized (read register_form s.now) }
+    ensures file { IfOk result (λ r. r.file.now ≡ s.now) }
 {
-    let mut st = Position::Start;
+    let mut st = Standing::Head;
     let mut at = 0;
-    loop {
-        match field_reader::field(s, at, due_at(st)) {
-            Seen::Ends => {
-                return sizes(st);
-            }
-            Seen::Wrong(r) => {
-                return Outcome::Refused(r);
-            }
-            Seen::Body(_, len) => match judge(st, at, field_reader::body_at(s, at)) {
-                Turn::Stop(r) => {
-                    return Outcome::Refused(r);
-                }
-                Turn::Go(q) => {
-                    let r = past(s, at + HEAD + len as usize, q);
-                    let reached = r.progress;
-                    st = Position::Within(reached);
-                    at = r.at;
-                }
-            },
+    while let Some(f) = fields::field(s, at, due_at(st))? {
+        let r = past(s, f.next, judge(st, f.at, f.body)?);
+        st = Standing::Within(r.progress);
+        at = r.at;
+    }
+    // No file ends before its head.
+    let Standing::Within(q) = st else {
+        unreachable!();
+    };
+    Ok(Register {
+        file: s,
+        records: usize::from(q.records),
+        links: usize::from(q.links),
+    })
+}
+
+// A link of a register, from a record to a record.
+#[derive(Clone, Copy, PartialEq, Eq)]
+pub struct Edge {
+    pub from: usize,
+    pub link: Link,
+    pub to: usize,
+}
+
+// The links still to come of an accepted file: the place of the next one, or the file's end where none is left, and their number.
+#[derive(Drop)]
+pub struct Links<'a> {
+    file: &'a [u8],
+    at: usize,
+    left: usize,
+}
+
+impl<'a> Model for Links<'a> {
+    ghost Value = { Edges };
+
+    ghost view = { λ c. to_come c.file.now c.left };
+
+    ghost invariant = { λ c. OnLinks c.file.now c.at c.left };
+}
+
+impl<'a> Register<'a> {
+    // The kind of record i.
+    pub fn kind_at(&self, i: usize) -> Kind
+        requires { i < self.now.records }
+        ensures { result.0 ≡ kind (register_in self.now.file.now) i }
+    {
+        Kind(self.file[FIRST_KIND_AT + KIND_BYTES * i])
+    }
+
+    // Its links, in their order.
+    pub fn links(&self) -> Links<'a>
+        ensures { result ≡ (register_in self.now.file.now).links }
+    {
+        Links {
+            file: self.file,
+            at: KINDS_AT + KIND_BYTES * self.records,
+            left: self.links,
         }
     }
 }
 
-// The kind of record i of the register in a file.
-pub fn kind_at(s: &[u8], i: usize) -> Kind
-    requires { i < records (register_in s.now) }
-    ensures { result.0 ≡ kind (register_in s.now) i }
-{
-    Kind(s[FIRST_KIND_AT + KIND_BYTES * i])
-}
+impl Iterator for Links<'_> {
+    type Item = Edge;
 
-// The links still to come of an accepted file: the place of the next one, or the file's end where none is left, and their number.
-#[derive(Clone, Copy)]
-pub struct Links {
-    pub at: usize,
-    pub left: usize,
-}
+    ghost next_gives = { YieldsFirstBy edge_said (λ es. es) };
 
-// No link is left; or the next one (from record, link, to record) and those after it.
-#[derive(Clone, Copy)]
-pub enum NextLink {
-    Done,
-    Link(usize, Link, usize, Links),
-}
+    ghost remaining = { item_count (λ es. es) };
 
-pub fn links_of(s: &[u8]) -> Links
-    requires { Accepted s.now }
-    ensures { result ≡ cursor_at s.now (length (register_in s.now).links) }
-{
-    let records = fields::two(s, RECORD_COUNT_AT) as usize;
-    let left = fields::two(s, LINK_COUNT_AT) as usize;
-    Links {
-        at: KINDS_AT + KIND_BYTES * records,
-        left,
+    fn next(&mut self) -> Option<Edge> {
+        if self.left == 0 {
+            return None;
+        }
+        let body = self.at + HEAD;
+        let e = Edge {
+            from: usize::from(fields::two(self.file, body + FROM_IN)),
+            link: Link(self.file[body + LABEL_IN]),
+            to: usize::from(fields::two(self.file, body + TO_IN)),
+        };
+        self.at += LINK_BYTES;
+        self.left -= 1;
+        Some(e)
     }
-}
-
-pub fn next_link(s: &[u8], c: Links) -> NextLink
-    requires { OnLinks s.now c }
-    ensures { result ≡ handed s.now (to_come s.now c) }
-{
-    if c.left == 0 {
-        return NextLink::Done;
-    }
-    let at = c.at;
-    let body = at + HEAD;
-    let from = fields::two(s, body) as usize;
-    let label = Link(s[body + LABEL_IN]);
-    let to = fields::two(s, body + TO_IN) as usize;
-    NextLink::Link(
-        from,
-        label,
-        to,
-        Links {
-            at: at + LINK_BYTES,
-            left: c.left - 1,
-        },
-    )
 }

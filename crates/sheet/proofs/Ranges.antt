@@ -17,8 +17,8 @@ use Rattle.fields.proofs.Bools.{cond_then, not_got, onward_got, got_same, got_bo
 use Rattle.fields.proofs.Fields.{ended}
 use Rattle.fields.proofs.Accepted.{accepted_ind, taken}
 use Rattle.sheet.specs.declared.Triples.{Triples}
-use Rattle.sheet.specs.declared.Standing.{Standing}
-use Rattle.sheet.specs.declared.Standing.TheVariants.{Head, Within}
+use Rattle.field_reader.specs.declared.Standing.{Standing}
+use Rattle.field_reader.specs.declared.Standing.TheVariants.{Head, Within}
 use Rattle.sheet.specs.Form.{due, fresh, head_of, key, edge_of, next, value, sheet_format, sheet_form}
 
 every_more : (f : Edge → Bool) (es : List Edge) (e : Edge) → T (every? f es) → T (f e) → T (every? f (es ++ (e ∷ [])))
@@ -70,16 +70,16 @@ sheet_more q es b q' t n =
     rw (n.kinds, n.links) g
 
 -- ---- to the end
-abbrev Ahead : Standing × List Edge → ℕ → Sheet → Type 0
+abbrev Ahead : Standing Triples × List Edge → ℕ → Sheet → Type 0
 Ahead (Head, es) at S = es ≡ [] → T (sheet? S)
 Ahead (Within q, es) at S = T (sheet? (so_far q es)) → T (sheet? S)
 
 module _ (s : List ℕ) where
-  at_end : (st : Standing × List Edge) (at : ℕ) → field_at (sheet_form.due st) s at ≡ ends → Ahead st at (sheet_form.value st)
+  at_end : (st : Standing Triples × List Edge) (at : ℕ) → field_at (sheet_form.due st) s at ≡ ends → Ahead st at (sheet_form.value st)
   at_end (Head, es) at e = absurd (false≢true (ended (due Head) s at e).may)
   at_end (Within q, es) at e = λ t. t
 
-  at_body : (st : Standing × List Edge) (at t n : ℕ) (st' : Standing × List Edge) (S : Sheet) → field_at (sheet_form.due st) s at ≡ body t n
+  at_body : (st : Standing Triples × List Edge) (at t n : ℕ) (st' : Standing Triples × List Edge) (S : Sheet) → field_at (sheet_form.due st) s at ≡ body t n
       → sheet_form.judge st at (at + 3 + n) t (take n (drop (at + 3) s)) ≡ got st' → Ahead st' (at + 3 + n) S → Ahead st at S
   at_body (Head, es) at t n st' S e j ih = λ z.
       let b = take n (drop (at + 3) s) in
@@ -87,16 +87,16 @@ module _ (s : List ℕ) where
       let (q, h, w) = onward_got (λ q. got (Within q, none)) (head_of at b) _ r.judged in
       let v = got_both w in
       let k : collected es none ≡ got st'.1 = ap (collected es) v.1 ∙ r.kept in
-      let u : ◌≡◌ {A = Standing × List Edge} (Within q, []) st' = λ i. (v.0 i, (sym z ∙ got_same k) i) in
-      subst (λ (x : Standing × List Edge). Ahead x (at + 3 + n) S) (sym u) ih (head_got at b q h).0
+      let u : ◌≡◌ {A = Standing Triples × List Edge} (Within q, []) st' = λ i. (v.0 i, (sym z ∙ got_same k) i) in
+      subst (λ (x : Standing Triples × List Edge). Ahead x (at + 3 + n) S) (sym u) ih (head_got at b q h).0
   at_body (Within q, es) at t n st' S e j ih = λ u.
       let b = take n (drop (at + 3) s) in
       let r = taken sheet_format (Within q) es at (at + 3 + n) t b st' j in
       let (q', h, w) = onward_got (λ q'. got (Within q', some (edge_of b))) (next q at b) _ r.judged in
       let v = got_both w in
       let k : collected es (some (edge_of b)) ≡ got st'.1 = ap (collected es) v.1 ∙ r.kept in
-      let x : ◌≡◌ {A = Standing × List Edge} (Within q', es ++ (edge_of b ∷ [])) st' = λ i. (v.0 i, got_same k i) in
-      subst (λ (x : Standing × List Edge). Ahead x (at + 3 + n) S) (sym x) ih (sheet_more q es b q' u (next_got q at b q' h))
+      let x : ◌≡◌ {A = Standing Triples × List Edge} (Within q', es ++ (edge_of b ∷ [])) st' = λ i. (v.0 i, got_same k i) in
+      subst (λ (x : Standing Triples × List Edge). Ahead x (at + 3 + n) S) (sym x) ih (sheet_more q es b q' u (next_got q at b q' h))
 
 pub accepted_sheet : (s : List ℕ) (S : Sheet) → read sheet_form s ≡ got S → T (sheet? S)
 unfolding read

@@ -10,12 +10,12 @@ use Rattle.fields.specs.declared.Due.{Due}
 use Rattle.theory.specs.Result.{Result, got, refused, onward}
 use Rattle.fields.specs.Reading.{tags_due, Form, Format, collected, form}
 use Rattle.sheet.specs.declared.Triples.{Triples}
-use Rattle.sheet.specs.declared.Standing.{Standing}
-use Rattle.sheet.specs.declared.Standing.TheVariants.{Head, Within}
+use Rattle.field_reader.specs.declared.Standing.{Standing}
+use Rattle.field_reader.specs.declared.Standing.TheVariants.{Head, Within}
 
 -- the head is due; or triples are. `Triples` has the numbers of kinds, of links, of triples so far, and `floor`, the least key that is
 -- above the triple before
-abbrev pub due : Standing → Due
+abbrev pub due : Standing Triples → Due
 due Head = tags_due file.Sheet (0x11 ∷ []) false false
 due (Within q) = tags_due file.Sheet (0x12 ∷ []) true (eqb q.count 512)
 
@@ -46,18 +46,18 @@ next q at b =
     (refused 3 at)
 
 -- a triple is handed over
-abbrev pub judge : Standing → ℕ → List ℕ → Result (Standing × Option Edge)
+abbrev pub judge : Standing Triples → ℕ → List ℕ → Result (Standing Triples × Option Edge)
 judge Head at b = onward (λ q. got (Within q, none)) (head_of at b)
 judge (Within q) at b = onward (λ q'. got (Within q', some (edge_of b))) (next q at b)
 
 -- a file never ends at its head
-abbrev pub value : Standing → List Edge → Sheet
+abbrev pub value : Standing Triples → List Edge → Sheet
 value Head es = record { kinds = 0; link_names = 0; permitted = [] }
 value (Within q) es = record { kinds = q.kinds; link_names = q.links; permitted = es }
 
 abbrev pub sheet_format : Format
 sheet_format = record {
-  Control = Standing;
+  Control = Standing Triples;
   Item = Option Edge;
   Kept = List Edge;
   Value = Sheet;

@@ -4,14 +4,14 @@ use Rattle.fields.specs.Table.{rows, rows_of}
 use borrow.Author.Tests.{eq-eqb, ne_eqb}
 use Rattle.register.proofs.due_at.Goals as goal
 
-pub returns-then-q-eq0 : goal.returns-then-q-eq0
+pub returns-in-Head : goal.returns-in-Head
 unfolding rows_of rows
-returns-then-q-eq0 c = simp (← c.rows_due-then-q-eq0.ensures, eq-eqb _ _ c.if-q-eq0.true, c.in-Within.is)
+returns-in-Head c = simp (← c.rows_due.ensures, c.in-Head.is)
 
-pub returns-in-Start : goal.returns-in-Start
+pub returns-in-Within : goal.returns-in-Within
 unfolding rows_of rows
-returns-in-Start c = simp (← c.rows_due.ensures, c.in-Start.is)
+returns-in-Within c = simp (← c.rows_due-in-Within.ensures, eq-eqb _ _ c.if-q-eq0.true, c.in-Within.is)
 
-pub returns-else-q-eq0 : goal.returns-else-q-eq0
+pub returns-in-Within-2 : goal.returns-in-Within-2
 unfolding rows_of rows
-returns-else-q-eq0 c = simp (← c.rows_due-in-Within.ensures, ne_eqb _ _ c.if-q-eq0.false, c.in-Within.is)
+returns-in-Within-2 c = simp (← c.rows_due-in-Within-2.ensures, ne_eqb _ _ c.if-q-eq0.false, c.in-Within.is)

@@ -1,35 +1,14 @@
 -- `register::judge_link` meets its contract: the tests, of from, link and to and of the key against the floor, are the definition's, in its order.
 -- Assumes nothing.
-use Rattle.fields.specs.Table.{rows, tag_length}
-use borrow.Author.Tests.{lt-ltb, lt-leb, le-ltb, le-leb}
-use borrow.Author.Rules.{rules}
+use borrow.Author.Tests.{lt-ltb, lt-leb, le-leb}
+use native.Mathlib.Omega.{arith}
+use Rattle.std.proofs.lemmas.Bool.Decides.{nat_tests}
 use Rattle.register.specs.Form.{link_of}
 use Rattle.register.proofs.judge_link.Goals as goal
 
-pub two-requires : goal.two-requires
-unfolding tag_length rows
-two-requires c = search rules
-
-pub returns-then-records-two : goal.returns-then-records-two
+pub returns-then-q-from : goal.returns-then-q-from
 unfolding link_of
-returns-then-records-two c = simp (le-ltb _ _ c.if-records-two.true, ← c.two.ensures)
-
-pub bounds-b-2 : goal.bounds-b-2
-unfolding tag_length rows
-bounds-b-2 c = search rules
-
-pub returns-then-b-ge-LINKS : goal.returns-then-b-ge-LINKS
-unfolding link_of
-returns-then-b-ge-LINKS c = simp (le-ltb _ _ c.if-b-ge-LINKS.true, lt-ltb _ _ c.if-records-two.false, ← c.two.ensures)
-
-pub two-requires-2 : goal.two-requires-2
-unfolding tag_length rows
-two-requires-2 c = search rules
-
-pub returns-then-records-two-2 : goal.returns-then-records-two-2
-unfolding link_of
-returns-then-records-two-2 c =
-    simp (le-ltb _ _ c.if-records-two-2.true, ← c.two-2.ensures, lt-ltb _ _ c.if-b-ge-LINKS.false, lt-ltb _ _ c.if-records-two.false, ← c.two.ensures)
+returns-then-q-from c = grind (arith, nat_tests)
 
 pub returns-then-key-q : goal.returns-then-key-q
 unfolding link_of
@@ -37,11 +16,11 @@ returns-then-key-q c =
     simp (
       lt-leb _ _ c.if-key-q.true,
       ← c.key_of-key.ensures.0,
-      lt-ltb _ _ c.if-records-two-2.false,
-      ← c.two-2.ensures,
+      lt-ltb _ _ c.if-q-to.false,
+      ← c.two-to.ensures,
       lt-ltb _ _ c.if-b-ge-LINKS.false,
-      lt-ltb _ _ c.if-records-two.false,
-      ← c.two.ensures,
+      lt-ltb _ _ c.if-q-from.false,
+      ← c.two-from.ensures,
     )
 
 pub returns : goal.returns
@@ -50,9 +29,9 @@ returns c =
     simp (
       le-leb _ _ c.if-key-q.false,
       ← c.key_of-key.ensures.0,
-      lt-ltb _ _ c.if-records-two-2.false,
-      ← c.two-2.ensures,
+      lt-ltb _ _ c.if-q-to.false,
+      ← c.two-to.ensures,
       lt-ltb _ _ c.if-b-ge-LINKS.false,
-      lt-ltb _ _ c.if-records-two.false,
-      ← c.two.ensures,
+      lt-ltb _ _ c.if-q-from.false,
+      ← c.two-from.ensures,
     )

@@ -1,7 +1,7 @@
 -- `register::past_kinds` meets its contract: each turn takes one more field that is a kind's, whole and judged to be in range.
 -- Assumes nothing.
 use Rattle.fields.specs.Table.{rows, tag_length}
-use Rattle.register.specs.Internal.{turn_said}
+use Rattle.fields.specs.Contract.{read_said}
 use mathlib.Core.Path.{◌∙◌, sym, ap}
 use lib.ListN.{length-take, length-drop}
 use Rattle.register.proofs.Passing.{kind_room, past_kind}
@@ -27,5 +27,5 @@ loop-q-smaller c = omega (arith, kind_room (c.kind_lies.ensures c.loop-q-test.tr
 pub loop-q-preserved : goal.loop-q-preserved
 loop-q-preserved c =
     let l = c.kind_lies.ensures c.loop-q-test.true in
-    let j = sym c.judge_kind.ensures ∙ ap turn_said c.in-Go.is in
+    let j = sym c.judge_kind.ensures ∙ ap (read_said (λ q. q)) c.in-Ok.is in
     (past_kind c.loop-q.invariant.0 _ l j, kind_room l)

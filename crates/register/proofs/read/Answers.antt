@@ -1,77 +1,71 @@
 -- `register::read` meets its contract: what is read so far is what the definition has read of it (`Reading`), and each field comes closer to the file's end.
 -- Assumes nothing.
+use Rattle.std.proofs.Common.{Ok}
+use Rattle.std.proofs.lemmas.Result.{err_from_is_err_and}
 use Rattle.register.proofs.Passing.{reading_passed, passed_on}
-use Rattle.register.proofs.Loop.{reading_start, reading_ends, reading_wrong, reading_room, reading_ready, reading_refused, reading_more}
-use Rattle.fields.proofs.Raws.{body_found}
-use Rattle.fields.proofs.Fields.{seen_at}
-use Rattle.register.specs.Form.{due, advance}
-use Rattle.register.specs.Internal.{turn_said}
-use Rattle.fields.specs.Reading.{body, field_at}
-use lib.ListN.{take, drop}
+use Rattle.register.proofs.Loop.{reading_start, ends_within, reading_ends, reading_accepted, reading_counted, reading_linked}
+use Rattle.register.proofs.Loop.{reading_wrong, reading_ready, reading_refused, reading_next}
+use Rattle.fields.proofs.Fields.{seen_at, Handed, handed}
+use Rattle.register.specs.Form.{due}
+use Rattle.register.specs.Contract.{sizes}
+use Rattle.fields.specs.Contract.{read_said}
+use Rattle.fields.specs.Reading.{ends, field_at}
+use Rattle.theory.specs.Result.{got}
 use mathlib.Core.Path.{◌≡◌, ◌∙◌, ap, sym}
-use Prim.Native.Nat.{◌+◌}
 use native.Mathlib.Omega.{arith}
-use Rattle.register.proofs.read.Goals.{After-body_at, After-judge, In-Body}
+use Rattle.register.proofs.read.Goals.{In-Some, In_default}
 use Rattle.register.proofs.read.Goals as goal
 
--- where a body is at hand: the field that the definition finds there
-at_body : (c : In-Body) →
-    let l = c.loop-r in
-    field_at (due l.st) c.args.s.now l.at ≡ body c.in-Body.field-0 c.in-Body.len
-at_body c = seen_at _ _ c.due_at.ensures c.field.ensures c.in-Body.is
+-- where a field is at hand, and where none is left
+at_field : (c : In-Some) → let l = c.loop-f in Handed (due l.st) c.args.s.now l.at c.in-Some.f
+at_field c = handed _ _ c.due_at.ensures c.field.ensures.said c.field.ensures.part (c.in_ok-f.was ∙ ap Ok c.in-Some.is)
 
--- the code's body is the definition's
-at_part : (c : After-body_at) →
-    c.body_at.result.now ≡ take c.in-Body.len
-    (drop (c.loop-r.at + 3) c.args.s.now)
-at_part c = c.body_at.ensures ∙ body_found _ _ _ _ _ (seen_at _ _ c.due_at.ensures c.field.ensures c.in-Body.is)
+at_end : (c : In_default) → let l = c.loop-f in field_at (due l.st) c.args.s.now l.at ≡ ends
+at_end c = seen_at _ _ c.due_at.ensures c.field.ensures.said (c.in_ok-f.was ∙ ap Ok c.in_default.is)
 
-is_judged : (c : After-judge) →
-    let l = c.loop-r in
-    advance l.st l.at (take c.in-Body.len (drop (l.at + 3) c.args.s.now))
-    ≡ turn_said c.judge.result
-is_judged c =
-    rw (← (c.body_at.ensures ∙ body_found _ _ _ _ _ (seen_at _ _ c.due_at.ensures c.field.ensures c.in-Body.is))) (sym c.judge.ensures)
+pub loop-f-init : goal.loop-f-init
+loop-f-init c = reading_start _
 
-pub loop-r-init : goal.loop-r-init
-loop-r-init c = reading_start _
-
-pub returns-in-Ends : goal.returns-in-Ends
-returns-in-Ends c =
-    c.sizes.ensures ∙ reading_ends _ _ _ c.loop-r.invariant
-    (seen_at _ _ c.due_at.ensures c.field.ensures c.in-Ends.is)
-
-pub returns-in-Wrong : goal.returns-in-Wrong
-returns-in-Wrong c =
-    reading_wrong _ _ _ c.loop-r.invariant _ _
-    (seen_at _ _ c.due_at.ensures c.field.ensures c.in-Wrong.is)
+pub returns-in_err-f-clause-said : goal.returns-in_err-f-clause-said
+returns-in_err-f-clause-said c =
+    let p = err_from_is_err_and c.from_residual.result c.from_residual.ensures.1 in
+    rw (p.1, p.2) (reading_wrong _ _ _ c.loop-f.invariant _ _ (seen_at _ _ c.due_at.ensures c.field.ensures.said c.in_err-f.was))
 
 pub judge-requires : goal.judge-requires
-judge-requires c = rw (at_part (goal.at.judge-requires c).After-body_at) (reading_ready _ _ _ c.loop-r.invariant _ _ (at_body (goal.at.judge-requires c).In-Body))
+judge-requires c = reading_ready _ _ _ c.loop-f.invariant (at_field (goal.at.judge-requires c).In-Some)
 
-pub returns-in-Stop : goal.returns-in-Stop
-returns-in-Stop c =
-    reading_refused _ _ _ c.loop-r.invariant _ _ (at_body (goal.at.returns-in-Stop c).In-Body) _ _ (is_judged (goal.at.returns-in-Stop c).After-judge ∙ ap turn_said c.in-Stop.is)
-
-pub overflow_add-at : goal.overflow_add-at
-overflow_add-at c =
-    let h = reading_room _ _ _ c.loop-r.invariant _ _ (at_body (goal.at.overflow_add-at c).In-Body) in
-    omega arith
-
-pub overflow_add-at-in-Go : goal.overflow_add-at-in-Go
-overflow_add-at-in-Go c =
-    let h = reading_room _ _ _ c.loop-r.invariant _ _ (at_body (goal.at.overflow_add-at-in-Go c).In-Body) in
-    omega arith
+pub returns-in_err-judge-clause-said : goal.returns-in_err-judge-clause-said
+returns-in_err-judge-clause-said c =
+    let p = err_from_is_err_and c.from_residual-in_err-judge.result c.from_residual-in_err-judge.ensures.1 in
+    let h = at_field (goal.at.returns-in_err-judge-clause-said c).In-Some in
+    rw (p.1, p.2) (reading_refused _ _ _ c.loop-f.invariant h _ _ (sym c.judge.ensures ∙ ap (read_said (λ q. q)) c.in_err-judge.was))
 
 pub past-r-requires : goal.past-r-requires
-past-r-requires c = reading_room _ _ _ c.loop-r.invariant _ _ (at_body (goal.at.past-r-requires c).In-Body)
+past-r-requires c = (at_field (goal.at.past-r-requires c).In-Some).room
 
-pub loop-r-smaller : goal.loop-r-smaller
-loop-r-smaller c =
-    let h = reading_room _ _ _ c.loop-r.invariant _ _ (at_body (goal.at.loop-r-smaller c).In-Body) in
-    omega (arith, (passed_on _ _ c.past-r.ensures h).0)
+pub loop-f-smaller : goal.loop-f-smaller
+loop-f-smaller c =
+    let h = at_field (goal.at.loop-f-smaller c).In-Some in
+    omega (arith, h.next, h.room, (passed_on _ _ c.past-r.ensures h.room).0)
 
-pub loop-r-preserved : goal.loop-r-preserved
-loop-r-preserved c =
-    reading_passed _ _ c.past-r.ensures (reading_more _ _ _ c.loop-r.invariant _ _ (at_body (goal.at.loop-r-preserved c).In-Body) _
-    (is_judged (goal.at.loop-r-preserved c).After-judge ∙ ap turn_said c.in-Go.is))
+pub loop-f-preserved : goal.loop-f-preserved
+loop-f-preserved c =
+    let h = at_field (goal.at.loop-f-preserved c).In-Some in
+    reading_passed _ _ c.past-r.ensures (reading_next _ _ _ c.loop-f.invariant h _ (sym c.judge.ensures ∙ ap (read_said (λ q. q)) c.in_ok-judge.was))
+
+pub unreachable-requires : goal.unreachable-requires
+unreachable-requires c = ends_within _ _ _ c.loop-f.invariant (at_end (goal.at.unreachable-requires c).In_default) c.in_default-st.is
+
+pub invariant_of-result : goal.invariant_of-result
+invariant_of-result c =
+    let e = at_end (goal.at.invariant_of-result c).In_default in
+    let r = c.loop-f.invariant in
+    record {
+      accepted = reading_accepted _ _ _ r _ c.in-Within.is e;
+      counted = c.from.ensures ∙ reading_counted _ _ _ r _ c.in-Within.is e;
+      linked = c.from-2.ensures ∙ reading_linked _ _ _ r _ c.in-Within.is e;
+    }
+
+pub returns-clause-said : goal.returns-clause-said
+returns-clause-said c =
+    (λ i. got (sizes (c.from.ensures i) (c.from-2.ensures i))) ∙ reading_ends _ _ _ c.loop-f.invariant _ c.in-Within.is (at_end (goal.at.returns-clause-said c).In_default)

@@ -4,54 +4,36 @@ use Rattle.fields.specs.Table.{rows, tag_length}
 use borrow.Author.Tests.{lt-ltb, lt-leb, le-ltb, le-leb}
 use borrow.Author.Rules.{rules}
 use Rattle.sheet.specs.Form.{next}
+use Rattle.sheet.proofs.grow.Goals.{then-q-from-via-then-q-from, then-q-from-via-else-q-from+then-q-link, then-q-from-via-else-q-from+else-q-link+then-q-to}
 use Rattle.sheet.proofs.grow.Goals as goal
 
-pub bounds-b-0 : goal.bounds-b-0
+pub bounds-f-0 : goal.bounds-f-0
 unfolding tag_length rows
-bounds-b-0 c = search rules
+bounds-f-0 c = search rules
 
-pub returns-then-q-b : goal.returns-then-q-b
+pub bounds-f-1 : goal.bounds-f-1
+unfolding tag_length rows
+bounds-f-1 c = search rules
+
+pub bounds-f-2 : goal.bounds-f-2
+unfolding tag_length rows
+bounds-f-2 c = search rules
+
+pub returns-then-q-from : goal.returns-then-q-from
 unfolding next
-returns-then-q-b c = simp (le-ltb _ _ c.if-q-b.true)
-
-pub bounds-b-1 : goal.bounds-b-1
-unfolding tag_length rows
-bounds-b-1 c = search rules
-
-pub returns-then-q-b-2 : goal.returns-then-q-b-2
-unfolding next
-returns-then-q-b-2 c = simp (le-ltb _ _ c.if-q-b-2.true, lt-ltb _ _ c.if-q-b.false)
-
-pub bounds-b-2 : goal.bounds-b-2
-unfolding tag_length rows
-bounds-b-2 c = search rules
-
-pub returns-then-q-b-3 : goal.returns-then-q-b-3
-unfolding next
-returns-then-q-b-3 c = simp (le-ltb _ _ c.if-q-b-3.true, lt-ltb _ _ c.if-q-b-2.false, lt-ltb _ _ c.if-q-b.false)
-
-pub key_of-key-requires : goal.key_of-key-requires
-unfolding tag_length rows
-key_of-key-requires c = search rules
+returns-then-q-from c =
+    elim c.then-q-from.branch [
+      | then-q-from-via-then-q-from w ↦ simp (le-ltb _ _ w.if-q-from.true)
+      | then-q-from-via-else-q-from+then-q-link w ↦ simp (lt-ltb _ _ w.if-q-from.false, le-ltb _ _ w.if-q-link.true)
+      | then-q-from-via-else-q-from+else-q-link+then-q-to w ↦ simp (lt-ltb _ _ w.if-q-from.false, lt-ltb _ _ w.if-q-link.false, le-ltb _ _ w.if-q-to.true)
+    ]
 
 pub returns-then-key-q : goal.returns-then-key-q
 unfolding next
 returns-then-key-q c =
-    simp (lt-leb _ _ c.if-key-q.true, ← c.key_of-key.ensures.0, lt-ltb _ _ c.if-q-b-3.false, lt-ltb _ _ c.if-q-b-2.false, lt-ltb _ _ c.if-q-b.false)
-
-pub bounds-b-0-2 : goal.bounds-b-0-2
-unfolding tag_length rows
-bounds-b-0-2 c = search rules
-
-pub bounds-b-1-2 : goal.bounds-b-1-2
-unfolding tag_length rows
-bounds-b-1-2 c = search rules
-
-pub bounds-b-2-2 : goal.bounds-b-2-2
-unfolding tag_length rows
-bounds-b-2-2 c = search rules
+    simp (lt-ltb _ _ c.if-q-from.false, lt-ltb _ _ c.if-q-link.false, lt-ltb _ _ c.if-q-to.false, ← c.from.ensures, ← c.from-2.ensures, ← c.from-3.ensures, lt-leb _ _ c.if-key-q.true)
 
 pub returns : goal.returns
 unfolding next
 returns c =
-    simp (le-leb _ _ c.if-key-q.false, ← c.key_of-key.ensures.0, lt-ltb _ _ c.if-q-b-3.false, lt-ltb _ _ c.if-q-b-2.false, lt-ltb _ _ c.if-q-b.false)
+    simp (lt-ltb _ _ c.if-q-from.false, lt-ltb _ _ c.if-q-link.false, lt-ltb _ _ c.if-q-to.false, ← c.from.ensures, ← c.from-2.ensures, ← c.from-3.ensures, le-leb _ _ c.if-key-q.false)

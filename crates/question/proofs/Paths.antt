@@ -27,8 +27,8 @@ use Rattle.fields.proofs.Accepted.{accepted_ind, taken}
 use Rattle.symbols.proofs.Symbols.{symbol_plain, push_got, push_anywhere}
 use Rattle.symbols.proofs.Numbers.{Held, symbol_comes, code_number, length_postfix}
 use Rattle.symbols.proofs.Counting.{runs_read}
-use Rattle.question.specs.declared.Standing.{Standing}
-use Rattle.question.specs.declared.Standing.TheVariants.{Head, Within}
+use Rattle.field_reader.specs.declared.Standing.{Standing}
+use Rattle.field_reader.specs.declared.Standing.TheVariants.{Head, Within}
 use Rattle.question.specs.Form.{question_format, question_form, due, head_of, fresh, one_more, question_symbols}
 use Rattle.question.specs.Writing.{numbered_codes}
 
@@ -42,8 +42,8 @@ head_got at b n e =
     let few = leb-true (get_or b 0 0) 32 (and_right (leb 1 (get_or b 0 0)) _ k.0) in
     (z, omega arith, omega arith)
 
-module _ (cs : List ℕ) (at next t : ℕ) (b : List ℕ) (st : Standing × List ℕ) where
-  pub head_taken : question_form.judge (Head, cs) at next t b ≡ got st → (n : ℕ) × (head_of at b ≡ got n) × (◌≡◌ {A = Standing × List ℕ} (Within (fresh n), cs) st)
+module _ (cs : List ℕ) (at next t : ℕ) (b : List ℕ) (st : Standing Stack × List ℕ) where
+  pub head_taken : question_form.judge (Head, cs) at next t b ≡ got st → (n : ℕ) × (head_of at b ≡ got n) × (◌≡◌ {A = Standing Stack × List ℕ} (Within (fresh n), cs) st)
   head_taken j =
       let r = taken question_format Head cs at next t b st j in
       let (n, h, w) = onward_got (λ n. got (Within (fresh n), none)) (head_of at b) _ r.judged in
@@ -53,7 +53,7 @@ module _ (cs : List ℕ) (at next t : ℕ) (b : List ℕ) (st : Standing × List
 
   pub symbol_taken : (q : Stack) → question_form.judge (Within q, cs) at next t b ≡ got st
       → (x : Numbered) × (q' : Stack) × (symbol_in at t b ≡ got x) × (push q at next (arity x.number) ≡ got q')
-      × (◌≡◌ {A = Standing × List ℕ} (Within q', cs ++ (x.number ∷ [])) st)
+      × (◌≡◌ {A = Standing Stack × List ℕ} (Within q', cs ++ (x.number ∷ [])) st)
   symbol_taken q j =
       let r = taken question_format (Within q) cs at next t b st j in
       let (x, hx, j') = onward_got (one_more q at next) (symbol_in at t b) _ r.judged in
@@ -75,35 +75,35 @@ Small [] = Unit {0}
 Small (c ∷ cs) = (c < 134) × Small cs
 
 -- what is to come, from a state on
-abbrev Ahead : Standing × List ℕ → ℕ → List ℕ → Type 0
+abbrev Ahead : Standing Stack × List ℕ → ℕ → List ℕ → Type 0
 Ahead (Head, cs) at v = cs ≡ [] → (1 ≤ length v) × (length v ≤ 32) × Runs (fresh (length v)) (numbered_codes v) × Small v
 Ahead (Within q, cs) at v = (ys : List ℕ) × (v ≡ cs ++ ys) × (length ys ≡ q.left) × Runs q (numbered_codes ys) × Small ys
 
 module _ (s : List ℕ) where
-  at_end : (st : Standing × List ℕ) (at : ℕ) → field_at (question_form.due st) s at ≡ ends → Ahead st at (question_form.value st)
+  at_end : (st : Standing Stack × List ℕ) (at : ℕ) → field_at (question_form.due st) s at ≡ ends → Ahead st at (question_form.value st)
   at_end (Head, cs) at e = absurd (false≢true (ended (due Head) s at e).may)
   at_end (Within q, cs) at e = let z = eqb-true q.left 0 (ended (due (Within q)) s at e).may in ([], sym (append-nil cs), sym z, z, tt)
 
-  body_head : (cs : List ℕ) (at t n : ℕ) (st' : Standing × List ℕ) (v : List ℕ) → question_form.judge (Head, cs) at (at + 3 + n) t (take n (drop (at + 3) s)) ≡ got st'
+  body_head : (cs : List ℕ) (at t n : ℕ) (st' : Standing Stack × List ℕ) (v : List ℕ) → question_form.judge (Head, cs) at (at + 3 + n) t (take n (drop (at + 3) s)) ≡ got st'
       → Ahead st' (at + 3 + n) v → Ahead (Head, cs) at v
   body_head cs at t n st' v j ih none_yet =
       let b = take n (drop (at + 3) s) in
       let (m, h, w) = head_taken cs at (at + 3 + n) t b st' j in
       let k = head_got at b m h in
-      let (ys, e, l, r, a) : Ahead (Within (fresh m), cs) (at + 3 + n) v = subst (λ (st : Standing × List ℕ). Ahead st (at + 3 + n) v) (sym w) ih in
+      let (ys, e, l, r, a) : Ahead (Within (fresh m), cs) (at + 3 + n) v = subst (λ (st : Standing Stack × List ℕ). Ahead st (at + 3 + n) v) (sym w) ih in
       let e' : v ≡ ys = e ∙ ap (λ (l : List ℕ). l ++ ys) none_yet in
       let c : length v ≡ m = ap length e' ∙ l in
       let runs = subst (λ (i : ℕ). Runs (fresh i) (numbered_codes ys)) (sym l) r in
       (omega (arith, k.1), omega (arith, k.2), subst (λ (u : List ℕ). Runs (fresh (length u)) (numbered_codes u)) (sym e') runs, subst Small (sym e') a)
 
-  body_within : (q : Stack) (cs : List ℕ) (at t n : ℕ) (st' : Standing × List ℕ) (v : List ℕ) → field_at (due (Within q)) s at ≡ body t n
+  body_within : (q : Stack) (cs : List ℕ) (at t n : ℕ) (st' : Standing Stack × List ℕ) (v : List ℕ) → field_at (due (Within q)) s at ≡ body t n
       → question_form.judge (Within q, cs) at (at + 3 + n) t (take n (drop (at + 3) s)) ≡ got st' → Ahead st' (at + 3 + n) v → Ahead (Within q, cs) at v
   body_within q cs at t n st' v e j ih =
       let b = take n (drop (at + 3) s) in
       let f = in_path file.Question q s at t n e in
       let h = no_through q s at t n (found (due (Within q)) s at t n e) in
       let (x, q', hx, hq, w) = symbol_taken cs at (at + 3 + n) t b st' q j in
-      let (ys, d, l, r, a) : Ahead (Within q', cs ++ (x.number ∷ [])) (at + 3 + n) v = subst (λ (st : Standing × List ℕ). Ahead st (at + 3 + n) v) (sym w) ih in
+      let (ys, d, l, r, a) : Ahead (Within q', cs ++ (x.number ∷ [])) (at + 3 + n) v = subst (λ (st : Standing Stack × List ℕ). Ahead st (at + 3 + n) v) (sym w) ih in
       let plain = symbol_plain at t b x f.low (omega (arith, f.high)) hx in
       let g = push_got q at (at + 3 + n) (arity x.number) q' hq in (
         x.number ∷ ys,
@@ -113,7 +113,7 @@ module _ (s : List ℕ) where
         (plain.0, a),
       )
 
-  at_body : (st : Standing × List ℕ) (at t n : ℕ) (st' : Standing × List ℕ) (v : List ℕ) → field_at (question_form.due st) s at ≡ body t n
+  at_body : (st : Standing Stack × List ℕ) (at t n : ℕ) (st' : Standing Stack × List ℕ) (v : List ℕ) → field_at (question_form.due st) s at ≡ body t n
       → question_form.judge st at (at + 3 + n) t (take n (drop (at + 3) s)) ≡ got st' → Ahead st' (at + 3 + n) v → Ahead st at v
   at_body (Head, cs) at t n st' v e j ih = body_head cs at t n st' v j ih
   at_body (Within q, cs) at t n st' v e j ih = body_within q cs at t n st' v e j ih

@@ -24,8 +24,8 @@ use Rattle.symbols.specs.Writing.{symbol_bytes, symbols_bytes}
 use Rattle.fields.proofs.Bytes.{bytes_take, bytes_drop, listed}
 use Rattle.fields.proofs.Lies.{field_split}
 use Rattle.symbols.proofs.Bytes.{symbol_split}
-use Rattle.question.specs.declared.Standing.{Standing}
-use Rattle.question.specs.declared.Standing.TheVariants.{Head, Within}
+use Rattle.field_reader.specs.declared.Standing.{Standing}
+use Rattle.field_reader.specs.declared.Standing.TheVariants.{Head, Within}
 use Rattle.question.specs.Form.{question_form, due}
 use Rattle.question.proofs.Paths.{head_got, head_taken, symbol_taken, Known, accepted_question}
 use Rattle.question.specs.Writing.{numbered_codes, question_bytes}
@@ -37,17 +37,17 @@ set_less x (inr (e, h)) l = absurd (omega arith)
 
 module _ (s : List ℕ) (bytes : Bytes s) where
   -- what is to come, from a state on: its bytes
-  abbrev Ahead : Standing × List ℕ → ℕ → List ℕ → Type 0
+  abbrev Ahead : Standing Stack × List ℕ → ℕ → List ℕ → Type 0
   Ahead (Head, cs) at v = cs ≡ [] → Known v → drop at s ≡ question_bytes v
   Ahead (Within q, cs) at v = Known v → (ys : List ℕ) × (v ≡ cs ++ ys) × (length ys ≡ q.left) × (drop at s ≡ symbols_bytes (numbered_codes ys))
 
-  at_end : (st : Standing × List ℕ) (at : ℕ) → field_at (question_form.due st) s at ≡ ends → Ahead st at (question_form.value st)
+  at_end : (st : Standing Stack × List ℕ) (at : ℕ) → field_at (question_form.due st) s at ≡ ends → Ahead st at (question_form.value st)
   at_end (Head, cs) at e = absurd (false≢true (ended (due Head) s at e).may)
   at_end (Within q, cs) at e = λ known.
       let r = ended (due (Within q)) s at e in
       ([], sym (append-nil cs), sym (eqb-true q.left 0 r.may), drop_of_length-le s r.past)
 
-  body_head : (cs : List ℕ) (at t n : ℕ) (st' : Standing × List ℕ) (v : List ℕ) → field_at (due Head) s at ≡ body t n
+  body_head : (cs : List ℕ) (at t n : ℕ) (st' : Standing Stack × List ℕ) (v : List ℕ) → field_at (due Head) s at ≡ body t n
       → question_form.judge (Head, cs) at (at + 3 + n) t (take n (drop (at + 3) s)) ≡ got st' → Ahead st' (at + 3 + n) v → Ahead (Head, cs) at v
   unfolding due_rows rows_of rows question_bytes
   body_head cs at t n st' v e j ih none_yet known =
@@ -55,7 +55,7 @@ module _ (s : List ℕ) (bytes : Bytes s) where
       let f = found (due Head) s at t n e in
       let o = (found_one file.Question (0x21 ∷ []) false false f).1 in
       let (m, h, w) = head_taken cs at (at + 3 + n) t b st' j in
-      let (ys, c, l, r) = subst (λ (st : Standing × List ℕ). Ahead st (at + 3 + n) v) (sym w) ih known in
+      let (ys, c, l, r) = subst (λ (st : Standing Stack × List ℕ). Ahead st (at + 3 + n) v) (sym w) ih known in
       let c' : v ≡ ys = c ∙ ap (λ (l : List ℕ). l ++ ys) none_yet in
       let i : get_or b 0 0 ≡ length v = (head_got at b m h).0 ∙ sym l ∙ ap length (sym c') in
       let u : b ≡ length v ∷ [] = listed 1 b (body_length f ∙ o.1) ∙ ap (λ (x : ℕ). x ∷ []) i in
@@ -64,13 +64,13 @@ module _ (s : List ℕ) (bytes : Bytes s) where
       ∙ ap (λ (x : List ℕ). field_bytes 0x21 x ++ drop (at + 3 + n) s) u
       ∙ ap (λ (x : List ℕ). field_bytes 0x21 (length v ∷ []) ++ x) (r ∙ ap (λ (x : List ℕ). symbols_bytes (numbered_codes x)) (sym c'))
 
-  body_within : (q : Stack) (cs : List ℕ) (at t n : ℕ) (st' : Standing × List ℕ) (v : List ℕ) → field_at (due (Within q)) s at ≡ body t n
+  body_within : (q : Stack) (cs : List ℕ) (at t n : ℕ) (st' : Standing Stack × List ℕ) (v : List ℕ) → field_at (due (Within q)) s at ≡ body t n
       → question_form.judge (Within q, cs) at (at + 3 + n) t (take n (drop (at + 3) s)) ≡ got st' → Ahead st' (at + 3 + n) v → Ahead (Within q, cs) at v
   body_within q cs at t n st' v e j ih known =
       let b = take n (drop (at + 3) s) in
       let f = in_path file.Question q s at t n e in
       let (x, q', hx, hq, w) = symbol_taken cs at (at + 3 + n) t b st' q j in
-      let (ys, d, l, r) = subst (λ (st : Standing × List ℕ). Ahead st (at + 3 + n) v) (sym w) ih known in
+      let (ys, d, l, r) = subst (λ (st : Standing Stack × List ℕ). Ahead st (at + 3 + n) v) (sym w) ih known in
       let d' = d ∙ append_assoc cs (x.number ∷ []) ys in
       let c = x.number in
       let here = ap (λ (l : List ℕ). get_or l (length cs) 0) d' ∙ get_or-append_seam cs c ys 0 in
@@ -85,7 +85,7 @@ module _ (s : List ℕ) (bytes : Bytes s) where
             ∙ ap (λ (y : List ℕ). symbol_bytes (numbered c 0) ++ y) r,
       )
 
-  at_body : (st : Standing × List ℕ) (at t n : ℕ) (st' : Standing × List ℕ) (v : List ℕ) → field_at (question_form.due st) s at ≡ body t n
+  at_body : (st : Standing Stack × List ℕ) (at t n : ℕ) (st' : Standing Stack × List ℕ) (v : List ℕ) → field_at (question_form.due st) s at ≡ body t n
       → question_form.judge st at (at + 3 + n) t (take n (drop (at + 3) s)) ≡ got st' → Ahead st' (at + 3 + n) v → Ahead st at v
   at_body (Head, cs) at t n st' v e j ih = body_head cs at t n st' v e j ih
   at_body (Within q, cs) at t n st' v e j ih = body_within q cs at t n st' v e j ih

@@ -30,8 +30,8 @@ use Rattle.symbols.proofs.Symbols.{push_got, push_anywhere}
 use Rattle.symbols.proofs.Numbers.{symbol_comes, held_postfix, numbered_symbols, length_codes}
 use Rattle.symbols.proofs.Bytes.{symbol_short, symbol_reads}
 use Rattle.symbols.proofs.Counting.{read_runs}
-use Rattle.question.specs.declared.Standing.{Standing}
-use Rattle.question.specs.declared.Standing.TheVariants.{Head, Within}
+use Rattle.field_reader.specs.declared.Standing.{Standing}
+use Rattle.field_reader.specs.declared.Standing.TheVariants.{Head, Within}
 use Rattle.question.specs.Form.{question_form, due, head_of, fresh, question_symbols}
 use Rattle.question.specs.Writing.{numbered_codes, question_bytes}
 use Rattle.question.proofs.Paths.{Small, Asked, AllAsked, symbols_are}
@@ -95,7 +95,7 @@ module _ (s : List ℕ) (A : Result (List ℕ)) where
       let q' = u.1.0 in
       let hq = (push_got q 0 0 (arity y) q' u.1.1).0 in
       let f = field_lies (due_symbols file.Question q) s at t b (symbols_bytes (numbered_codes ys)) e (symbol_short x) (code_fits q y (omega arith) small.0) in
-      let st : Standing × List ℕ = (Within q', cs ++ (y ∷ [])) in
+      let st : Standing Stack × List ℕ = (Within q', cs ++ (y ∷ [])) in
       let j : question_form.judge (Within q, cs) at (at + 3 + n) t (take n (drop (at + 3) s)) ≡ got st =
       rw (f.inner, symbol_reads at x u.0, push_anywhere q 0 0 at (at + 3 + n) (arity y) q' u.1.1) in
       symbols_forth ys q' (cs ++ (y ∷ [])) (at + 3 + n) (going_more question_form s A (Within q, cs) at g t n f.seen st j) f.after u.1.2 small.1 (omega arith)

@@ -9,12 +9,12 @@ use Rattle.fields.specs.declared.Due.{Due}
 use Rattle.symbols.specs.declared.Stack.{Stack}
 use Rattle.theory.specs.Result.{Result, got, refused, onward}
 use Rattle.fields.specs.Reading.{tags_due, Form, Format, collected, form}
-use Rattle.question.specs.declared.Standing.{Standing}
-use Rattle.question.specs.declared.Standing.TheVariants.{Head, Within}
+use Rattle.field_reader.specs.declared.Standing.{Standing}
+use Rattle.field_reader.specs.declared.Standing.TheVariants.{Head, Within}
 use Rattle.symbols.specs.Symbols.{Numbered, symbol_numbered, symbol_in, arity, push, due_symbols}
 
 -- the head is due; or the symbols of a path are
-abbrev pub due : Standing → Due
+abbrev pub due : Standing Stack → Due
 due Head = tags_due file.Question (0x21 ∷ []) false false
 due (Within q) = due_symbols file.Question q
 
@@ -27,17 +27,17 @@ abbrev pub fresh : ℕ → Stack
 fresh n = record { left = n; depth = 0 }
 
 -- a symbol, handed over by its number
-abbrev pub one_more : Stack → ℕ → ℕ → Numbered → Result (Standing × Option ℕ)
+abbrev pub one_more : Stack → ℕ → ℕ → Numbered → Result (Standing Stack × Option ℕ)
 one_more q at next x = onward (λ q'. got (Within q', some x.number)) (push q at next (arity x.number))
 
-abbrev pub judge : Standing → ℕ → ℕ → ℕ → List ℕ → Result (Standing × Option ℕ)
+abbrev pub judge : Standing Stack → ℕ → ℕ → ℕ → List ℕ → Result (Standing Stack × Option ℕ)
 judge Head at next t b = onward (λ n. got (Within (fresh n), none)) (head_of at b)
 judge (Within q) at next t b = onward (one_more q at next) (symbol_in at t b)
 
 -- the codes of the symbols
 abbrev pub question_format : Format
 question_format = record {
-  Control = Standing;
+  Control = Standing Stack;
   Item = Option ℕ;
   Kept = List ℕ;
   Value = List ℕ;

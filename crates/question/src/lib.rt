@@ -1,53 +1,29 @@
 // Reads a question's file: the codes of its symbols, by value.
 #![tactic(auto)]
 
-ghost use Rattle.std.specs.Prelude.{◌≡◌, length, replicate};
+ghost use Rattle.std.specs.Prelude.{◌≡◌, length};
 ghost use Rattle.fields.specs.Table.{tag_length};
 ghost use Rattle.fields.specs.Reading.{read as read_file};
+ghost use Rattle.fields.specs.Contract.{read_said};
+ghost use Rattle.field_reader.specs.declared.Standing.TheVariants as standing;
 ghost use Rattle.question.specs.Form.{question_format, question_form};
 ghost use Rattle.question.specs.Contract.{ReadsQuestion};
-ghost use Rattle.question.specs.Internal.{BodyReady, turn_said};
+ghost use Rattle.question.specs.Internal.{BodyReady, begun, grown, turned};
 
-use fields::{Due, File, Refusal, Seen};
-use symbols::{Pushed, Read, Stack};
+mod codes;
 
-// The most symbols that a question has: as its head's number, and as a length.
-const MOST: u8 = 32;
-
-pub const MOST_SYMBOLS: usize = MOST as usize;
+use codes::MOST;
+pub use codes::{MOST_SYMBOLS, Question};
+use field_reader::{Reader, Standing};
+use fields::{Due, File, Found, Refusal};
+use symbols::Stack;
 
 // The place in the body of 21: the number of symbols.
 const SYMBOLS_IN: usize = 0;
 
-// The number of symbols, or why the file is refused.
-#[derive(Clone, Copy)]
-pub enum Outcome {
-    Accepted(usize),
-    Refused(Refusal),
-}
-
-// The outcome, and the codes with 0 after them (all 0 where the file is refused).
-#[derive(Clone, Copy)]
-pub struct Question {
-    pub outcome: Outcome,
-    pub codes: [u8; MOST_SYMBOLS],
-}
-
-// Where the reading stands: at the head, or within the path.
-#[derive(Clone, Copy)]
-pub enum Standing {
-    Head,
-    Within(Stack),
-}
-
-#[derive(Clone, Copy)]
-pub enum Turn {
-    Stop(Refusal),
-    Go(Stack),
-    More(u8, Stack),
-}
-
-fn due(st: Standing) -> Due
+// What is due: the head, or within the path what its stack says.
+#[tactic(auto, unfolding(fields::specs::Table::rows_of, fields::specs::Table::rows))]
+fn due(st: Standing<Stack>) -> Due
     ensures { result ≡ question_format.due st }
 {
     match st {
@@ -57,91 +33,56 @@ fn due(st: Standing) -> Due
 }
 
 // 21: the number of symbols; refusal 3.
-fn head(at: usize, b: &[u8]) -> Turn
-    requires { length b.now ≡ tag_length 0x21 }
-    ensures { turn_said result ≡ question_format.judge Standing.Head at 0 0 b.now }
+#[tactic(auto, unfolding(crate::specs::Form::head_of, fields::specs::Table::tag_length, fields::specs::Table::rows))]
+fn head(f: Found<'_>) -> Result<Stack, Refusal>
+    requires { length f.body.now ≡ tag_length 0x21 }
+    ensures { read_said begun result ≡ question_format.judge standing.Head f.entry.at f.entry.next f.entry.tag f.entry.body.now }
 {
-    let n = b[SYMBOLS_IN];
-    if n < 1 {
-        return Turn::Stop(Refusal::OutOfRange(at));
+    match f.body[SYMBOLS_IN] {
+        left @ 1..=MOST => Ok(Stack { left, depth: 0 }),
+        _ => Err(Refusal::OutOfRange(f.at)),
     }
-    if MOST < n {
-        return Turn::Stop(Refusal::OutOfRange(at));
-    }
-    let q = Stack { left: n, depth: 0 };
-    Turn::Go(q)
 }
 
 // 43 or 44: a symbol; refusals 3 and 6.
-fn grow(q: Stack, at: usize, next: usize, tag: u8, b: &[u8]) -> Turn
-    requires { BodyReady (Standing.Within q) tag (length b.now) }
-    ensures { turn_said result ≡ question_format.judge (Standing.Within q) at next tag b.now }
+fn grow(q: Stack, f: Found<'_>) -> Result<(u8, Stack), Refusal>
+    requires { BodyReady (standing.Within q) f.tag (length f.body.now) }
+    ensures { read_said grown result ≡ question_format.judge (standing.Within q) f.entry.at f.entry.next f.entry.tag f.entry.body.now }
 {
-    match symbols::symbol_in(at, tag, b) {
-        Read::Refused(r) => Turn::Stop(r),
-        Read::Is(x) => {
-            let c = x.number;
-            match symbols::push_symbol(q, at, next, symbols::operands(c)) {
-                Pushed::Refused(r) => Turn::Stop(r),
-                Pushed::Stands(t) => Turn::More(c, t),
-            }
-        }
-    }
+    let x = symbols::symbol_in(f.at, f.tag, f.body)?;
+    let left = q.push(f.at, f.next, symbols::operands(x.number))?;
+    Ok((x.number, left))
 }
 
-fn judge(st: Standing, at: usize, next: usize, tag: u8, b: &[u8]) -> Turn
-    requires { BodyReady st tag (length b.now) }
-    ensures { turn_said result ≡ question_format.judge st at next tag b.now }
+// What a field leads to: the code of its symbol, none at the head, and what is left of the path.
+fn judge(st: Standing<Stack>, f: Found<'_>) -> Result<(Option<u8>, Stack), Refusal>
+    requires { BodyReady st f.tag (length f.body.now) }
+    ensures { read_said turned result ≡ question_format.judge st f.entry.at f.entry.next f.entry.tag f.entry.body.now }
 {
     match st {
-        Standing::Head => head(at, b),
-        Standing::Within(q) => grow(q, at, next, tag, b),
+        Standing::Head => Ok((None, head(f)?)),
+        Standing::Within(q) => {
+            let (code, left) = grow(q, f)?;
+            Ok((Some(code), left))
+        }
     }
-}
-
-fn refused(r: Refusal) -> Question
-    ensures { (result.outcome ≡ Outcome.Refused r) × (result.codes ≡ replicate 32 0) }
-{
-    let outcome = Outcome::Refused(r);
-    let codes = [0u8; MOST_SYMBOLS];
-    Question { outcome, codes }
 }
 
 // Reads a question's file.
-pub fn read(s: &[u8]) -> Question
-    ensures { ReadsQuestion (read_file question_form s.now) result.outcome result.codes }
+pub fn read(s: &[u8]) -> Result<Question, Refusal>
+    ensures { ReadsQuestion (read_file question_form s.now) result }
 {
     let mut codes = [0u8; MOST_SYMBOLS];
-    let mut st = Standing::Head;
-    let mut at = 0;
     let mut count = 0;
-    loop {
-        match field_reader::field(s, at, due(st)) {
-            Seen::Ends => {
-                let outcome = Outcome::Accepted(count);
-                return Question { outcome, codes };
-            }
-            Seen::Wrong(r) => {
-                return refused(r);
-            }
-            Seen::Body(tag, len) => {
-                let next = at + fields::HEAD + len as usize;
-                match judge(st, at, next, tag, field_reader::body_at(s, at)) {
-                    Turn::Stop(r) => {
-                        return refused(r);
-                    }
-                    Turn::Go(q) => {
-                        st = Standing::Within(q);
-                        at = next;
-                    }
-                    Turn::More(c, q) => {
-                        codes[count] = c;
-                        count += 1;
-                        st = Standing::Within(q);
-                        at = next;
-                    }
-                }
-            }
+    let mut st = Standing::Head;
+    let mut reader = Reader::new(s);
+    while let Some(f) = reader.next(due(st))? {
+        let (code, left) = judge(st, f)?;
+        if let Some(c) = code {
+            codes[count] = c;
+            count += 1;
         }
+        st = Standing::Within(left);
     }
+    Ok(Question { count, codes })
 }

@@ -101,9 +101,6 @@ pub reverse_number : (c m : ℕ) → 64 ≤ c → c < 128 → symbol_numbered c 
 unfolding symbol_numbered
 reverse_number c m l h = simp (le-ltb c 64 l, lt-ltb c 128 h)
 
-above : {c k : ℕ} → k ≤ c → ¬ (c ≡ k) → suc k ≤ c
-above l n = omega arith
-
 from_133 : {c : ℕ} → 133 ≤ c → 5 ≤ c - 128
 from_133 h = omega arith
 
@@ -118,30 +115,6 @@ module _ (c m : ℕ) (l : 128 ≤ c) where
   pub through_number : c ≡ 255 → symbol_numbered c m ≡ s_join (through m)
   unfolding symbol_numbered
   through_number e = simp (le-ltb c 64 (omega arith), le-ltb c 128 l, eq-eqb c 255 e)
-
-  pub join_number : c ≡ 128 → symbol_numbered c m ≡ s_join any
-  unfolding symbol_numbered
-  join_number e = rw e
-
-  pub union_number : c ≡ 129 → symbol_numbered c m ≡ s_op union
-  unfolding symbol_numbered
-  union_number e = rw e
-
-  pub conjunction_number : c ≡ 130 → symbol_numbered c m ≡ s_op conjunction
-  unfolding symbol_numbered
-  conjunction_number e = rw e
-
-  pub right_number : c ≡ 131 → symbol_numbered c m ≡ s_op branch_right
-  unfolding symbol_numbered
-  right_number e = rw e
-
-  pub left_number : c ≡ 132 → symbol_numbered c m ≡ s_op branch_left
-  unfolding symbol_numbered
-  left_number e = rw e
-
-  -- all that is left
-  pub closure_number : ¬ (c ≡ 128) → ¬ (c ≡ 129) → ¬ (c ≡ 130) → ¬ (c ≡ 131) → ¬ (c ≡ 132) → ¬ (c ≡ 255) → symbol_numbered c m ≡ s_closure
-  closure_number j u o r b t = operator_number t ∙ last_operator (c - 128) (from_133 (above (above (above (above (above l j) u) o) r) b))
 
 pub code_number : (c : ℕ) → c < 134 → code (symbol_numbered c 0) ≡ c
 code_number c h =

@@ -1,9 +1,13 @@
 -- What the code's enums say, in the words of theory and in the numbers of SPECIFICATION.
 -- Assumes nothing.
-use Rattle.std.specs.Prelude.{◌<◌}
+use Rattle.std.specs.Prelude.{◌≡◌, ◌<◌, ℕ, MatchResult}
+use Rattle.std.specs.Prelude as std
+use Rattle.fields.specs.declared.Refusal.{Refusal}
+use Rattle.symbols.specs.declared.NoDirection.{NoDirection}
+use Rattle.symbols.specs.Writing.{direction_number}
 use Rattle.theory.specs.PathExpr.{Direction, forward, reverse, named, Via, any, through, Op, union, conjunction, branch_right, branch_left, Symbol, s_step, s_join, s_op, s_closure}
-use Rattle.theory.specs.Result.{Result, got}
-use Rattle.fields.specs.Contract.{refusal_said}
+use Rattle.theory.specs.Result.{Result}
+use Rattle.fields.specs.Contract.{read_said}
 use Rattle.symbols.specs.declared.Direction as declared·Direction
 use Rattle.symbols.specs.declared.Direction.TheVariants as direction
 use Rattle.symbols.specs.declared.Via as declared·Via
@@ -12,16 +16,16 @@ use Rattle.symbols.specs.declared.Operator as declared·Operator
 use Rattle.symbols.specs.declared.Operator.TheVariants as operator
 use Rattle.symbols.specs.declared.Symbol as declared·Symbol
 use Rattle.symbols.specs.declared.Symbol.TheVariants as symbol
-use Rattle.symbols.specs.declared.Read as declared·Read
-use Rattle.symbols.specs.declared.Read.TheVariants as read
-use Rattle.symbols.specs.declared.Pushed as declared·Pushed
-use Rattle.symbols.specs.declared.Pushed.TheVariants as pushed
 use Rattle.symbols.specs.declared.Stack.{Stack}
-use Rattle.symbols.specs.Symbols.{Numbered}
+use Rattle.symbols.specs.declared.Numbered.{Numbered}
 
 abbrev pub direction_said : declared·Direction.Direction → Direction
 direction_said direction.Forward = forward
 direction_said direction.Reverse = reverse
+
+-- the direction of a number, or none has it
+abbrev pub DirectionOf : ℕ → std.Result declared·Direction.Direction NoDirection → Type 0
+DirectionOf n r = MatchResult r (λ d. direction_number (direction_said d) ≡ n) (λ e. 1 < n)
 
 abbrev pub via_said : declared·Via.Via → Via
 via_said via.Any = any
@@ -46,10 +50,9 @@ LinkFits (symbol.Join v) = Unit {0}
 LinkFits (symbol.Op o) = Unit {0}
 LinkFits symbol.Closure = Unit {0}
 
-abbrev pub read_said : declared·Read.Read → Result Numbered
-read_said (read.Refused r) = refusal_said r
-read_said (read.Is x) = got x
+-- what reading a symbol gives, and a push
+abbrev pub numbered_said : std.Result Numbered Refusal → Result Numbered
+numbered_said a = read_said (λ x. x) a
 
-abbrev pub push_said : declared·Pushed.Pushed → Result Stack
-push_said (pushed.Refused r) = refusal_said r
-push_said (pushed.Stands q) = got q
+abbrev pub push_said : std.Result Stack Refusal → Result Stack
+push_said a = read_said (λ q. q) a

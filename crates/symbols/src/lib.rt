@@ -7,57 +7,91 @@ ghost use Rattle.symbols.specs.Symbols.{symbol_numbered, number_symbol, numbered
 ghost use Rattle.symbols.specs.Symbols.{symbol_length, direction_numbered, step_of, operator_of, symbol_in, push, due_symbols};
 ghost use Rattle.theory.specs.PathExpr.{named, s_join, step_code, op_code};
 ghost use Rattle.symbols.specs.Writing.{direction_number};
-ghost use Rattle.symbols.specs.Contract.{direction_said, via_said, operator_said, symbol_said, LinkFits, read_said, push_said};
+ghost use Rattle.symbols.specs.Contract.{direction_said, DirectionOf, via_said, operator_said, symbol_said, LinkFits, numbered_said, push_said};
 
-use fields::{Due, File, Link, Refusal};
+use fields::{Due, File, LINKS, Link, Refusal};
 
 // Forward and reverse.
 const DIRECTIONS: u8 = 2;
 
 // Numbers below this one are steps: forward ones, and then reverse ones.
-const STEPS: u8 = DIRECTIONS * fields::LINKS;
+const STEPS: u8 = DIRECTIONS * LINKS;
 
 // The codes of operators by name.
 pub const JOIN: u8 = STEPS;
 
-pub const UNION: u8 = 129;
+pub const UNION: u8 = Operator::Union as u8;
 
-pub const CONJUNCTION: u8 = 130;
+pub const CONJUNCTION: u8 = Operator::Conjunction as u8;
 
-pub const BRANCH_RIGHT: u8 = 131;
+pub const BRANCH_RIGHT: u8 = Operator::BranchRight as u8;
 
-pub const BRANCH_LEFT: u8 = 132;
+pub const BRANCH_LEFT: u8 = Operator::BranchLeft as u8;
 
 pub const CLOSURE: u8 = 133;
 
 // The number of a join through a set.
 pub const THROUGH: u8 = 255;
 
-// Along a link, or against it.
-#[derive(Clone, Copy)]
+// Along a link, or against it: the numbers are those in a step's field.
+#[derive(Clone, Copy, PartialEq, Eq)]
 pub enum Direction {
-    Forward,
-    Reverse,
+    Forward = 0,
+    Reverse = 1,
+}
+
+impl From<Direction> for u8 {
+    ghost from_gives = { λ direction number. number ≡ direction_number (direction_said direction) };
+
+    fn from(direction: Direction) -> u8 {
+        direction as u8
+    }
+}
+
+// A number that is no direction's.
+#[derive(Clone, Copy, PartialEq, Eq)]
+pub struct NoDirection;
+
+impl TryFrom<u8> for Direction {
+    type Error = NoDirection;
+
+    ghost try_from_gives = { DirectionOf };
+
+    fn try_from(number: u8) -> Result<Direction, NoDirection> {
+        match number {
+            0 => Ok(Direction::Forward),
+            1 => Ok(Direction::Reverse),
+            _ => Err(NoDirection),
+        }
+    }
 }
 
 // What a join passes through: any record (a plain join), or those whose kind is in a set.
-#[derive(Clone, Copy)]
+#[derive(Clone, Copy, PartialEq, Eq)]
 pub enum Via {
     Any,
     Through(u64),
 }
 
-// The other operators of two operands.
-#[derive(Clone, Copy)]
+// The other operators of two operands: the numbers are their codes.
+#[derive(Clone, Copy, PartialEq, Eq)]
 pub enum Operator {
-    Union,
-    Conjunction,
-    BranchRight,
-    BranchLeft,
+    Union = 129,
+    Conjunction = 130,
+    BranchRight = 131,
+    BranchLeft = 132,
+}
+
+impl From<Operator> for u8 {
+    ghost from_gives = { λ o number. number ≡ op_code (operator_said o) };
+
+    fn from(o: Operator) -> u8 {
+        o as u8
+    }
 }
 
 // A symbol.
-#[derive(Clone, Copy)]
+#[derive(Clone, Copy, PartialEq, Eq)]
 pub enum Symbol {
     Step(Direction, Link),
     Join(Via),
@@ -66,23 +100,20 @@ pub enum Symbol {
 }
 
 // A symbol as arrays have it: its code, and 255 for a join through a set; and the set, 0 where there is none.
-#[derive(Clone, Copy)]
+#[derive(Clone, Copy, PartialEq, Eq)]
 pub struct Numbered {
     pub number: u8,
     pub set: u64,
 }
 
 // The symbol of a number and a set. A number that is no symbol's counts as a closure.
+#[tactic(auto, unfolding(crate::specs::Symbols::symbol_numbered))]
 pub fn decode(number: u8, set: u64) -> Symbol
     ensures { symbol_said result ≡ symbol_numbered number set }
 {
-    if number < fields::LINKS {
-        return Symbol::Step(Direction::Forward, Link(number));
-    }
-    if number < STEPS {
-        return Symbol::Step(Direction::Reverse, Link(number - fields::LINKS));
-    }
     match number {
+        0..LINKS => Symbol::Step(Direction::Forward, Link(number)),
+        LINKS..STEPS => Symbol::Step(Direction::Reverse, Link(number - LINKS)),
         JOIN => Symbol::Join(Via::Any),
         UNION => Symbol::Op(Operator::Union),
         CONJUNCTION => Symbol::Op(Operator::Conjunction),
@@ -100,19 +131,7 @@ fn step_number(direction: Direction, link: Link) -> u8
 {
     match direction {
         Direction::Forward => link.0,
-        Direction::Reverse => fields::LINKS + link.0,
-    }
-}
-
-// The number of an operator.
-pub fn operator_number(o: Operator) -> u8
-    ensures { result ≡ op_code (operator_said o) }
-{
-    match o {
-        Operator::Union => UNION,
-        Operator::Conjunction => CONJUNCTION,
-        Operator::BranchRight => BRANCH_RIGHT,
-        Operator::BranchLeft => BRANCH_LEFT,
+        Direction::Reverse => LINKS + link.0,
     }
 }
 
@@ -144,7 +163,7 @@ pub fn encode(x: Symbol) -> Numbered
     match x {
         Symbol::Step(direction, link) => plain(step_number(direction, link)),
         Symbol::Join(via) => join_number(via),
-        Symbol::Op(o) => plain(operator_number(o)),
+        Symbol::Op(o) => plain(u8::from(o)),
         Symbol::Closure => plain(CLOSURE),
     }
 }
@@ -158,100 +177,75 @@ const CODE_IN: usize = 0;
 
 const SET_IN: usize = 0;
 
-#[derive(Clone, Copy)]
-pub enum Read {
-    Refused(Refusal),
-    Is(Numbered),
-}
-
-// A direction as a step's field has it.
-pub fn direction_number(direction: Direction) -> u8
-    ensures { result ≡ direction_number (direction_said direction) }
-{
-    match direction {
-        Direction::Forward => 0,
-        Direction::Reverse => 1,
-    }
-}
-
-// And back: 0 forward, any other number reverse.
-fn direction_in(b: u8) -> Direction
-    ensures { direction_said result ≡ direction_numbered b }
-{
-    if b == 0 {
-        return Direction::Forward;
-    }
-    Direction::Reverse
-}
-
-fn step_in(at: usize, b: &[u8]) -> Read
+// A step: refusal 3 where there is no such direction or link.
+#[tactic(auto, unfolding(crate::specs::Symbols::step_of, fields::specs::Table::tag_length, fields::specs::Table::rows))]
+fn step_in(at: usize, b: &[u8]) -> Result<Numbered, Refusal>
     requires { length b.now ≡ tag_length 0x43 }
-    ensures { read_said result ≡ step_of at b.now }
+    ensures { numbered_said result ≡ step_of at b.now }
 {
-    if b[DIRECTION_IN] < DIRECTIONS {
-        if b[LINK_IN] < fields::LINKS {
-            let step = Symbol::Step(direction_in(b[DIRECTION_IN]), Link(b[LINK_IN]));
-            return Read::Is(encode(step));
+    match Direction::try_from(b[DIRECTION_IN]) {
+        Ok(direction) if b[LINK_IN] < LINKS => {
+            Ok(encode(Symbol::Step(direction, Link(b[LINK_IN]))))
         }
-        return Read::Refused(Refusal::OutOfRange(at));
+        _ => Err(Refusal::OutOfRange(at)),
     }
-    Read::Refused(Refusal::OutOfRange(at))
 }
 
-fn operator_in(at: usize, b: &[u8]) -> Read
+// An operator's code, that of the plain join and of the closure among them; all else is refusal 3.
+#[tactic(auto, unfolding(crate::specs::Symbols::operator_of, fields::specs::Table::tag_length, fields::specs::Table::rows))]
+fn operator_in(at: usize, b: &[u8]) -> Result<Numbered, Refusal>
     requires { length b.now ≡ tag_length 0x44 }
-    ensures { read_said result ≡ operator_of at b.now }
+    ensures { numbered_said result ≡ operator_of at b.now }
 {
-    if JOIN <= b[CODE_IN] {
-        if b[CODE_IN] <= CLOSURE {
-            return Read::Is(plain(b[CODE_IN]));
-        }
-        return Read::Refused(Refusal::OutOfRange(at));
+    match b[CODE_IN] {
+        code @ JOIN..=CLOSURE => Ok(plain(code)),
+        _ => Err(Refusal::OutOfRange(at)),
     }
-    Read::Refused(Refusal::OutOfRange(at))
 }
 
 // The symbol in a field's body, by its tag; refusal 3.
-pub fn symbol_in(at: usize, tag: u8, b: &[u8]) -> Read
+#[tactic(auto, unfolding(crate::specs::Symbols::symbol_in, fields::specs::Table::tag_length, fields::specs::Table::rows))]
+pub fn symbol_in(at: usize, tag: u8, b: &[u8]) -> Result<Numbered, Refusal>
     requires { length b.now ≡ symbol_length tag }
-    ensures { read_said result ≡ symbol_in at tag b.now }
+    ensures { numbered_said result ≡ symbol_in at tag b.now }
 {
-    if tag == fields::STEP_TAG {
-        return step_in(at, b);
-    }
-    if tag == fields::OPERATOR_TAG {
-        return operator_in(at, b);
-    }
-    Read::Is(join_number(Via::Through(fields::eight_at(b, SET_IN))))
-}
-
-// How many paths a symbol takes.
-pub fn operands_of(x: Symbol) -> u8
-    ensures { result ≡ operands (symbol_said x) }
-{
-    match x {
-        Symbol::Step(_, _) => 0,
-        Symbol::Join(_) => 2,
-        Symbol::Op(_) => 2,
-        Symbol::Closure => 1,
+    match tag {
+        fields::STEP_TAG => step_in(at, b),
+        fields::OPERATOR_TAG => operator_in(at, b),
+        _ => Ok(join_number(Via::Through(fields::eight_at(b, SET_IN)))),
     }
 }
 
-// The same by its number.
+impl Symbol {
+    // How many paths it takes.
+    pub fn operands(self) -> u8
+        ensures { result ≡ operands (symbol_said self) }
+    {
+        match self {
+            Symbol::Step(_, _) => 0,
+            Symbol::Join(_) | Symbol::Op(_) => 2,
+            Symbol::Closure => 1,
+        }
+    }
+}
+
+// How many paths the symbol of a number takes.
+#[tactic(auto, unfolding(crate::specs::Symbols::arity))]
 pub fn operands(number: u8) -> u8
     ensures { result ≡ arity number }
 {
-    operands_of(decode(number, 0))
+    decode(number, 0).operands()
 }
 
 // The code by which members are compared.
+#[tactic(auto, unfolding(crate::specs::Symbols::order_code))]
 pub fn order_code(number: u8) -> u8
     ensures { result ≡ order_code number }
 {
-    if number == THROUGH {
-        return JOIN;
+    match number {
+        THROUGH => JOIN,
+        _ => number,
     }
-    number
 }
 
 // Whether it is the number of a symbol: the one that the symbol has.
@@ -262,39 +256,35 @@ pub fn is_symbol(number: u8) -> bool
 }
 
 // A path being read: the symbols still due, and the paths that stand on the stack.
-#[derive(Clone, Copy)]
+#[derive(Clone, Copy, PartialEq, Eq)]
 pub struct Stack {
     pub left: u8,
     pub depth: u8,
 }
 
-#[derive(Clone, Copy)]
-pub enum Pushed {
-    Refused(Refusal),
-    Stands(Stack),
-}
-
-// Pushes one symbol, which takes k paths; its field lies from `at` to `next`: refusal 6.
-pub fn push_symbol(q: Stack, at: usize, next: usize, k: u8) -> Pushed
-    requires { (0 < q.left) × (q.depth < 255) }
-    ensures { push_said result ≡ push q at next k }
-{
-    if q.depth < k {
-        return Pushed::Refused(Refusal::Operands(at));
-    }
-    let depth = q.depth - k + 1;
-    if q.left == 1 {
-        if depth != 1 {
-            return Pushed::Refused(Refusal::Operands(next));
+impl Stack {
+    // Pushes one symbol, which takes k paths; its field lies from `at` to `next`: refusal 6.
+    #[tactic(auto, unfolding(crate::specs::Symbols::push))]
+    pub fn push(self, at: usize, next: usize, k: u8) -> Result<Stack, Refusal>
+        requires { (0 < self.left) × (self.depth < 255) }
+        ensures { push_said result ≡ push self at next k }
+    {
+        if self.depth < k {
+            return Err(Refusal::Operands(at));
         }
+        let depth = self.depth - k + 1;
+        if self.left == 1 && depth != 1 {
+            return Err(Refusal::Operands(next));
+        }
+        Ok(Stack {
+            left: self.left - 1,
+            depth,
+        })
     }
-    Pushed::Stands(Stack {
-        left: q.left - 1,
-        depth,
-    })
 }
 
 // What is due within a path: its symbols, and nothing after them.
+#[tactic(auto, unfolding(fields::specs::Table::rows_of, fields::specs::Table::rows))]
 pub fn symbols_due(file: File, q: Stack) -> Due
     ensures { result ≡ due_symbols file q }
 {

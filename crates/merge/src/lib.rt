@@ -47,6 +47,7 @@ fn place(
     requires { Placing question.now words.now order.old used i n t }
     ensures { Placed question.now words.now order.old order.new used i n t }
 {
+    // k is where t comes to stand, and so outlives the loop
     let mut k = i;
     while k + 1 < n && before(words, used, question, order[k + 1], t) {
         order[k] = order[k + 1];
@@ -130,6 +131,7 @@ pub fn run(
     let e = kinds(words, i);
     let mut from = e.from;
     let mut to = e.to;
+    // `next` is handed out, and so outlives the loop
     let mut next = k + 1;
     while next < n && take_in(words, used, question, order[next], codes, sets, size) {
         let f = kinds(words, order[next]);

@@ -34,11 +34,11 @@ returns-in_err-f-clause-said c =
 pub judge-requires : goal.judge-requires
 judge-requires c = reading_ready _ _ _ c.loop-f.invariant (at_field (goal.at.judge-requires c).In-Some)
 
-pub returns-in_err-judge-clause-said : goal.returns-in_err-judge-clause-said
-returns-in_err-judge-clause-said c =
-    let p = err_from_is_err_and c.from_residual-in_err-judge.result c.from_residual-in_err-judge.ensures.1 in
-    let h = at_field (goal.at.returns-in_err-judge-clause-said c).In-Some in
-    rw (p.1, p.2) (reading_refused _ _ _ c.loop-f.invariant h _ _ (sym c.judge.ensures ∙ ap (read_said (λ q. q)) c.in_err-judge.was))
+pub returns-in_err-progress-clause-said : goal.returns-in_err-progress-clause-said
+returns-in_err-progress-clause-said c =
+    let p = err_from_is_err_and c.from_residual-in_err-progress.result c.from_residual-in_err-progress.ensures.1 in
+    let h = at_field (goal.at.returns-in_err-progress-clause-said c).In-Some in
+    rw (p.1, p.2) (reading_refused _ _ _ c.loop-f.invariant h _ _ (sym c.judge.ensures ∙ ap (read_said (λ q. q)) c.in_err-progress.was))
 
 pub past-r-requires : goal.past-r-requires
 past-r-requires c = (at_field (goal.at.past-r-requires c).In-Some).room
@@ -51,7 +51,7 @@ loop-f-smaller c =
 pub loop-f-preserved : goal.loop-f-preserved
 loop-f-preserved c =
     let h = at_field (goal.at.loop-f-preserved c).In-Some in
-    reading_passed _ _ c.past-r.ensures (reading_next _ _ _ c.loop-f.invariant h _ (sym c.judge.ensures ∙ ap (read_said (λ q. q)) c.in_ok-judge.was))
+    reading_passed _ _ c.past-r.ensures (reading_next _ _ _ c.loop-f.invariant h _ (sym c.judge.ensures ∙ ap (read_said (λ q. q)) c.in_ok-progress.was))
 
 pub unreachable-requires : goal.unreachable-requires
 unreachable-requires c = ends_within _ _ _ c.loop-f.invariant (at_end (goal.at.unreachable-requires c).In_default) c.in_default-st.is

@@ -46,7 +46,7 @@ pub record Held (r : Register) (n w : ℕ) (held : List (Option ℕ)) (xs : List
 
 -- the same of a table's register
 abbrev pub HeldOn : KindTable → List (Option ℕ) → List ℕ → Type 0
-HeldOn t held xs = Held (register_on t.ground) t.ground.records t.ground.words held xs
+HeldOn t held xs = Held (register_on t.ground) t.ground.register.records t.ground.words held xs
 
 -- what is held stays so
 pub record StillHeld (held held' : List (Option ℕ)) : Type 0 where

@@ -10,11 +10,11 @@ use Rattle.chains.specs.Routed.{routed, Routed, Leads}
 
 -- there is such a route over the words xs
 abbrev pub RoutedOn : Ground → List ℕ → Route → Type 0
-RoutedOn g xs r = Routed xs r.bases r.masks g.records g.words r.links
+RoutedOn g xs r = Routed xs r.bases r.masks g.register.records g.words r.links
 
 -- its pairs are those of a path
 abbrev pub LeadsOn : Ground → List ℕ → Route → PathExpr → Type 0
-LeadsOn g xs r p = Leads (register_on g) xs r.bases r.masks g.records g.words r.links p
+LeadsOn g xs r p = Leads (register_on g) xs r.bases r.masks g.register.records g.words r.links p
 
 -- the pairs of a walk
 abbrev pub walked : Walk → ℕ → ℕ → Bool

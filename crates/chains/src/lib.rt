@@ -16,7 +16,7 @@ ghost use Rattle.chains.specs.Routed.{Routed, between, Gained};
 
 use evaluation::Symbols;
 use kind_rows::KindTable;
-use rows::{BITS, WIDEST};
+use rows::{BITS, Ones, WIDEST};
 use symbols::Symbol;
 
 // How many steps are held: as many relations as the work words have past those of a stack.
@@ -130,7 +130,7 @@ impl Route {
         requires { (28 * size table.now.ground ≤ length work.old) × HeldOn table.now held.old work.old × IsStep number × (j < 23) }
         ensures held { HeldOn table.now held.new work.new × StillHeld held.old held.new }
         ensures kept { Kept (24 * size table.now.ground) (28 * size table.now.ground) work.old work.new }
-        ensures laid { result ≡ true → LinkLaid table.now.ground.records table.now.ground.words table.now.rows.now number set j held.new
+        ensures laid { result ≡ true → LinkLaid table.now.ground.register.records table.now.ground.words table.now.rows.now number set j held.new
             self.old.bases self.new.bases self.old.masks self.new.masks }
     {
         let Some(k) = hold(work, table, held, number) else {
@@ -157,7 +157,7 @@ impl Route {
         requires chained { Chained symbols.now.numbers.now m × (2 * m < length symbols.now.numbers.now) × (m < 24) }
         ensures held { HeldOn table.now held.new work.new }
         ensures kept { Kept (24 * size table.now.ground) (28 * size table.now.ground) work.old work.new }
-        ensures laid { result ≡ true → Laid table.now.ground.records table.now.ground.words table.now.rows.now symbols.now.numbers.now symbols.now.sets.now m held.new
+        ensures laid { result ≡ true → Laid table.now.ground.register.records table.now.ground.words table.now.rows.now symbols.now.numbers.now symbols.now.sets.now m held.new
             self.new.bases self.new.masks }
     {
         let Some(k) = hold(work, table, held, symbols.numbers[0]) else {
@@ -274,13 +274,8 @@ impl Walk<'_> {
             × CleanRow from.now 0 self.now.records self.now.words × (self.now.words ≤ length to.now) }
         ensures { Gained (64 * i) (64 * i + 64) self.now.records self.now.words (between (walked self.now) from.now to.now) answer.old answer.new }
     {
-        let mut y = from[i];
-        let mut p = 0;
-        while y != 0 {
-            let k = bits::lowest(y);
-            self.add_row(answer, BITS * i + p + k, to);
-            p += k + 1;
-            y = (y >> k) >> 1;
+        for k in Ones(from[i]) {
+            self.add_row(answer, BITS * i + k, to);
         }
     }
 

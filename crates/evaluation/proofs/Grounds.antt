@@ -14,6 +14,7 @@ use Rattle.register.specs.LinksAhead.{Accepted}
 use Rattle.register.specs.Form.{register_in}
 use Rattle.register.proofs.AcceptedRegister.{Limits, accepted_register}
 use Rattle.evaluation.specs.Grounded.{Grounded, path?}
+use Rattle.evaluation.specs.declared.ground.Ground.{Ground}
 
 module _ {s : List ℕ} {n w : ℕ} (g : Grounded s n w) where
   pub limits : Limits (register_in s)
@@ -41,3 +42,6 @@ path_is (some p) e = (p, refl)
 
 pub is_path : {o : Option PathExpr} {p : PathExpr} → o ≡ some p → path? o ≡ true
 is_path e = ap path? e
+
+pub grounded : (g : Ground) → Grounded g.register.file.now g.register.records g.words
+grounded g = record { accepted = g.register.accepted; count = sym g.register.counted; wide = g.wide }

@@ -11,10 +11,10 @@ use Rattle.evaluation.specs.declared.ground.Symbols.{Symbols}
 use Rattle.evaluation.specs.Grounded.{symbols_of}
 
 abbrev pub register_on : Ground → Register
-register_on g = register_in g.register.now
+register_on g = register_in g.register.file.now
 
 abbrev pub size : Ground → ℕ
-size g = g.records * g.words
+size g = g.register.records * g.words
 
 -- symbols that a `Path` holds make one
 abbrev pub path_in : Symbols → Option PathExpr

@@ -1,23 +1,21 @@
 // What an evaluation stands on: a register's file in rows, and the symbols of a path.
 
 ghost use Rattle.std.specs.Prelude.{◌≡◌, true, ◌*◌, ◌≤◌, length};
-ghost use Rattle.theory.specs.Register.{records};
 ghost use Rattle.theory.specs.Postfix.{path_of};
 ghost use Rattle.theory.specs.Words.{row_words};
-ghost use Rattle.register.specs.Form.{register_in};
-ghost use Rattle.register.specs.LinksAhead.{Accepted};
-ghost use Rattle.evaluation.specs.Grounded.{Grounded, symbols_of, path?};
+ghost use Rattle.evaluation.specs.Grounded.{symbols_of, path?};
+
+use register::Register;
 
 // What a number of records is rounded up by.
 const ROUND_UP: usize = rows::BITS - 1;
 
-// A register's file in rows: how many records it has, and how many words a row with a bit for each of them.
+// A register in rows: how many words a row has, with a bit for each of its records.
 #[derive(Clone, Copy)]
 pub struct Ground<'a> {
-    pub register: &'a [u8],
-    pub records: usize,
+    pub register: Register<'a>,
     pub words: usize,
-    pub ghost grounded: { Grounded register.now records words },
+    pub ghost wide: { row_words register.records ≡ words },
 }
 
 // Symbols as arrays have them, no more than a member's: of each its number, and the set of a join through one.
@@ -45,22 +43,18 @@ pub fn row_words(n: usize) -> usize
 }
 
 impl<'a> Ground<'a> {
-    // The ground of a register's file, which has n records.
-    pub fn new(register: &'a [u8], n: usize) -> Ground<'a>
-        requires { Accepted register.now × (records (register_in register.now) ≡ n) }
-        ensures { (result.register.now ≡ register.now) × (result.records ≡ n) }
+    // The ground of a register.
+    pub fn new(register: Register<'a>) -> Ground<'a>
+        ensures { result.register ≡ register.entry }
     {
-        Ground {
-            register,
-            records: n,
-            words: row_words(n),
-        }
+        let words = row_words(register.records);
+        Ground { register, words }
     }
 
     // The words of a relation.
     pub fn size(&self) -> usize
-        ensures { (result ≡ self.now.records * self.now.words) × (result ≤ 16384) }
+        ensures { (result ≡ self.now.register.records * self.now.words) × (result ≤ 16384) }
     {
-        self.records * self.words
+        self.register.records * self.words
     }
 }

@@ -20,17 +20,17 @@ pub const TABLE: usize = KINDS * rows::WIDEST;
 pub struct KindTable<'a> {
     pub ground: Ground<'a>,
     pub rows: &'a [u64],
-    pub ghost filled: { KindRows (register_in ground.register.now) ground.records ground.words rows.now },
+    pub ghost filled: { KindRows (register_in ground.register.file.now) ground.register.records ground.words rows.now },
 }
 
 // The table becomes that of a register.
 pub fn fill(kinds: &mut [u64], ground: &Ground<'_>)
     requires { 64 * ground.now.words ≤ length kinds.old }
-    ensures { KindRows (register_on ground.now) ground.now.records ground.now.words kinds.new }
+    ensures { KindRows (register_on ground.now) ground.now.register.records ground.now.words kinds.new }
 {
     rows::clear(kinds, 0, KINDS * ground.words);
-    for t in 0..ground.records {
-        let k = usize::from(register::kind_at(ground.register, t).0);
+    for t in 0..ground.register.records {
+        let k = usize::from(ground.register.kind_at(t).0);
         rows::set(kinds, k * ground.words, t);
     }
 }

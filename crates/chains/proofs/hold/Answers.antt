@@ -1,5 +1,6 @@
 -- `chains::hold` meets its contract: a step that is loaded takes a free place, and the others lie apart from it.
 -- Assumes nothing.
+use Rattle.evaluation.proofs.Grounds.{grounded}
 use Rattle.chains.proofs.Holding.{past, before_end, held_more, holds_more}
 use Rattle.symbols.proofs.Numbers.{decoded}
 use Rattle.rows.proofs.Words.{kept_in}
@@ -11,13 +12,13 @@ use Rattle.chains.proofs.hold.Goals as goal
 
 pub overflow_mul-b : goal.overflow_mul-b
 overflow_mul-b c = let g = c.args.table.now.ground in let f = c.in_ok-free in let s = c.size.ensures in
-    rw s.0 (omega (arith, before_end f.free (g.records * g.words) f.ensures.0, s.0, s.1))
+    rw s.0 (omega (arith, before_end f.free (g.register.records * g.words) f.ensures.0, s.0, s.1))
 
 pub step-requires : goal.step-requires
 step-requires c =
     let g = c.args.table.now.ground in
     let f = c.in_ok-free in
-    let h = before_end f.free (g.records * g.words) f.ensures.0 in
+    let h = before_end f.free (g.register.records * g.words) f.ensures.0 in
     rw c.size.ensures.0 (omega (arith, h, c.requires.0))
 
 pub returns-clause-found : goal.returns-clause-found
@@ -29,7 +30,7 @@ returns-clause-held c =
     let a = c.args in
     let f = c.in_ok-free in
     let m = rw c.size.ensures.0 at c.step.ensures in (
-      held_more a.table.now.ground.grounded f.free a.number c.requires.1 m (decoded c.decode.ensures c.in-Step.is) f.ensures.0,
+      held_more (grounded a.table.now.ground) f.free a.number c.requires.1 m (decoded c.decode.ensures c.in-Step.is) f.ensures.0,
       holds_more a.held.now f.free a.number f.ensures.1,
     )
 
@@ -37,6 +38,6 @@ pub returns-clause-kept : goal.returns-clause-kept
 returns-clause-kept c =
     let g = c.args.table.now.ground in
     let f = c.in_ok-free in
-    let z = g.records * g.words in
+    let z = g.register.records * g.words in
     let m = rw c.size.ensures.0 at c.step.ensures in
     kept_in m.kept (past f.free z) (before_end f.free z f.ensures.0)

@@ -8,4 +8,4 @@ abbrev pub invariant-loop-number : goal.invariant-loop-number
 invariant-loop-number l =
     let g = l.ground in
     let ns = l.path.symbols.numbers.now in
-    Going (register_in g.register.now) g.records g.words ns l.path.symbols.sets.now (length ns) l.initial.work l.work l.b (length l.yielded)
+    Going (register_in g.register.file.now) g.register.records g.words ns l.path.symbols.sets.now (length ns) l.initial.work l.work l.b (length l.yielded)

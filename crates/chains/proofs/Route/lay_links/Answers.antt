@@ -2,7 +2,7 @@
 -- Assumes nothing.
 use native.Mathlib.Omega.{arith}
 use Rattle.rows.proofs.Words.{kept_trans}
-use Rattle.evaluation.proofs.Grounds.{narrow}
+use Rattle.evaluation.proofs.Grounds.{grounded, narrow}
 use Rattle.chains.proofs.Laying.{laid_more}
 use Rattle.chains.proofs.Route.lay_links.Goals as goal
 
@@ -14,5 +14,5 @@ loop-j-preserved c =
       omega (arith, c.loop-j-test.true),
       e.held.0,
       kept_trans i.2 e.kept (omega arith) (omega arith) (omega arith) (omega arith),
-      laid_more l.j i.3 (e.laid c.if-not-lay_link.false) e.held.1 (narrow c.args.table.now.ground.grounded),
+      laid_more l.j i.3 (e.laid c.if-not-lay_link.false) e.held.1 (narrow (grounded c.args.table.now.ground)),
     )

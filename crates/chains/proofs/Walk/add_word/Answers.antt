@@ -1,72 +1,47 @@
--- `chains::Walk::add_word` meets its contract: a turn adds the row of the lowest bit that is left, and the rows of no bit gain nothing.
+-- `chains::Walk::add_word` meets its contract: a turn adds the row of the next bit of the word, and the rows of no bit gain nothing.
 -- Assumes nothing.
 use native.Mathlib.Omega.{arith}
-use mathlib.Core.Path.{◌≡◌, sym, ◌∙◌}
-use Prim.Native.Nat.{◌+◌, ◌*◌, ◌^◌, ◌<◌}
-use native.Mathlib.Nat.{div-one}
+use mathlib.Core.Path.{◌≡◌, sym, ap, ◌∙◌}
+use Prim.Native.Nat.{◌+◌, ◌*◌, ◌<◌}
 use lib.ListN.{get_or}
-use Rattle.relation.proofs.Joining.{Turn, turn, next_word}
-use Rattle.chains.specs.Routed.{routed}
+use Rattle.rows.specs.BitList.{ones}
+use Rattle.rows.proofs.BitLists.{ones_from, Next, ones_start, ones_next, ones_end}
+use Rattle.chains.specs.Walked.{walked}
 use Rattle.chains.proofs.Gains.{gained_none, word_records, word_row, word_end}
-use Rattle.chains.proofs.Walk.add_word.Goals.{After-lowest-k}
+use Rattle.chains.proofs.Walk.add_word.Goals.{In-Some}
 use Rattle.chains.proofs.Walk.add_word.Goals as goal
 
-facts : (c : After-lowest-k) → let a = c.args in
-    Turn (get_or a.from.now a.i 0) (64 * a.i) c.loop-y.p c.lowest-k.result a.self.now.records a.self.now.words
-facts c =
+next : (c : In-Some) → let v = get_or c.args.from.now c.args.i 0 in Next v c.loop-k.invariant.0 c.in-Some.k × (ones c.next.new.self.0 ≡ ones_from v (c.in-Some.k + 1))
+next c = let i = c.loop-k.invariant in ones_next _ i.0 c.in-Some.k _ (sym i.2 ∙ c.in-Some.ensures.steps)
+
+lies : (c : In-Some) → 64 * c.args.i + c.in-Some.k < c.args.self.now.records
+lies c =
     let a = c.args in
     let p = c.requires in
-    let v : get_or a.from.now a.i 0 < 2 ^ 64 = omega (arith, c.type_inv.from a.i) in
-    turn a.self.now.words c.loop-y.invariant.1 c.lowest-k.ensures v (word_records a.from.now a.i a.self.now.records a.self.now.words p.3 p.1 v)
+    word_records a.from.now a.i a.self.now.records a.self.now.words p.3 p.1 (omega (arith, c.type_inv.from a.i)) _ (next c).0.here
 
-pub loop-y-init : goal.loop-y-init
-loop-y-init c = (omega arith, sym (div-one _), gained_none _ _ _ (omega arith))
+pub loop-k-init : goal.loop-k-init
+loop-k-init c = (0, omega arith, ap (λ s. ones s.0) c.into_iter-k-iterator.ensures.into_iter_gives ∙ ones_start _, gained_none _ _ _ (omega arith))
 
 pub overflow_mul-i : goal.overflow_mul-i
-overflow_mul-i c = let f = facts (goal.at.overflow_mul-i c).After-lowest-k in omega (arith, f.node, c.args.self.now.routed.wide, c.args.self.now.routed.narrow)
+overflow_mul-i c = omega (arith, lies (goal.at.overflow_mul-i c).In-Some, c.args.self.now.routed.wide, c.args.self.now.routed.narrow)
 
 pub overflow_add-i : goal.overflow_add-i
-overflow_add-i c = let f = facts (goal.at.overflow_add-i c).After-lowest-k in omega (arith, f.node, c.args.self.now.routed.wide, c.args.self.now.routed.narrow)
-
-pub overflow_add-i-in-loop-y : goal.overflow_add-i-in-loop-y
-overflow_add-i-in-loop-y c = let f = facts (goal.at.overflow_add-i-in-loop-y c).After-lowest-k in omega (arith, f.node, c.args.self.now.routed.wide, c.args.self.now.routed.narrow)
+overflow_add-i c = omega (arith, lies (goal.at.overflow_add-i c).In-Some, c.args.self.now.routed.wide, c.args.self.now.routed.narrow)
 
 pub add_row-requires : goal.add_row-requires
-add_row-requires c =
-    let p = c.requires in
-    ((facts (goal.at.add_row-requires c).After-lowest-k).node, omega (arith, p.0, c.loop-y.invariant.2.kept.len), p.4)
+add_row-requires c = (lies (goal.at.add_row-requires c).In-Some, omega (arith, c.requires.0, c.loop-k.invariant.3.kept.len), c.requires.4)
 
-pub overflow_add-p : goal.overflow_add-p
-overflow_add-p c = omega (arith, (facts (goal.at.overflow_add-p c).After-lowest-k).bit)
-
-pub overflow_add-p-in-loop-y : goal.overflow_add-p-in-loop-y
-overflow_add-p-in-loop-y c = omega (arith, (facts (goal.at.overflow_add-p-in-loop-y c).After-lowest-k).bit)
-
-pub overflow_shr-y : goal.overflow_shr-y
-overflow_shr-y c = c.lowest-k.ensures.small
-
-pub loop-y-smaller : goal.loop-y-smaller
-loop-y-smaller c = omega (arith, (facts (goal.at.loop-y-smaller c).After-lowest-k).bit)
-
-pub loop-y-preserved : goal.loop-y-preserved
-loop-y-preserved c =
+pub loop-k-preserved : goal.loop-k-preserved
+loop-k-preserved c =
     let a = c.args in
-    let v = a.self.now in
-    let r = v.route.now in
-    let l = c.loop-y in
-    let k = c.lowest-k.result in
-    let f = facts (goal.at.loop-y-preserved c).After-lowest-k in
-    let e : l.p + (k + 1) ≡ l.p + k + 1 = omega arith in (
-      omega (arith, f.bit),
-      rw e (next_word (get_or a.from.now a.i 0) _ l.p k l.invariant.1),
-      rw e (word_row (routed v.work.now r.bases r.masks v.records v.words r.links) a.from.now a.to.now a.i l.p k l.invariant.2 f.low f.bit f.node
-          c.add_row.ensures),
-    )
+    let s = (goal.at.loop-k-preserved c).In-Some in
+    let n = next s in
+    let i = c.loop-k.invariant in
+    (c.in-Some.k + 1, omega (arith, n.0.small), n.1, word_row (walked a.self.now) a.from.now a.to.now a.i i.0 c.in-Some.k i.3 n.0 (lies s) c.add_row.ensures)
 
 pub returns : goal.returns
 returns c =
     let a = c.args in
-    let v = a.self.now in
-    let r = v.route.now in
-    let l = c.loop-y in
-    word_end (routed v.work.now r.bases r.masks v.records v.words r.links) a.from.now a.to.now a.i l.p l.invariant.2 (sym l.invariant.1 ∙ c.loop-y-test.false) l.invariant.0
+    let i = c.loop-k.invariant in
+    word_end (walked a.self.now) a.from.now a.to.now a.i i.0 i.3 (λ j x y. ones_end _ i.0 j (sym i.2 ∙ c.in-None.ensures.steps.0) x y) i.1

@@ -1,16 +1,15 @@
--- `chains::Walk::add_word` meets its contract: a turn adds the row of the lowest bit that is left, and the rows of no bit gain nothing.
+-- `chains::Walk::add_word` meets its contract: a turn adds the row of the next bit of the word, and the rows of no bit gain nothing.
 use mathlib.Core.Path.{◌≡◌}
-use Prim.Native.Nat.{◌+◌, ◌-◌, ◌*◌, ◌/◌, ◌^◌, ◌≤◌}
+use Prim.Native.Nat.{ℕ, ◌+◌, ◌*◌, ◌≤◌}
 use lib.ListN.{get_or}
-use Rattle.chains.specs.Routed.{routed, between, Gained}
+use Rattle.rows.specs.BitList.{ones}
+use Rattle.rows.proofs.BitLists.{ones_from}
+use Rattle.chains.specs.Routed.{between, Gained}
+use Rattle.chains.specs.Walked.{walked}
 use Rattle.chains.proofs.Walk.add_word.Given as goal
 
-abbrev pub invariant-loop-y : goal.invariant-loop-y
-invariant-loop-y l =
+abbrev pub invariant-loop-k : goal.invariant-loop-k
+invariant-loop-k l =
     let v = l.self in
-    let r = v.route.now in
-    (l.p ≤ 64) × (l.y ≡ get_or l.from l.i 0 / 2 ^ l.p)
-    × Gained (64 * l.i) (64 * l.i + l.p) v.records v.words (between (routed v.work.now r.bases r.masks v.records v.words r.links) l.from l.to) l.initial.answer l.answer
-
-abbrev pub decreases-loop-y : goal.decreases-loop-y
-decreases-loop-y l = 64 - l.p
+    ((p : ℕ) × (p ≤ 64) × (ones (l.k-iterator).0 ≡ ones_from (get_or l.from l.i 0) p)
+    × Gained (64 * l.i) (64 * l.i + p) v.records v.words (between (walked v) l.from l.to) l.initial.answer l.answer)

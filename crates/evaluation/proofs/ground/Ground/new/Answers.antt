@@ -4,5 +4,5 @@ use Rattle.register.proofs.AcceptedRegister.{accepted_register}
 use native.Mathlib.Omega.{arith}
 use Rattle.evaluation.proofs.ground.Ground.new.Goals as goal
 
-pub row_words-requires : goal.row_words-requires
-row_words-requires c = omega (arith, c.requires.1, (accepted_register _ _ c.requires.0).few_records)
+pub row_words-words-requires : goal.row_words-words-requires
+row_words-words-requires c = let r = c.args.register in omega (arith, r.counted, (accepted_register _ _ r.accepted).few_records)

@@ -25,7 +25,7 @@ use Rattle.members_file.proofs.Symbols.{path_numbered}
 
 -- ---- an entry
 module _ {qs ws xs : List ℕ} {n k : ℕ} {cs ss : List ℕ} {g : Group} (r : Ran qs ws xs n k cs ss g) where
-  pub entry_is : {ys : List ℕ} {b : ℕ} → Numbering cs ss ys g.size b → Next qs ws xs n k ys ss (record { size = g.size; from = g.from; to = g.to; next = g.next; bytes = 20 + b })
+  pub entry_is : {ys : List ℕ} {b : ℕ} → Numbering cs ss ys g.size b → Next qs ws xs n k ys ss (record { group = g; bytes = 20 + b })
   entry_is {ys} {b} v =
       let h = r.holds in
       let m = r.first in
@@ -84,12 +84,12 @@ module _ {qs ws xs : List ℕ} {used n : ℕ} (h : Measuring qs ws xs used n) wh
     pub count_asks : k < n → Running qs ws xs used n k cs ss
     count_asks l = running l c.codes_room c.sets_room
 
-    pub count_turn : {cs' ss' : List ℕ} {r : Entry} → Next qs ws xs n k cs' ss' r → Counting qs ws xs n cs' ss' (members + 1) (bytes + r.bytes) r.next
+    pub count_turn : {cs' ss' : List ℕ} {r : Entry} → Next qs ws xs n k cs' ss' r → Counting qs ws xs n cs' ss' (members + 1) (bytes + r.bytes) r.group.next
     count_turn {r = r} e =
-        let a : length (grouped (nodes_at qs ws xs k n)) ≡ suc (length (grouped (nodes_at qs ws xs r.next n))) = ap length e.is in
-        let b : length (bytes_left qs ws xs k n) ≡ r.bytes + length (bytes_left qs ws xs r.next n)
-        = ap (λ (ms : List Member). length (members_bytes (map flat_of ms))) e.is ∙ length-append (member_bytes (flat_of e.first)) (bytes_left qs ws xs r.next n)
-        ∙ ap (λ (x : ℕ). x + length (bytes_left qs ws xs r.next n)) (sym e.bytes_are) in
+        let a : length (grouped (nodes_at qs ws xs k n)) ≡ suc (length (grouped (nodes_at qs ws xs r.group.next n))) = ap length e.is in
+        let b : length (bytes_left qs ws xs k n) ≡ r.bytes + length (bytes_left qs ws xs r.group.next n)
+        = ap (λ (ms : List Member). length (members_bytes (map flat_of ms))) e.is ∙ length-append (member_bytes (flat_of e.first)) (bytes_left qs ws xs r.group.next n)
+        ∙ ap (λ (x : ℕ). x + length (bytes_left qs ws xs r.group.next n)) (sym e.bytes_are) in
         record {
           within = e.within;
           members_are = omega (arith, c.members_are, a);

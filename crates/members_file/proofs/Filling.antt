@@ -70,27 +70,27 @@ module _ {qs ws xs : List ℕ} {used n members : ℕ} {out₀ : List ℕ} (h : F
 
     module _ {cs' ss' : List ℕ} {r : Entry} (e : Next qs ws xs n k cs' ss' r) where
       -- the first of what is left
-      parted : bytes_left qs ws xs k n ≡ member_bytes (flat r.from r.to (symbols_given cs' ss' r.size 0)) ++ bytes_left qs ws xs r.next n
+      parted : bytes_left qs ws xs k n ≡ member_bytes (flat r.group.from r.group.to (symbols_given cs' ss' r.group.size 0)) ++ bytes_left qs ws xs r.group.next n
       parted =
           ap (λ (l : List Member). members_bytes (map flat_of l)) e.is
-          ∙ ap (λ (m : Flat). member_bytes m ++ bytes_left qs ws xs r.next n) e.flat_is
+          ∙ ap (λ (m : Flat). member_bytes m ++ bytes_left qs ws xs r.group.next n) e.flat_is
 
-      pub fill_room : (0 + r.size ≤ length cs') × ((0 + r.size ≤ length ss') × (at + length (member_bytes (flat r.from r.to (symbols_given cs' ss' r.size 0))) ≤ length out))
+      pub fill_room : (0 + r.group.size ≤ length cs') × ((0 + r.group.size ≤ length ss') × (at + length (member_bytes (flat r.group.from r.group.to (symbols_given cs' ss' r.group.size 0))) ≤ length out))
       fill_room = (
         omega (arith, e.few, e.codes_room),
         (
           omega (arith, e.few, e.sets_room),
-          along_room (member_bytes (flat r.from r.to (symbols_given cs' ss' r.size 0))) (bytes_left qs ws xs r.next n) g.along parted g.room,
+          along_room (member_bytes (flat r.group.from r.group.to (symbols_given cs' ss' r.group.size 0))) (bytes_left qs ws xs r.group.next n) g.along parted g.room,
         ),
       )
 
-      pub fill_turn : {out' : List ℕ} {at' : ℕ} → BytesWritten out out' at at' (member_bytes (flat r.from r.to (symbols_given cs' ss' r.size 0)))
-          → Filling qs ws xs n o s out' cs' ss' at' r.next
+      pub fill_turn : {out' : List ℕ} {at' : ℕ} → BytesWritten out out' at at' (member_bytes (flat r.group.from r.group.to (symbols_given cs' ss' r.group.size 0)))
+          → Filling qs ws xs n o s out' cs' ss' at' r.group.next
       fill_turn w =
           record {
             within = e.within;
             room = g.room;
-            along = along_more (member_bytes (flat r.from r.to (symbols_given cs' ss' r.size 0))) (bytes_left qs ws xs r.next n) g.along parted w;
+            along = along_more (member_bytes (flat r.group.from r.group.to (symbols_given cs' ss' r.group.size 0))) (bytes_left qs ws xs r.group.next n) g.along parted w;
             codes_room = e.codes_room;
             sets_room = e.sets_room;
             same_length = wrote_length w ∙ g.same_length;

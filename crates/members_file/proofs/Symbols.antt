@@ -16,6 +16,10 @@ use Rattle.theory.specs.Lists.{tabulate}
 use Rattle.theory.specs.PathExpr.{Via, any, through, PathExpr, Symbol, s_step, s_join, s_op, s_closure, postfix, code, codes}
 use Rattle.theory.specs.JoinSets.{set_of, sets_of, Inferred, Marked}
 use Rattle.theory.proofs.JoinSets.{symbols_by, inferred_marked}
+use Rattle.symbols.specs.declared.Symbol as symbol
+use Rattle.symbols.specs.declared.Symbol.TheVariants as variants
+use Rattle.symbols.specs.declared.Via as via
+use Rattle.symbols.specs.Contract.{symbol_said}
 use Rattle.symbols.specs.Symbols.{Numbered, numbered, symbol_numbered, number_symbol, symbol_given, symbols_given}
 use Rattle.symbols.specs.Writing.{symbol_bytes, symbols_bytes}
 use Rattle.merge.specs.Arrays.{segment}
@@ -33,6 +37,13 @@ plain_join c m e z = sym (ap (λ (k : ℕ). cond (eqb k 0) c 255) z) ∙ by_symb
 
 pub set_join : (c m : ℕ) {v : Via} → symbol_numbered c 0 ≡ s_join v → ¬ (m ≡ 0) → 255 ≡ number_of c m
 set_join c m e z = sym (ap (λ (b : Bool). cond b c 255) (ne_eqb m 0 z)) ∙ by_symbol c m e
+
+-- a symbol that is no join, or a join without a set
+pub kept_code : (c m : ℕ) (x : symbol.Symbol) → symbol_said x ≡ symbol_numbered c 0 → ((v : via.Via) → x ≡ variants.Join v → m ≡ 0) → c ≡ number_of c m
+kept_code c m (variants.Step d l) e h = by_symbol c m (sym e)
+kept_code c m (variants.Join v) e h = plain_join c m (sym e) (h v refl)
+kept_code c m (variants.Op o) e h = by_symbol c m (sym e)
+kept_code c m variants.Closure e h = by_symbol c m (sym e)
 
 -- without a set it is the code
 plain_number : (c : ℕ) → number_of c 0 ≡ c

@@ -41,13 +41,13 @@ pub record Numbering (cs ss ys : List ℕ) (n total : ℕ) : Type 0 where
 -- the first member of the nodes from k on is in the arrays, and what is left are those of the nodes behind its run
 pub record Next (qs ws xs : List ℕ) (n k : ℕ) (cs ss : List ℕ) (r : Entry) : Type 0 where
   pub first : Member
-  pub is : grouped (nodes_at qs ws xs k n) ≡ first ∷ grouped (nodes_at qs ws xs r.next n)
-  pub flat_is : flat_of first ≡ flat r.from r.to (symbols_given cs ss r.size 0)
+  pub is : grouped (nodes_at qs ws xs k n) ≡ first ∷ grouped (nodes_at qs ws xs r.group.next n)
+  pub flat_is : flat_of first ≡ flat r.group.from r.group.to (symbols_given cs ss r.group.size 0)
   pub bytes_are : r.bytes ≡ length (member_bytes (flat_of first))
   pub at_most : r.bytes ≤ 548
-  pub few : r.size ≤ 48
-  pub onward : k < r.next
-  pub within : r.next ≤ n
+  pub few : r.group.size ≤ 48
+  pub onward : k < r.group.next
+  pub within : r.group.next ≤ n
   pub codes_room : length cs ≡ 48
   pub sets_room : length ss ≡ 48
 

@@ -5,15 +5,13 @@ ghost use Rattle.std.specs.Prelude.{◌≡◌, ◌≤◌, length};
 ghost use Rattle.merge.specs.Runs.{Running};
 ghost use Rattle.members_file.specs.Files.{number_of, Numbering, Next, Measuring, Measured, Filing, Filed};
 
+use merge::Group;
 use symbols::Symbol;
 
-// A member: its number of symbols, from set and to set, the place after its run, and the bytes of its fields.
+// A member, and the bytes of its fields.
 #[derive(Clone, Copy)]
 struct Entry {
-    size: usize,
-    from: u64,
-    to: u64,
-    next: usize,
+    group: Group,
     bytes: usize,
 }
 
@@ -28,17 +26,10 @@ pub struct Extent {
 fn number(code: u8, set: u64) -> u8
     ensures { result ≡ number_of code set }
 {
-    match symbols::decode(code, 0) {
-        Symbol::Step(_, _) => code,
-        Symbol::Join(_) => {
-            if set == 0 {
-                return code;
-            }
-            symbols::THROUGH
-        }
-        Symbol::Op(_) => code,
-        Symbol::Closure => code,
+    if matches!(symbols::decode(code, 0), Symbol::Join(_)) && set != 0 {
+        return symbols::THROUGH;
     }
+    code
 }
 
 // Turns n symbols' codes into numbers; the bytes of their fields.
@@ -46,13 +37,11 @@ fn number_symbols(codes: &mut [u8], sets: &[u64], n: usize) -> usize
     requires { (n ≤ length codes.old) × (n ≤ length sets.now) × (n ≤ 48) }
     ensures { Numbering codes.old sets.now codes.new n result }
 {
-    let mut total: usize = 0;
-    let mut j: usize = 0;
-    while j < n {
+    let mut total = 0;
+    for j in 0..n {
         let c = number(codes[j], sets[j]);
         codes[j] = c;
         total += encode::symbol_size(c);
-        j += 1;
     }
     total
 }
@@ -71,13 +60,10 @@ fn next_member(
     requires { Running question.now words.now order.now used n k codes.old sets.old }
     ensures { Next question.now words.now order.now n k codes.new sets.new result }
 {
-    let g = merge::run(words, used, question, order, n, k, codes, sets);
-    let b = number_symbols(codes, sets, g.size);
+    let group = merge::run(words, used, question, order, n, k, codes, sets);
+    let b = number_symbols(codes, sets, group.size);
     Entry {
-        size: g.size,
-        from: g.from,
-        to: g.to,
-        next: g.next,
+        group,
         bytes: encode::MEMBER_BYTES + b,
     }
 }
@@ -89,19 +75,17 @@ pub fn measure(words: &[u64], used: usize, question: &[u8], order: &[usize], n: 
 {
     let mut codes = [0u8; fields::MEMBER_SYMBOLS];
     let mut sets = [0u64; fields::MEMBER_SYMBOLS];
-    let mut members: usize = 0;
+    let mut members = 0;
     let mut bytes = encode::NARROWED_BYTES;
-    let mut k: usize = 0;
+    let mut k = 0;
+    // a turn takes a whole run, so that k is not the counter of a range
     while k < n {
         let m = next_member(words, used, question, order, n, k, &mut codes, &mut sets);
         members += 1;
         bytes += m.bytes;
-        k = m.next;
+        k = m.group.next;
     }
-    Extent {
-        members: members,
-        bytes: bytes,
-    }
+    Extent { members, bytes }
 }
 
 // Writes the file of the members of the first n sorted nodes, `members` of them; the number of its bytes.
@@ -120,11 +104,13 @@ pub fn put_file(
     let mut codes = [0u8; fields::MEMBER_SYMBOLS];
     let mut sets = [0u64; fields::MEMBER_SYMBOLS];
     let mut at = encode::put_count(out, 0, members as u16);
-    let mut k: usize = 0;
+    let mut k = 0;
+    // by runs, as in `measure`
     while k < n {
         let m = next_member(words, used, question, order, n, k, &mut codes, &mut sets);
-        at = encode::put_member(out, at, &codes, &sets, 0, m.size as u8, m.from, m.to);
-        k = m.next;
+        let g = m.group;
+        at = encode::put_member(out, at, &codes, &sets, 0, g.size as u8, g.from, g.to);
+        k = g.next;
     }
     at
 }

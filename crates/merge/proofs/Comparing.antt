@@ -1,12 +1,21 @@
 -- Codes in two arrays compared, and the expansion of a node at an array's front.
 -- Assumes nothing.
-use mathlib.Core.Path.{◌≡◌, refl}
-use mathlib.Core.Bool.{true, false}
-use mathlib.Core.List.{List, [], ◌∷◌}
-use Prim.Native.Nat.{ℕ, ◌+◌, ◌<◌, ◌≤◌}
+use mathlib.Core.Path.{◌≡◌, refl, sym}
+use mathlib.Core.Bool.{Bool, true, false, not}
+use mathlib.Core.List.{List}
+use Prim.Native.Nat.{ℕ, ◌≤◌}
 use native.Mathlib.Omega.{arith}
-use lib.ListN.{length, get_or}
-use borrow.Author.Tests.{lt-ltb, le-ltb, eq-eqb, ne_eqb}
+use lib.ListN.{length, take}
+use lib.Seq.{length-take-le}
+use Rattle.std.specs.Prelude.{Some}
+use Rattle.std.specs.Ordering.{nat_cmp, is_lt, is_some_and}
+use Rattle.std.specs.Cmp.Lexicographic.{slice_partial_cmp}
+use Rattle.std.proofs.lemmas.Cmp.{same_from_slice_cmp_tested}
+use Rattle.std.proofs.Common.{rules}
+use Rattle.std.proofs.lemmas.Slice.Eq.{slice_eq-Decides}
+use Rattle.std.proofs.lemmas.Bool.Decides.{nat_tests, Decides-eqb}
+use lib.Pointwise.{pointwise}
+use lib.Dec.{eqb}
 use Rattle.theory.specs.PathExpr.{codes, before?}
 use Rattle.theory.specs.JoinSets.{sets_of}
 use Rattle.triples.specs.Paths.{triple_of}
@@ -14,29 +23,21 @@ use Rattle.triples.specs.Expansion.{Expanded, Expandable}
 use Rattle.symbols.proofs.Numbers.{length_codes}
 use Rattle.merge.specs.Arrays.{segment}
 use Rattle.merge.specs.Arranging.{Usable}
-use Rattle.merge.proofs.Segments.{segment_next, segment_end, segment_wrote}
+use Rattle.merge.proofs.Segments.{segment_wrote}
 
--- ---- one more element
-module _ (a b : List ℕ) (k n m : ℕ) where
-  pub ended : n ≤ k → k < m → before? (segment a k n) (segment b k m) ≡ true
-  ended l h = rw (segment_end a k n l, segment_next b k m h)
+-- ---- std's comparisons of slices
+pub tells_before : (xs ys : List ℕ) (r : Bool) → r ≡ is_some_and is_lt (slice_partial_cmp (λ x y. Some (nat_cmp x y)) xs ys) → r ≡ before? xs ys
+tells_before = same_from_slice_cmp_tested nat_cmp is_lt before? refl (λ _ _. refl) (λ _ _. refl) (λ x y xs ys o h. grind (arith, nat_tests))
 
-  pub past : m ≤ k → before? (segment a k n) (segment b k m) ≡ false
-  past l = rw (segment_end b k m l) (go (segment a k n))
-    where
-      go : (xs : List ℕ) → before? xs [] ≡ false
-      go [] = refl
-      go (x ∷ xs) = refl
+pub tells_same : (xs ys : List ℕ) (r : Bool) → r ≡ not (pointwise eqb xs ys) → r ≡ false → xs ≡ ys
+tells_same xs ys r e f = search (rules, slice_eq-Decides, Decides-eqb)
 
-  module _ (hn : k < n) (hm : k < m) where
-    pub less : get_or a k 0 < get_or b k 0 → before? (segment a k n) (segment b k m) ≡ true
-    less l = rw (segment_next a k n hn, segment_next b k m hm, lt-ltb (get_or a k 0) (get_or b k 0) l)
+pub tells_other : (xs ys : List ℕ) (r : Bool) → r ≡ not (pointwise eqb xs ys) → r ≡ true → ¬ (xs ≡ ys)
+tells_other xs ys r e t = search (rules, slice_eq-Decides, Decides-eqb)
 
-    pub more : get_or b k 0 < get_or a k 0 → before? (segment a k n) (segment b k m) ≡ false
-    more l = rw (segment_next a k n hn, segment_next b k m hm, le-ltb (get_or a k 0) (get_or b k 0) (omega arith), ne_eqb (get_or a k 0) (get_or b k 0) (omega arith))
-
-    pub equal : get_or a k 0 ≡ get_or b k 0 → before? (segment a k n) (segment b k m) ≡ before? (segment a (k + 1) n) (segment b (k + 1) m)
-    equal e = rw (segment_next a k n hn, segment_next b k m hm, le-ltb (get_or a k 0) (get_or b k 0) (omega arith), eq-eqb (get_or a k 0) (get_or b k 0) e)
+-- ---- the front of an array
+pub whole : (n : ℕ) (xs : List ℕ) → n ≤ length xs → n ≡ length (take n xs)
+whole n xs h = sym (length-take-le n xs h)
 
 -- ---- the expansion of a node
 module _ {qs ws : List ℕ} {used i : ℕ} (h : Usable qs ws used i) where

@@ -1,16 +1,17 @@
 -- A run of nodes with equal codes becomes a member: the sets ORed, a node taken in, the turns of the loop.
 -- Assumes nothing.
 use mathlib.Core.Path.{◌≡◌, refl, sym, ap, ap₂, ◌∙◌, subst}
-use mathlib.Core.Bool.{Bool, true, false, true≢false, false≢true}
+use mathlib.Core.Bool.{Bool, true, false, not, true≢false, false≢true}
 use mathlib.Core.Logic.{◌⊎◌, inl, inr, ⊎_elim}
 use mathlib.Core.List.{List, ◌∷◌, map, zip_with}
 use Prim.Native.Nat.{ℕ, zero, suc, ◌+◌, ◌-◌, ◌<◌, ◌≤◌}
 use native.Mathlib.Nat.{eq-or-lt_of_le}
 use native.Mathlib.Omega.{arith}
 use lib.Bits.{bit_or}
-use lib.Dec.{T}
-use lib.ListN.{length, get_or, set, length-set}
-use lib.Seq.{get_or-set_same, get_or-set_other}
+use lib.Dec.{T, eqb}
+use lib.Pointwise.{pointwise}
+use lib.ListN.{length, get_or, set, take, length-set}
+use lib.Seq.{get_or-set_same, get_or-set_other, length-take-le}
 use Rattle.theory.specs.Lists.{tabulate}
 use Rattle.theory.specs.KindSet.{singleton, set_union}
 use Rattle.theory.specs.PathExpr.{codes, before?, size}
@@ -30,8 +31,8 @@ use Rattle.merge.specs.declared.Ends.{Ends}
 use Rattle.merge.specs.Arrays.{segment}
 use Rattle.merge.specs.Arranging.{member_at, Usable}
 use Rattle.merge.specs.Runs.{Singles, Ored, Taking, Differ, Taken, HoldsMember, nodes_at, Running, Ran}
-use Rattle.merge.proofs.Segments.{segment_next, segment_end, length_segment}
-use Rattle.merge.proofs.Comparing.{ready, expanded_codes, expanded_sets}
+use Rattle.merge.proofs.Segments.{segment_next, segment_end, length_segment, segment_take, segment_taken}
+use Rattle.merge.proofs.Comparing.{ready, expanded_end, expanded_codes, expanded_sets, tells_same, tells_other}
 
 -- ---- sets ORed
 pub or_start : (fs xs : List ℕ) → Ored fs xs xs 0
@@ -50,9 +51,6 @@ or_turn {fs} {xs} {ys} {j} g l =
       rest = λ k m. get_or-set_other ys j k v 0 (omega arith) ∙ g.rest k (omega arith);
     }
 
-pub or_over : {fs xs ys : List ℕ} {j : ℕ} (n : ℕ) → Ored fs xs ys j → j ≤ n → n ≤ j → Ored fs xs ys n
-or_over {fs} {xs} {ys} {j} n g a b = let e : j ≡ n = omega arith in subst (λ (k : ℕ). Ored fs xs ys k) e g
-
 tabulate_unions : (f g : ℕ → ℕ) (s n : ℕ) → tabulate (λ k. set_union (f k) (g k)) s n ≡ set_unions (tabulate f s n) (tabulate g s n)
 unfolding zip_with
 tabulate_unions f g s zero = refl
@@ -65,14 +63,14 @@ ored_segment {fs} {xs} {ys} {n} g =
     tabulate_same (λ k. get_or ys k 0) (λ k. set_union (get_or xs k 0) (get_or fs k 0)) 0 (n - 0) (λ k a b. g.done k (omega arith))
     ∙ tabulate_unions (λ k. get_or xs k 0) (λ k. get_or fs k 0) 0 (n - 0)
 
--- neither comes before the other
-neither : (a b : List ℕ) → before? a b ≡ false → before? b a ≡ false → a ≡ b
-neither a b e f = go (trichotomy a b)
+-- different lists: one comes before the other
+differ : (a b : List ℕ) → ¬ (a ≡ b) → Differ a b
+differ a b n = go (trichotomy a b)
   where
-    go : T (before? a b) ⊎ ((a ≡ b) ⊎ T (before? b a)) → a ≡ b
-    go (inl t) = absurd (true≢false (sym (to_true (before? a b) t) ∙ e))
-    go (inr (inl s)) = s
-    go (inr (inr t)) = absurd (true≢false (sym (to_true (before? b a) t) ∙ f))
+    go : T (before? a b) ⊎ ((a ≡ b) ⊎ T (before? b a)) → Differ a b
+    go (inl t) = inl (to_true (before? a b) t)
+    go (inr (inl s)) = absurd (n s)
+    go (inr (inr t)) = inr (to_true (before? b a) t)
 
 -- ---- a node taken in
 module _ {qs ws : List ℕ} {used i : ℕ} {cs ss : List ℕ} {n : ℕ} (h : Taking qs ws used i cs ss n) {xs ys xs' ys' : List ℕ} {m : ℕ}
@@ -83,35 +81,40 @@ module _ {qs ws : List ℕ} {used i : ℕ} {cs ss : List ℕ} {n : ℕ} (h : Tak
   own_codes : segment xs' 0 m ≡ own
   own_codes = expanded_codes h.usable w ex
 
-  stays : Differ (segment cs 0 n) own → Taken qs ws i cs ss ss n false
-  stays d =
-      record {
-        same_length = refl;
-        equal = λ e. absurd (false≢true e);
-        unions = λ e. absurd (false≢true e);
-        differ = λ e. d;
-        same = λ e. refl;
-      }
+  room : n ≤ length cs
+  room = omega (arith, h.few, h.codes_room)
 
-  pub taken_before : {r : Bool} → r ≡ before? (segment cs 0 n) (segment xs' 0 m) → r ≡ true → Taken qs ws i cs ss ss n false
-  taken_before e t = stays (inl (sym (ap (before? (segment cs 0 n)) own_codes) ∙ sym e ∙ t))
+  fits : m ≤ length xs'
+  fits = expanded_end h.usable w ex
 
-  pub taken_after : {r : Bool} → r ≡ before? (segment xs' 0 m) (segment cs 0 n) → r ≡ true → Taken qs ws i cs ss ss n false
-  taken_after e t = stays (inr (sym (ap (λ (l : List ℕ). before? l (segment cs 0 n)) own_codes) ∙ sym e ∙ t))
+  module _ {r : Bool} (e : r ≡ not (pointwise eqb (take n cs) (take m xs'))) where
+    pub taken_not : r ≡ true → Taken qs ws i cs ss ss n false
+    taken_not t =
+        record {
+          same_length = refl;
+          equal = λ z. absurd (false≢true z);
+          unions = λ z. absurd (false≢true z);
+          differ = λ z.
+              differ (segment cs 0 n) own
+              (λ k. tells_other (take n cs) (take m xs') r e t (sym (segment_take cs n room) ∙ k ∙ sym own_codes ∙ segment_take xs' m fits));
+          same = λ z. refl;
+        }
 
-  pub taken_in : {r r' : Bool} → length ys ≡ 48 → r ≡ before? (segment cs 0 n) (segment xs' 0 m) → r ≡ false → r' ≡ before? (segment xs' 0 m) (segment cs 0 n) → r' ≡ false
-      → {ss' : List ℕ} → Ored ys' ss ss' n → Taken qs ws i cs ss ss' n true
-  taken_in ey a x b y {ss'} o =
-      let e : segment cs 0 n ≡ segment xs' 0 m = neither (segment cs 0 n) (segment xs' 0 m) (sym a ∙ x) (sym b ∙ y) in
-      let z : n ≡ m = omega (arith, length_segment cs 0 n, length_segment xs' 0 m, ap length e) in
-      let s : segment ys' 0 n ≡ sets_of (triple_of qs ws i).path = ap (segment ys' 0) z ∙ expanded_sets h.usable w ey in
-      record {
-        same_length = o.same_length;
-        equal = λ t. e ∙ own_codes;
-        unions = λ t. ored_segment o ∙ ap (set_unions (segment ss 0 n)) s;
-        differ = λ t. absurd (true≢false t);
-        same = λ t. absurd (true≢false t);
-      }
+    pub taken_in : r ≡ false → length ys ≡ 48 → {ss' : List ℕ} → Ored (take n ys') ss ss' (length (take n ys')) → Taken qs ws i cs ss ss' n true
+    taken_in f ey {ss'} o =
+        let k : segment cs 0 n ≡ segment xs' 0 m = segment_take cs n room ∙ tells_same (take n cs) (take m xs') r e f ∙ sym (segment_take xs' m fits) in
+        let z : n ≡ m = omega (arith, length_segment cs 0 n, length_segment xs' 0 m, ap length k) in
+        let l : n ≤ length ys' = omega (arith, ey, w.sets_length, h.few) in
+        let q : length (take n ys') ≡ n = length-take-le n ys' l in
+        let s : segment (take n ys') 0 n ≡ sets_of (triple_of qs ws i).path =
+        segment_taken ys' n l ∙ ap (segment ys' 0) z ∙ expanded_sets h.usable w ey in
+        record {
+          same_length = o.same_length;
+          equal = λ t. k ∙ own_codes;
+          unions = λ t. ored_segment (rw q at o) ∙ ap (set_unions (segment ss 0 n)) s;
+          differ = λ t. absurd (true≢false t);
+          same = λ t. absurd (true≢false t);
+        }
 
 -- ---- the loop over a run: the member so far, and the nodes behind it
 pub record Gathering (qs ws xs : List ℕ) (n k : ℕ) (cs ss : List ℕ) (count from to j : ℕ) : Type 0 where

@@ -2,8 +2,6 @@
 #![tactic(auto)]
 
 ghost use Rattle.std.specs.Prelude.{◌≡◌, ◌<◌, ◌≤◌, length};
-ghost use Rattle.theory.specs.PathExpr.{before?};
-ghost use Rattle.merge.specs.Arrays.{segment};
 ghost use Rattle.merge.specs.Arranging.{earlier?, Usable, Placing, Placed, Arranging, Arranged};
 ghost use Rattle.merge.specs.Runs.{Singles, Ored, Taking, Taken, Running, Ran};
 
@@ -23,27 +21,6 @@ pub struct Group {
     pub next: usize,
 }
 
-// Whether the first n codes of a come before the first m of b.
-fn precedes(a: &[u8], n: usize, b: &[u8], m: usize) -> bool
-    requires { (n ≤ length a.now) × (m ≤ length b.now) }
-    ensures { result ≡ before? (segment a.now 0 n) (segment b.now 0 m) }
-{
-    let mut k: usize = 0;
-    while k < m {
-        if n <= k {
-            return true;
-        }
-        if a[k] < b[k] {
-            return true;
-        }
-        if b[k] < a[k] {
-            return false;
-        }
-        k += 1;
-    }
-    false
-}
-
 // Whether the codes of node i come before those of node j.
 fn before(words: &[u64], used: usize, question: &[u8], i: usize, j: usize) -> bool
     requires { Usable question.now words.now used i × Usable question.now words.now used j }
@@ -54,7 +31,7 @@ fn before(words: &[u64], used: usize, question: &[u8], i: usize, j: usize) -> bo
     let mut vias = [0u64; fields::MEMBER_SYMBOLS];
     let n = triples::expand(words, used, question, i, &mut a, &mut vias, 0);
     let m = triples::expand(words, used, question, j, &mut b, &mut vias, 0);
-    precedes(&a, n, &b, m)
+    a[..n] < b[..m]
 }
 
 // Puts node t among the sorted nodes at i + 1 to n of the array, which then start at i.
@@ -70,27 +47,22 @@ fn place(
     requires { Placing question.now words.now order.old used i n t }
     ensures { Placed question.now words.now order.old order.new used i n t }
 {
+    // k is where t comes to stand, and so outlives the loop
     let mut k = i;
-    while k + 1 < n {
-        let u = order[k + 1];
-        if !before(words, used, question, u, t) {
-            order[k] = t;
-            return;
-        }
-        order[k] = u;
+    while k + 1 < n && before(words, used, question, order[k + 1], t) {
+        order[k] = order[k + 1];
         k += 1;
     }
     order[k] = t;
 }
 
-// Sorts the n nodes from s on by their codes into the first n of the array.
+// Sorts the n nodes from s on by their codes into the first n of the array. Not by std's sorts: the stable one takes heap, the other
+// leaves the order of equal codes open, which `Arranged` fixes.
 pub fn arrange(words: &[u64], used: usize, question: &[u8], order: &mut [usize], s: usize, n: usize)
     requires { Arranging question.now words.now order.old used s n }
     ensures { Arranged question.now words.now order.old order.new used s n 0 }
 {
-    let mut i = n;
-    while 0 < i {
-        i -= 1;
+    for i in (0..n).rev() {
         place(words, used, question, order, i, n, s + i);
     }
 }
@@ -106,15 +78,14 @@ fn kinds(words: &[u64], i: usize) -> Ends
     }
 }
 
-// ORs the first n sets of `from` into those of `into`.
-fn or_sets(into: &mut [u64], from: &[u64], n: usize)
-    requires { (n ≤ length into.old) × (n ≤ length from.now) }
-    ensures { Ored from.now into.old into.new n }
+// ORs the sets of `from` into the first of `into`.
+fn or_sets(into: &mut [u64], from: &[u64])
+    requires { length from.now ≤ length into.old }
+    ensures { Ored from.now into.old into.new (length from.now) }
 {
-    let mut j: usize = 0;
-    while j < n {
-        into[j] = into[j] | from[j];
-        j += 1;
+    // by index, since nothing is known of elements that were written through an iterator
+    for (j, set) in from.iter().enumerate() {
+        into[j] |= *set;
     }
 }
 
@@ -134,13 +105,10 @@ fn take_in(
     let mut own = [0u8; fields::MEMBER_SYMBOLS];
     let mut vias = [0u64; fields::MEMBER_SYMBOLS];
     let m = triples::expand(words, used, question, i, &mut own, &mut vias, 0);
-    if precedes(codes, n, &own, m) {
+    if codes[..n] != own[..m] {
         return false;
     }
-    if precedes(&own, m, codes, n) {
-        return false;
-    }
-    or_sets(sets, &vias, n);
+    or_sets(sets, &vias[..n]);
     true
 }
 
@@ -163,26 +131,18 @@ pub fn run(
     let e = kinds(words, i);
     let mut from = e.from;
     let mut to = e.to;
-    let mut j = k + 1;
-    while j < n {
-        let t = order[j];
-        if !take_in(words, used, question, t, codes, sets, size) {
-            return Group {
-                size: size,
-                from: from,
-                to: to,
-                next: j,
-            };
-        }
-        let f = kinds(words, t);
-        from = from | f.from;
-        to = to | f.to;
-        j += 1;
+    // `next` is handed out, and so outlives the loop
+    let mut next = k + 1;
+    while next < n && take_in(words, used, question, order[next], codes, sets, size) {
+        let f = kinds(words, order[next]);
+        from |= f.from;
+        to |= f.to;
+        next += 1;
     }
     Group {
-        size: size,
-        from: from,
-        to: to,
-        next: j,
+        size,
+        from,
+        to,
+        next,
     }
 }

@@ -4,4 +4,4 @@ use Rattle.members_file.proofs.Counting.{entry_is}
 use Rattle.members_file.proofs.next_member.Goals as goal
 
 pub returns : goal.returns
-returns c = entry_is c.run-g.ensures c.number_symbols-b.ensures
+returns c = entry_is c.run-group.ensures c.number_symbols-b.ensures

@@ -1,20 +1,24 @@
 -- `members_file::number` meets its contract: each symbol keeps its code, but a join with a set that is not empty.
 -- Assumes nothing.
 use Rattle.symbols.proofs.Numbers.{decoded}
-use Rattle.members_file.proofs.Symbols.{by_symbol, plain_join, set_join}
+use Rattle.triples.proofs.Comparing.{unlike}
+use Rattle.members_file.proofs.Symbols.{kept_code, set_join}
+use Rattle.members_file.proofs.number.Goals.{in-Join, in_default, else-matches-via-then-matches+else-set-ne0, else-matches-via-else-matches}
 use Rattle.members_file.proofs.number.Goals as goal
 
-pub returns-then-set-eq0 : goal.returns-then-set-eq0
-returns-then-set-eq0 c = plain_join _ _ (decoded c.decode.ensures c.in-Join.is) c.if-set-eq0.true
+pub returns-then-set-ne0 : goal.returns-then-set-ne0
+returns-then-set-ne0 c =
+    elim c.match-matches.branch [
+      | in-Join w ↦ set_join _ _ (decoded c.decode.ensures w.in-Join.is) c.if-set-ne0.true
+      | in_default w ↦ unlike w.matches-is c.if-matches.true
+    ]
 
-pub returns-in-Step : goal.returns-in-Step
-returns-in-Step c = by_symbol _ _ (decoded c.decode.ensures c.in-Step.is)
-
-pub returns-else-set-eq0 : goal.returns-else-set-eq0
-returns-else-set-eq0 c = set_join _ _ (decoded c.decode.ensures c.in-Join.is) c.if-set-eq0.false
-
-pub returns-in-Op : goal.returns-in-Op
-returns-in-Op c = by_symbol _ _ (decoded c.decode.ensures c.in-Op.is)
-
-pub returns-in-Closure : goal.returns-in-Closure
-returns-in-Closure c = by_symbol _ _ (decoded c.decode.ensures c.in-Closure.is)
+pub returns : goal.returns
+returns c =
+    elim c.else-matches.branch [
+      | else-matches-via-then-matches+else-set-ne0 w ↦ kept_code _ _ _ c.decode.ensures (λ v e. w.if-set-ne0.false)
+      | else-matches-via-else-matches w ↦ elim c.match-matches.branch [
+        | in-Join u ↦ unlike w.if-matches.false u.matches-is
+        | in_default u ↦ kept_code _ _ _ c.decode.ensures (λ v e. absurd (u.in_default.not-Join v e))
+      ]
+    ]

@@ -18,8 +18,8 @@ loop-k-init c = fill_start c.requires refl refl c.put_count-at.ensures
 pub next_member-m-requires : goal.next_member-m-requires
 next_member-m-requires c = fill_asks c.requires c.loop-k.invariant c.loop-k-test.true
 
-pub overflow_cast-m : goal.overflow_cast-m
-overflow_cast-m c = omega (arith, c.next_member-m.ensures.few)
+pub overflow_cast-g : goal.overflow_cast-g
+overflow_cast-g c = omega (arith, c.next_member-m.ensures.few)
 
 pub put_member-at-requires : goal.put_member-at-requires
 put_member-at-requires c = fill_room c.requires c.loop-k.invariant c.next_member-m.ensures

@@ -4,6 +4,3 @@ use Rattle.merge.proofs.arrange.Given as goal
 
 abbrev pub invariant-loop-i : goal.invariant-loop-i
 invariant-loop-i l = Arranged l.question l.words l.initial.order l.order l.used l.s l.n l.i
-
-abbrev pub decreases-loop-i : goal.decreases-loop-i
-decreases-loop-i l = l.i

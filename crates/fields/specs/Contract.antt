@@ -12,7 +12,8 @@ use Rattle.fields.specs.declared.Found as declared·Found
 use Rattle.theory.specs.Result.{Result, got, refused}
 use Rattle.fields.specs.Call.{Outcome, accepts, refuses, Size}
 use Rattle.fields.specs.Raw.{body_in}
-use Rattle.fields.specs.Reading.{Field, ends, wrong, body}
+use Rattle.fields.specs.declared.Due.{Due}
+use Rattle.fields.specs.Reading.{Field, ends, wrong, body, field_at}
 
 abbrev pub number_of : Refusal → ℕ
 number_of (Truncated p) = 1
@@ -87,6 +88,10 @@ abbrev pub field_said : std.Result (Option declared·Found.Found) Refusal → Fi
 field_said (Ok None) = ends
 field_said (Ok (Some f)) = body f.tag (length f.body.now)
 field_said (Err r) = wrong (number_of r) (place_of r)
+
+-- no field that is due is there, nor the end where it may be
+abbrev pub Refused : Due → List ℕ → ℕ → Type 0
+Refused d s at = (field_at d s at ≡ ends → ⊥) × ((t n : ℕ) → field_at d s at ≡ body t n → ⊥)
 
 -- the field that was found: its place, its body, which is that part of the file, and the place after it
 pub record FoundAt (s : List ℕ) (at : ℕ) (f : declared·Found.Found) : Type 0 where

@@ -3,9 +3,9 @@
 
 ghost use Rattle.std.specs.Prelude.{◌≡◌, ◌+◌, ◌<◌, length, IfOk, IfSome};
 ghost use Rattle.fields.specs.Table.{allowed, row_of};
-ghost use Rattle.fields.specs.Reading.{due_row?, rows_due, field_at, word, eight};
+ghost use Rattle.fields.specs.Reading.{due_row?, rows_due, fitting, wrong, field_at, word, eight};
 ghost use Rattle.fields.specs.Raw.{raw_at, body_in};
-ghost use Rattle.fields.specs.Contract.{number_of, place_of, source_number, failure, about_of, AboutRef, field_said, FoundAt};
+ghost use Rattle.fields.specs.Contract.{number_of, place_of, source_number, failure, about_of, AboutRef, Refused, field_said, FoundAt};
 
 // Why a file or a call is refused: the numbers 1 to 6 and 11 to 16 of SPECIFICATION, Refusals, each with its place.
 #[derive(Clone, Copy, PartialEq, Eq)]
@@ -268,7 +268,8 @@ fn allows(row: Row, file: File) -> bool
 
 // The row of a tag, or one that allows no file. Each tag names its row by a constant, since a row at an index that is only known when it
 // runs costs a copy of the whole table. Where a tag gets a second row, that row comes from a function like this one, with an arm for each
-// such tag, and `field` asks of both rows.
+// such tag, and `fits` and `refused` ask of both rows.
+#[inline]
 fn row_of(tag: u8) -> Row
     ensures { result ≡ row_of tag }
 {
@@ -320,6 +321,7 @@ pub fn rows_due(file: File, rows: u16, complete: bool, full: bool) -> Due
 }
 
 // Whether a row is due.
+#[inline]
 fn row_due(due: Due, row: Row) -> bool
     ensures { result ≡ due_row? due row }
 {
@@ -373,7 +375,7 @@ pub fn step_at(s: &[u8], at: usize) -> Raw
         return Raw::Cut(s[at]);
     }
     let len = two(s, at + 1);
-    if s.len() < at + HEAD + len as usize {
+    if s.len() < at + HEAD + usize::from(len) {
         return Raw::Short(s[at], len);
     }
     Raw::Whole(s[at], len)
@@ -387,7 +389,7 @@ pub fn body_at(s: &[u8], at: usize) -> &[u8]
         return &s[..0];
     };
     let body = at + HEAD;
-    &s[body..body + len as usize]
+    &s[body..body + usize::from(len)]
 }
 
 // A field that was found: its place, its tag, its body as that part of the file, and the place after it.
@@ -399,38 +401,58 @@ pub struct Found<'a> {
     pub next: usize,
 }
 
-// The field at a place where something is due, or none at the file's end. The refusals 5, 1 for the head, 2, 1 for the body, in that order.
+// Whether a field of this tag and length is due. Neither this nor `refused` is taken in by `field`, which each reader takes in.
+#[inline(never)]
+fn fits(due: Due, tag: u8, len: u16) -> bool
+    ensures { result ≡ fitting due tag len }
+{
+    let row = row_of(tag);
+    row.1 == len && row_due(due, row)
+}
+
+// Why there is no field that is due: the refusals 5, 1 for the head, 2, 1 for the body, in that order.
+#[cold]
+#[inline(never)]
+fn refused(s: &[u8], at: usize, due: Due) -> Refusal
+    requires { Refused due s.now at }
+    ensures { wrong (number_of result) (place_of result) ≡ field_at due s.now at }
+{
+    if s.len() <= at {
+        return Refusal::WrongEnd(at);
+    }
+    let tag = s[at];
+    let is_due = row_due(due, row_of(tag));
+    if due.closing && !is_due {
+        return Refusal::WrongEnd(at);
+    }
+    if s.len() < at + HEAD {
+        return Refusal::Truncated(at);
+    }
+    if fits(due, tag, two(s, at + 1)) {
+        Refusal::Truncated(at)
+    } else {
+        Refusal::Unexpected(at)
+    }
+}
+
+// The field at a place where something is due, or none at the file's end.
+#[inline]
 pub fn field(s: &[u8], at: usize, due: Due) -> Result<Option<Found<'_>>, Refusal>
     ensures said { field_said result ≡ field_at due s.now at }
     ensures part { IfOk result (λ r. IfSome r (FoundAt s.now at)) }
 {
-    if s.len() <= at {
-        return if due.complete {
-            Ok(None)
-        } else {
-            Err(Refusal::WrongEnd(at))
-        };
-    }
-    let row = row_of(s[at]);
-    let is_due = row_due(due, row);
-    if due.closing && !is_due {
-        return Err(Refusal::WrongEnd(at));
-    }
-    if s.len() < at + HEAD {
-        return Err(Refusal::Truncated(at));
-    }
-    let len = two(s, at + 1);
-    if !is_due || row.1 != len {
-        return Err(Refusal::Unexpected(at));
-    }
-    let next = at + HEAD + len as usize;
-    match s.get(at + HEAD..next) {
-        Some(body) => Ok(Some(Found {
-            at,
-            tag: s[at],
-            body,
-            next,
-        })),
-        None => Err(Refusal::Truncated(at)),
+    match step_at(s, at) {
+        Raw::Whole(tag, len) if fits(due, tag, len) => {
+            let next = at + HEAD + usize::from(len);
+            let body = &s[at + HEAD..next];
+            Ok(Some(Found {
+                at,
+                tag,
+                body,
+                next,
+            }))
+        }
+        Raw::End if due.complete => Ok(None),
+        _ => Err(refused(s, at, due)),
     }
 }

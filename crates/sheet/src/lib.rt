@@ -170,7 +170,8 @@ fn word_of(from: Kind, link: Link) -> usize
     usize::from(link.0) * ROW + usize::from(from.0)
 }
 
-// Reads a sheet's file.
+// Reads a sheet's file. Taken in where it is called, so that the table (32 KB) is made where it is used, and is copied less often.
+#[inline(always)]
 pub fn read(s: &[u8]) -> Result<Sheet, Refusal>
     ensures { ReadsSheet (read_file sheet_form s.now) result }
 {

@@ -28,4 +28,4 @@ slice_bounds-result-end-2 c = let r = room (goal.at.slice_bounds-result-end-2 c)
 
 pub returns : goal.returns
 unfolding body_in
-returns c = rw (← c.step_at.ensures, c.in-Whole.is, add-sub_cancel_left)
+returns c = rw (c.from.ensures, ← c.step_at.ensures, c.in-Whole.is, add-sub_cancel_left)

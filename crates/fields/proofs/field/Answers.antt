@@ -1,74 +1,49 @@
--- `fields::field` meets its contract: the end, 5, 1 for the head, 2 and 1 for the body are tested in the definition's order, by the row of the tag.
+-- `fields::field` meets its contract: a whole field that is due is handed out, at the end nothing, and anything else is refused.
 -- Assumes nothing.
-use mathlib.Core.Path.{◌≡◌, refl, sym, ◌∙◌}
-use mathlib.Core.Bool.{true}
-use borrow.Author.Tests.{lt-ltb, lt-leb, le-ltb, le-leb, eq-eqb}
-use lib.ListN.{length, get_or}
-use Prim.Native.Nat.{◌+◌, ◌<◌}
+use mathlib.Core.Path.{refl, sym, ◌∙◌}
+use Prim.Native.Nat.{◌+◌, ◌≤◌}
 use native.Mathlib.Omega.{arith}
-use Rattle.fields.specs.Reading.{fitting, field_at}
 use native.Mathlib.Nat.{add-sub_cancel_left}
-use Rattle.fields.proofs.Raws.{whole_body}
-use Rattle.fields.proofs.Bools.{fell_through, went_in}
-use Rattle.fields.proofs.Rows.{tag_due, tag_fits, fits_within}
-use Rattle.fields.proofs.field.Goals.{After-get}
+use lib.ListN.{length}
+use Rattle.fields.proofs.Raws.{field_room, body_whole, part_length, judged_at, refused_end, refused_whole, refused_short}
+use Rattle.fields.proofs.Rows.{fits_within}
+use Rattle.fields.proofs.field.Goals.{In-Whole, in_default-via-in-Whole+else-fits, in_default-via-in-End+else-due, in_default-via-in_default}
 use Rattle.fields.proofs.field.Goals as goal
 
-pub returns-then-due-clause-said : goal.returns-then-due-clause-said
-unfolding field_at
-returns-then-due-clause-said c = simp (le-leb _ _ c.if-s-at.true, c.if-due.true)
+room : (c : In-Whole) → c.args.at + 3 + c.in-Whole.len ≤ length c.args.s.now
+room c = field_room _ _ _ _ (sym c.step_at.ensures ∙ c.in-Whole.is)
 
-pub returns-else-due-clause-said : goal.returns-else-due-clause-said
-unfolding field_at
-returns-else-due-clause-said c = simp (le-leb _ _ c.if-s-at.true, c.if-due.false)
+pub overflow_add-next : goal.overflow_add-next
+overflow_add-next c = let r = room (goal.at.overflow_add-next c).In-Whole in omega arith
 
-pub returns-then-not-is_due-clause-said : goal.returns-then-not-is_due-clause-said
-unfolding field_at
-returns-then-not-is_due-clause-said c =
-    simp (lt-leb _ _ c.if-s-at.false, tag_due c.args.due _ c.row_of-row.ensures c.row_due-is_due.ensures, c.if-not-is_due.true, c.if-due-2.true)
+pub overflow_add-next-in-Whole : goal.overflow_add-next-in-Whole
+overflow_add-next-in-Whole c = let r = room (goal.at.overflow_add-next-in-Whole c).In-Whole in omega arith
 
-pub returns-then-s-at-2-clause-said : goal.returns-then-s-at-2-clause-said
-unfolding field_at
-returns-then-s-at-2-clause-said c =
-    simp (lt-leb _ _ c.if-s-at.false, lt-ltb _ _ c.if-s-at-2.true, tag_due c.args.due _ c.row_of-row.ensures c.row_due-is_due.ensures, fell_through c.else-due-2.either)
+pub overflow_add-body : goal.overflow_add-body
+overflow_add-body c = let r = room (goal.at.overflow_add-body c).In-Whole in omega arith
 
-pub returns-then-not-is_due-2-clause-said : goal.returns-then-not-is_due-2-clause-said
-unfolding field_at
-returns-then-not-is_due-2-clause-said c =
-    let r = c.row_of-row.ensures in
-    let h = c.row_due-is_due.ensures in
-    simp (
-      lt-leb _ _ c.if-s-at.false,
-      tag_due c.args.due _ r h,
-      fell_through c.else-due-2.either,
-      le-ltb _ _ c.if-s-at-2.false,
-      ← c.two-len.ensures,
-      tag_fits c.args.due _ r h c.two-len.result,
-      went_in c.then-not-is_due-2.either,
-    )
+pub slice_bounds-body-end : goal.slice_bounds-body-end
+slice_bounds-body-end c = let r = room (goal.at.slice_bounds-body-end c).In-Whole in omega arith
 
--- where tag and length are due
-is_fit : (c : After-get) → fitting c.args.due (get_or c.args.s.now c.args.at 0) c.two-len.result ≡ true
-is_fit c =
-    tag_fits c.args.due _ c.row_of-row.ensures c.row_due-is_due.ensures _ ∙ simp (eq-eqb _ _ c.if-row-len.false, c.if-not-is_due-2.false)
+pub returns-in-Whole-clause-said : goal.returns-in-Whole-clause-said
+returns-in-Whole-clause-said c =
+    let f = sym c.fits.ensures ∙ c.if-fits.true in
+    let r = room (goal.at.returns-in-Whole-clause-said c).In-Whole in
+    let n = part_length _ _ _ r in
+    rw (c.from.ensures, n) (sym (judged_at c.args.due _ _ c.step_at.ensures c.in-Whole.is ∙ rw (fits_within _ _ _ f, f)))
 
-pub returns-in-None-clause-said : goal.returns-in-None-clause-said
-unfolding field_at
-returns-in-None-clause-said c =
-    let f = is_fit (goal.at.returns-in-None-clause-said c).After-get in
-    let l : length c.args.s.now < c.args.at + 3 + c.two-len.result = omega (arith, c.in-None.ensures.lookup) in
-    simp (lt-leb _ _ c.if-s-at.false, fits_within _ _ _ f, le-ltb _ _ c.if-s-at-2.false, ← c.two-len.ensures, f, lt-ltb _ _ l)
+pub returns-in-Whole-clause-part : goal.returns-in-Whole-clause-part
+returns-in-Whole-clause-part c =
+    let r = room (goal.at.returns-in-Whole-clause-part c).In-Whole in
+    record { here = refl; body = rw (c.from.ensures, add-sub_cancel_left, body_whole _ _ _ c.step_at.ensures c.in-Whole.is); next = rw (c.from.ensures, part_length _ _ _ r) }
 
-pub returns-in-Some-clause-said : goal.returns-in-Some-clause-said
-unfolding field_at
-returns-in-Some-clause-said c =
-    let f = is_fit (goal.at.returns-in-Some-clause-said c).After-get in
-    let l = c.in-Some.ensures.lookup.0 in
-    let n : length c.in-Some.body.now ≡ c.two-len.result = omega (arith, l.3) in
-    simp (n, lt-leb _ _ c.if-s-at.false, fits_within _ _ _ f, le-ltb _ _ c.if-s-at-2.false, ← c.two-len.ensures, f, le-ltb _ _ l.1)
+pub returns-in-End-clause-said : goal.returns-in-End-clause-said
+returns-in-End-clause-said c = sym (judged_at _ _ _ c.step_at.ensures c.in-End.is ∙ rw c.if-due.true)
 
-pub returns-in-Some-clause-part : goal.returns-in-Some-clause-part
-returns-in-Some-clause-part c =
-    let l = c.in-Some.ensures.lookup.0 in
-    let n : length c.in-Some.body.now ≡ c.two-len.result = omega (arith, l.3) in
-    record { here = refl; body = l.2 ∙ rw (whole_body _ _ _ l.1 (sym c.two-len.ensures), add-sub_cancel_left); next = omega (arith, n) }
+pub refused-requires : goal.refused-requires
+refused-requires c =
+    elim c.in_default.branch [
+      | in_default-via-in-Whole+else-fits w ↦ refused_whole _ _ _ c.step_at.ensures w.in-Whole.is (sym w.fits.ensures ∙ w.if-fits.false)
+      | in_default-via-in-End+else-due w ↦ refused_end _ _ _ c.step_at.ensures w.in-End.is w.if-due.false
+      | in_default-via-in_default w ↦ refused_short _ _ _ c.step_at.ensures w.in_default.not-Whole w.in_default.not-End
+    ]

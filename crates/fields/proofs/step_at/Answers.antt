@@ -14,8 +14,8 @@ returns-then-s-at-2 c = simp (lt-ltb _ _ c.if-s-at-2.true, lt-leb _ _ c.if-s-at.
 
 pub returns-then-s-at-3 : goal.returns-then-s-at-3
 unfolding raw_at
-returns-then-s-at-3 c = simp (lt-ltb _ _ c.if-s-at-3.true, ← c.two-len.ensures, le-ltb _ _ c.if-s-at-2.false, lt-leb _ _ c.if-s-at.false)
+returns-then-s-at-3 c = simp (lt-ltb _ _ (rw c.from.ensures at c.if-s-at-3.true), ← c.two-len.ensures, le-ltb _ _ c.if-s-at-2.false, lt-leb _ _ c.if-s-at.false)
 
 pub returns : goal.returns
 unfolding raw_at
-returns c = simp (le-ltb _ _ c.if-s-at-3.false, ← c.two-len.ensures, le-ltb _ _ c.if-s-at-2.false, lt-leb _ _ c.if-s-at.false)
+returns c = simp (le-ltb _ _ (rw c.from.ensures at c.if-s-at-3.false), ← c.two-len.ensures, le-ltb _ _ c.if-s-at-2.false, lt-leb _ _ c.if-s-at.false)

@@ -1,7 +1,7 @@
 -- Of what the bytes of a symbol, of symbols and of members are made.
 -- Assumes nothing.
 use Prim.Native.Nat.{ℕ, zero, suc, ◌+◌, ◌-◌, ◌<◌, ◌≤◌}
-use mathlib.Core.Path.{◌≡◌, refl, ap, ◌∙◌, sym, subst}
+use mathlib.Core.Path.{◌≡◌, refl, ap, ap₂, ◌∙◌, sym, subst}
 use mathlib.Core.List.{List, ◌∷◌, ◌++◌}
 use lib.ListN.{length, get_or}
 use native.Mathlib.Omega.{arith}
@@ -10,7 +10,9 @@ use Rattle.narrowed_question.specs.declared.Members.{Members}
 use Rattle.narrowed_question.specs.Form.{Flat, flat}
 use Rattle.fields.specs.Writing.{two_bytes, eight_bytes, field_bytes}
 use Rattle.theory.specs.PathExpr.{any, through, Symbol, s_step, s_join, s_op, s_closure}
-use Rattle.symbols.specs.Writing.{tag_of, symbol_bytes, symbols_bytes}
+use Rattle.symbols.specs.declared.Symbol as declared·Symbol
+use Rattle.symbols.specs.Contract.{symbol_said}
+use Rattle.symbols.specs.Writing.{tag_of, body_of, symbol_bytes, symbols_bytes}
 use Rattle.symbols.proofs.Bytes.{given_bytes, field_length, tag_same}
 use Rattle.symbols.proofs.Numbers.{length_given}
 use Rattle.narrowed_question.specs.Writing.{member_bytes, members_bytes, encode}
@@ -26,10 +28,6 @@ pub size_is : (c m : ℕ) → symbol_size c ≡ length (symbol_bytes (symbol_giv
 unfolding symbol_size
 size_is c m = ap field_size (sym (tag_same c m)) ∙ sym (field_length c (symbol_numbered c m)) ∙ sym (ap length (given_bytes c m refl))
 
-pub size_of : (c : ℕ) {s : Symbol} → symbol_numbered c 0 ≡ s → symbol_size c ≡ field_size (tag_of s)
-unfolding symbol_size
-size_of c e = ap (λ (s : Symbol). field_size (tag_of s)) e
-
 pub size_few : (c : ℕ) → symbol_size c ≤ 11
 unfolding symbol_size field_size tag_length rows
 size_few c = go (symbol_numbered c 0)
@@ -41,9 +39,14 @@ size_few c = go (symbol_numbered c 0)
     go (s_op o) = omega arith
     go s_closure = omega arith
 
--- the room that its bytes have is enough for its field
-pub symbol_room : (c m at : ℕ) {room : ℕ} (s : Symbol) → symbol_numbered c m ≡ s → at + length (symbol_bytes (symbol_given c m)) ≤ room → at + field_size (tag_of s) ≤ room
-symbol_room c m at s e r = omega (arith, ap length (given_bytes c m e), field_length c s)
+-- its field is that of the symbol that was decoded: of its tag, in the room that it has; and of its body
+module _ (c m : ℕ) (r : declared·Symbol.Symbol) (e : symbol_said r ≡ symbol_numbered c m) where
+  pub tag_room : (at room t : ℕ) → tag_of (symbol_said r) ≡ t → at + length (symbol_bytes (symbol_given c m)) ≤ room → at + field_size t ≤ room
+  tag_room at room t i h = omega (arith, ap length (given_bytes c m (sym e)), field_length c (symbol_said r), ap field_size i)
+
+  pub body_wrote : {o p b : List ℕ} {at next t : ℕ} → BytesWritten o p at next (field_bytes t b) → tag_of (symbol_said r) ≡ t → body_of c (symbol_said r) ≡ b
+      → BytesWritten o p at next (symbol_bytes (symbol_given c m))
+  body_wrote {o} {p} {b} {at} {next} {t} w i j = subst (λ l. BytesWritten o p at next l) (sym (given_bytes c m (sym e) ∙ ap₂ field_bytes i j)) w
 
 -- ---- symbols, one more
 pub symbols_more : (a b : List ℕ) (n k : ℕ) → 0 < n

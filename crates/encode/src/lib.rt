@@ -1,14 +1,13 @@
 // Puts fields into the caller's area: those of a path's symbols, and those of a narrowed question.
-#![tactic(auto)]
+#![tactic(auto, using(crate::proofs::Along::wrote_more), unfolding(fields::specs::Table::field_size, fields::specs::Table::tag_length, fields::specs::Table::rows))]
 
 ghost use Rattle.std.specs.Prelude.{◌≡◌, [], ◌∷◌, ◌++◌, ◌+◌, ◌≤◌, ◌<◌, length};
 ghost use Rattle.std.proofs.lemmas.List.Edits.{sets};
 ghost use Rattle.fields.specs.Table.{field_size};
 ghost use Rattle.narrowed_question.specs.Form.{flat};
 ghost use Rattle.fields.specs.Writing.{two_bytes, eight_bytes, field_bytes};
-ghost use Rattle.theory.specs.PathExpr.{s_join};
-ghost use Rattle.symbols.specs.Contract.{direction_said, via_said};
-ghost use Rattle.symbols.specs.Writing.{direction_number, tag_of, body_of, symbol_bytes, symbols_bytes};
+ghost use Rattle.symbols.specs.Contract.{direction_said};
+ghost use Rattle.symbols.specs.Writing.{direction_number, symbol_bytes, symbols_bytes};
 ghost use Rattle.narrowed_question.specs.Writing.{member_bytes, encode};
 ghost use Rattle.symbols.specs.Symbols.{symbol_given, symbols_given};
 ghost use Rattle.narrowed_question.specs.ArrayMembers.{given};
@@ -31,33 +30,26 @@ const OPERATOR_BYTES: usize = fields::HEAD + fields::OPERATOR_LENGTH as usize;
 
 const THROUGH_BYTES: usize = fields::HEAD + fields::THROUGH_LENGTH as usize;
 
-// How many numbers two, four and six bytes have.
-const TWO: u64 = fields::TWO_BYTES;
-
-const FOUR: u64 = TWO * TWO;
-
-const SIX: u64 = TWO * FOUR;
-
-// The bytes of a join's field.
-fn join_size(via: Via) -> usize
-    ensures { result ≡ field_size (tag_of (s_join (via_said via))) }
-{
-    match via {
-        Via::Any => OPERATOR_BYTES,
-        Via::Through(_) => THROUGH_BYTES,
-    }
-}
-
 // The bytes of a symbol's field.
+#[tactic(auto, unfolding(crate::specs::Size::symbol_size, fields::specs::Table::field_size, fields::specs::Table::tag_length, fields::specs::Table::rows))]
 pub fn symbol_size(number: u8) -> usize
     ensures { (result ≡ symbol_size number) × (result ≤ 11) }
 {
     match symbols::decode(number, 0) {
         Symbol::Step(_, _) => STEP_BYTES,
-        Symbol::Join(via) => join_size(via),
-        Symbol::Op(_) => OPERATOR_BYTES,
-        Symbol::Closure => OPERATOR_BYTES,
+        Symbol::Join(Via::Through(_)) => THROUGH_BYTES,
+        Symbol::Join(Via::Any) | Symbol::Op(_) | Symbol::Closure => OPERATOR_BYTES,
     }
+}
+
+// Puts bytes from a place on; the place after them.
+pub fn put_bytes(out: &mut [u8], at: usize, bytes: &[u8]) -> usize
+    requires { at + length bytes.now ≤ length out.old }
+    ensures { BytesWritten out.old out.new at result bytes.now }
+{
+    let next = at + bytes.len();
+    out[at..next].copy_from_slice(bytes);
+    next
 }
 
 pub fn put_byte(out: &mut [u8], at: usize, b: u8) -> usize
@@ -68,37 +60,21 @@ pub fn put_byte(out: &mut [u8], at: usize, b: u8) -> usize
     at + 1
 }
 
-fn low(n: u16) -> u8
-    requires { n < 256 }
-    ensures { result ≡ n }
-{
-    n as u8
-}
-
-fn short(n: u64) -> u16
-    requires { n < 65536 }
-    ensures { result ≡ n }
-{
-    n as u16
-}
-
 // Two bytes, the high one first.
+#[tactic(auto, using(crate::proofs::Bytes::two_is))]
 fn put_two(out: &mut [u8], at: usize, n: u16) -> usize
     requires { at + 2 ≤ length out.old }
     ensures { BytesWritten out.old out.new at result (two_bytes n) }
 {
-    let a = put_byte(out, at, low(n / fields::BYTE));
-    put_byte(out, a, low(n % fields::BYTE))
+    put_bytes(out, at, &n.to_be_bytes())
 }
 
+#[tactic(auto, using(crate::proofs::Bytes::eight_is))]
 fn put_eight(out: &mut [u8], at: usize, n: u64) -> usize
     requires { at + 8 ≤ length out.old }
     ensures { BytesWritten out.old out.new at result (eight_bytes n) }
 {
-    let a = put_two(out, at, short(n / SIX));
-    let b = put_two(out, a, short(n / FOUR % TWO));
-    let c = put_two(out, b, short(n / TWO % TWO));
-    put_two(out, c, short(n % TWO))
+    put_bytes(out, at, &n.to_be_bytes())
 }
 
 // A field's tag and the length of its body.
@@ -136,7 +112,7 @@ fn put_step(out: &mut [u8], at: usize, direction: Direction, link: Link) -> usiz
     ensures { BytesWritten out.old out.new at result (field_bytes 0x43 (direction_number (direction_said direction) ∷ link.0 ∷ [])) }
 {
     let a = put_head(out, at, fields::STEP_TAG, fields::STEP_LENGTH);
-    let b = put_byte(out, a, symbols::direction_number(direction));
+    let b = put_byte(out, a, u8::from(direction));
     put_byte(out, b, link.0)
 }
 
@@ -158,17 +134,6 @@ fn put_through(out: &mut [u8], at: usize, set: u64) -> usize
     put_eight(out, a, set)
 }
 
-// A join, of that number.
-fn put_join(out: &mut [u8], at: usize, number: u8, via: Via) -> usize
-    requires { at + field_size (tag_of (s_join (via_said via))) ≤ length out.old }
-    ensures { BytesWritten out.old out.new at result (field_bytes (tag_of (s_join (via_said via))) (body_of number (s_join (via_said via)))) }
-{
-    match via {
-        Via::Any => put_operator(out, at, number),
-        Via::Through(set) => put_through(out, at, set),
-    }
-}
-
 // A symbol, by its number.
 fn put_symbol(out: &mut [u8], at: usize, number: u8, set: u64) -> usize
     requires { at + length (symbol_bytes (symbol_given number set)) ≤ length out.old }
@@ -176,13 +141,13 @@ fn put_symbol(out: &mut [u8], at: usize, number: u8, set: u64) -> usize
 {
     match symbols::decode(number, set) {
         Symbol::Step(direction, link) => put_step(out, at, direction, link),
-        Symbol::Join(via) => put_join(out, at, number, via),
-        Symbol::Op(_) => put_operator(out, at, number),
-        Symbol::Closure => put_operator(out, at, number),
+        Symbol::Join(Via::Through(set)) => put_through(out, at, set),
+        Symbol::Join(Via::Any) | Symbol::Op(_) | Symbol::Closure => put_operator(out, at, number),
     }
 }
 
 // n symbols from the k-th on.
+#[tactic(auto, using(crate::proofs::Symbols::symbols_start, crate::proofs::Symbols::symbols_next, crate::proofs::Symbols::symbols_end, crate::proofs::Along::along_length))]
 pub fn put_symbols(
     out: &mut [u8],
     at: usize,
@@ -195,12 +160,8 @@ pub fn put_symbols(
     ensures { BytesWritten out.old out.new at result (symbols_bytes (symbols_given numbers.now sets.now n k)) }
 {
     let mut a = at;
-    let mut j = k;
-    let mut left = n;
-    while 0 < left {
-        a = put_symbol(out, a, numbers[j], sets[j]);
-        j += 1;
-        left -= 1;
+    for i in k..k + usize::from(n) {
+        a = put_symbol(out, a, numbers[i], sets[i]);
     }
     a
 }
@@ -224,24 +185,17 @@ pub fn put_member(
 }
 
 // The file of the members, from the area's start on; the number of its bytes.
-pub fn put_members(q: Members, out: &mut [u8]) -> usize
-    requires { Few q × (length (encode (given q)) ≤ length out.old) }
-    ensures { (out.new ≡ sets out.old 0 (encode (given q))) × (result ≡ length (encode (given q))) }
+#[tactic(auto, using(crate::proofs::Members::placed_small, crate::proofs::Members::placed_next, crate::proofs::Along::wrote_length, crate::proofs::Along::along_length))]
+pub fn put_members(q: &Members, out: &mut [u8]) -> usize
+    requires { Few q.now × (length (encode (given q.now)) ≤ length out.old) }
+    ensures { (out.new ≡ sets out.old 0 (encode (given q.now))) × (result ≡ length (encode (given q.now))) }
 {
-    let count = q.count;
-    let sizes = q.sizes;
-    let from = q.from;
-    let to = q.to;
-    let numbers = q.numbers;
-    let sets = q.sets;
-    let mut a = put_count(out, 0, count as u16);
-    let mut i = 0;
+    let mut a = put_count(out, 0, q.count as u16);
     let mut k = 0;
-    while i < count {
-        let n = sizes[i];
-        a = put_member(out, a, &numbers, &sets, k, n, from[i], to[i]);
-        k += n as usize;
-        i += 1;
+    for i in 0..q.count {
+        let n = q.sizes[i];
+        a = put_member(out, a, &q.numbers, &q.sets, k, n, q.from[i], q.to[i]);
+        k += usize::from(n);
     }
     a
 }

@@ -4,7 +4,7 @@ use Prim.Native.Nat.{ℕ, ◌+◌, ◌<◌, ◌≤◌}
 use mathlib.Core.Path.{◌≡◌, refl, ap, ◌∙◌, sym, subst}
 use mathlib.Core.Bool.{Bool, true, false, false≢true, cond}
 use mathlib.Core.List.{List, [], ◌∷◌, ◌++◌}
-use lib.ListN.{length, get_or, take, drop, length-append}
+use lib.ListN.{length, get_or, length-append}
 use lib.Dec.{eqb}
 use native.Mathlib.Omega.{arith}
 use borrow.Author.Tests.{eqb-true, eqb-false}
@@ -12,12 +12,13 @@ use Rattle.theory.specs.PathExpr.{before?}
 use Rattle.fields.specs.declared.File.TheVariants as file
 use Rattle.theory.specs.Result.{Result, got, refused, onward}
 use Rattle.fields.specs.Table.{rows, rows_of, tag_length}
-use Rattle.fields.specs.Reading.{ends, wrong, body, field_at, due_rows, kept, read}
+use Rattle.fields.specs.declared.Found.{Found}
+use Rattle.fields.specs.Reading.{ends, wrong, field_at, due_rows, kept, read}
 use Rattle.symbols.specs.Symbols.{Numbered, arity}
-use Rattle.fields.proofs.Fields.{found, found_one, body_length, ended}
+use Rattle.fields.proofs.Fields.{Handed, found, found_one, ended}
 use Rattle.symbols.proofs.InPath.{in_path}
 use Rattle.symbols.proofs.Symbols.{push_got}
-use Rattle.fields.proofs.ReaderLoop.{Going, going_start, going_ends, going_wrong, going_refused, going_more}
+use Rattle.fields.proofs.ReaderLoop.{Going, going_start, going_ends, going_wrong, handed_refused, handed_more}
 use Rattle.narrowed_question.specs.declared.Standing.{Standing}
 use Rattle.narrowed_question.specs.declared.Standing.TheVariants.{Head, Between, Within}
 use Rattle.narrowed_question.specs.Form.{Flat, flat, order_codes, nothing, opens, symbol, last, due, judge, Gathered, gathered, narrowed_format, narrowed_form}
@@ -54,16 +55,16 @@ Shut st = (v : ℕ) → open_list st v ≡ []
 abbrev pub Opened : Standing → Type 0
 Opened st = (v : ℕ) → open_list st v ≡ v ∷ []
 
--- a field that was found is ready to be judged
-pub field_ready : (s : List ℕ) (at u m : ℕ) (st : Standing) → Able st → field_at (due st) s at ≡ body u m → BodyReady st u (length (take m (drop (at + 3) s)))
+-- a field that was handed out is ready to be judged
+pub field_ready : (s : List ℕ) (at : ℕ) (fd : Found) (st : Standing) → Able st → Handed (due st) s at fd → BodyReady st fd.tag (length fd.body.now)
 unfolding due_rows rows_of rows tag_length
-field_ready s at u m Head r e = let g = found (due Head) s at u m e in body_length g ∙ (found_one file.Narrowed (0x41 ∷ []) false false g).1.1
-field_ready s at u m (Between l) r e =
-    let g = found (due (Between l)) s at u m e in
+field_ready s at fd Head r h = let g = found (due Head) s at _ _ h.seen in (found_one file.Narrowed (0x41 ∷ []) false false g).1.1
+field_ready s at fd (Between l) r h =
+    let g = found (due (Between l)) s at _ _ h.seen in
     let (left, o) = found_one file.Narrowed (0x42 ∷ []) (eqb l 0) (eqb l 0) g in
-    let h : l ≡ 0 → ⊥ = eqb-false l 0 left in
-    (body_length g ∙ o.1, omega arith)
-field_ready s at u m (Within l p q) r e = let g = in_path file.Narrowed q s at u m e in (g.long, (g.some, r))
+    let z : l ≡ 0 → ⊥ = eqb-false l 0 left in
+    (o.1, omega arith)
+field_ready s at fd (Within l p q) r h = let g = in_path file.Narrowed q s at _ _ h.seen in (ap length h.body_is ∙ g.long, (g.some, r))
 
 module _ (s : List ℕ) (at : ℕ) (P : List ℕ) (ms : List Flat) (f t : ℕ) (xs : List Numbered) where
   pub tracks_able : (st : Standing) → Tracks s st at P ms f t xs → Able st
@@ -81,63 +82,64 @@ module _ (s : List ℕ) (at : ℕ) (P : List ℕ) (ms : List Flat) (f t : ℕ) (
   pub tracks_wrong : (st : Standing) → Tracks s st at P ms f t xs → (i j : ℕ) → field_at (due st) s at ≡ wrong i j → read narrowed_form s ≡ refused i j
   tracks_wrong st r i j e = going_wrong narrowed_form s _ _ at r.going i j e
 
-  module _ (u m : ℕ) where
+  -- a field that was handed out, and what it was judged to be
+  module _ (fd : Found) where
     abbrev B : List ℕ
-    B = take m (drop (at + 3) s)
+    B = fd.body.now
 
     abbrev N : ℕ
-    N = at + 3 + m
+    N = fd.next
 
-    pub tracks_stop : (st : Standing) → Tracks s st at P ms f t xs → field_at (due st) s at ≡ body u m → (i j : ℕ) → judge st at N u B ≡ refused i j → read narrowed_form s ≡ refused i j
-    tracks_stop st r e i j h = going_refused narrowed_form s _ _ at r.going u m e i j (ap (kept narrowed_format (gathered P ms f t xs)) h)
+    pub tracks_stop : (st : Standing) → Tracks s st at P ms f t xs → Handed (due st) s at fd → (i j : ℕ) → judge st fd.at N fd.tag B ≡ refused i j → read narrowed_form s ≡ refused i j
+    tracks_stop st r e i j h = handed_refused narrowed_form s _ _ at r.going e i j (ap (kept narrowed_format (gathered P ms f t xs)) h)
 
     -- 41 goes on
-    pub tracks_go : (st : Standing) → Tracks s st at P ms f t xs → field_at (due st) s at ≡ body u m → (st' : Standing) → judge st at N u B ≡ got (st', nothing)
+    pub tracks_go : (st : Standing) → Tracks s st at P ms f t xs → Handed (due st) s at fd → (st' : Standing) → judge st fd.at N fd.tag B ≡ got (st', nothing)
         → Shut st × Tracks s st' N P ms f t xs × Shut st'
     tracks_go Head r e st' h =
-        let (w, _, few) = count_got at B (st', nothing) h in
+        let (w, _, few) = count_got fd.at B (st', nothing) h in
         let d = r.holds in (
           λ v. refl,
           record {
-            going = going_more narrowed_form s _ _ at r.going u m e (st', gathered P ms f t xs) (ap (kept narrowed_format (gathered P ms f t xs)) h);
+            going = handed_more narrowed_form s _ _ at r.going e (st', gathered P ms f t xs) (ap (kept narrowed_format (gathered P ms f t xs)) h);
             holds = subst (λ (x : Standing). Holds x P ms xs) w (omega (arith, ap length d.1, few), d.2);
           },
           subst Shut w (λ v. refl),
         )
-    tracks_go (Between l) r e st' h = let i = (open_got l at B (st', nothing) h).1 in let z : ◌≡◌ {A = ℕ} 0 1 = cc i in absurd (omega arith)
-    tracks_go (Within l p q) r e st' h = let y = symbol_got l p q at N u B (st', nothing) h in absurd (grown_not_nothing l p y.x y.q' st' y.grown_is)
+    tracks_go (Between l) r e st' h = let i = (open_got l fd.at B (st', nothing) h).1 in let z : ◌≡◌ {A = ℕ} 0 1 = cc i in absurd (omega arith)
+    tracks_go (Within l p q) r e st' h = let y = symbol_got l p q fd.at N fd.tag B (st', nothing) h in absurd (grown_not_nothing l p y.x y.q' st' y.grown_is)
 
     -- 42 opens a member
-    pub tracks_open : (st : Standing) → Tracks s st at P ms f t xs → field_at (due st) s at ≡ body u m → (n f' t' : ℕ) (st' : Standing)
-        → judge st at N u B ≡ got (st', opens n f' t') → (length ms < 128) × (xs ≡ []) × Shut st × Tracks s st' N P ms f' t' [] × (total st' [] ≡ n) × Opened st'
-    tracks_open Head r e n f' t' st' h = let i = (count_got at B (st', opens n f' t') h).1 in let z : ◌≡◌ {A = ℕ} 0 1 = cc i in absurd (omega arith)
+    pub tracks_open : (st : Standing) → Tracks s st at P ms f t xs → Handed (due st) s at fd → (n f' t' : ℕ) (st' : Standing)
+        → judge st fd.at N fd.tag B ≡ got (st', opens n f' t') → (length ms < 128) × (xs ≡ []) × Shut st × Tracks s st' N P ms f' t' [] × (total st' [] ≡ n) × Opened st'
+    tracks_open Head r e n f' t' st' h = let i = (count_got fd.at B (st', opens n f' t') h).1 in let z : ◌≡◌ {A = ℕ} 0 1 = cc i in absurd (omega arith)
     tracks_open (Between l) r e n f' t' st' h =
-        let (w, i, lo, hi) = open_got l at B (st', opens n f' t') h in
+        let (w, i, lo, hi) = open_got l fd.at B (st', opens n f' t') h in
         let hn : get_or B 0 0 ≡ n = cc i in
-        let y = field_ready s at u m (Between l) tt e in
+        let y = field_ready s at fd (Between l) tt e in
         let d = r.holds in (
           omega (arith, d.0, y.1),
           d.1,
           λ v. refl,
           record {
-            going = going_more narrowed_form s _ _ at r.going u m e (st', gathered P ms f' t' []) (ap (kept narrowed_format (gathered P ms f t xs)) h);
+            going = handed_more narrowed_form s _ _ at r.going e (st', gathered P ms f' t' []) (ap (kept narrowed_format (gathered P ms f t xs)) h);
             holds = subst (λ (x : Standing). Holds x P ms []) w (omega (arith, d.0, y.1), omega (arith, hi), omega arith, lo);
           },
           sym (ap (λ (x : Standing). total x []) w) ∙ omega (arith, hn),
           subst Opened w (λ v. refl),
         )
-    tracks_open (Within l p q) r e n f' t' st' h = let y = symbol_got l p q at N u B (st', opens n f' t') h in absurd (grown_not_opens l p y.x y.q' st' n f' t' y.grown_is)
+    tracks_open (Within l p q) r e n f' t' st' h = let y = symbol_got l p q fd.at N fd.tag B (st', opens n f' t') h in absurd (grown_not_opens l p y.x y.q' st' n f' t' y.grown_is)
 
     -- a symbol more
-    pub tracks_more : (st : Standing) → Tracks s st at P ms f t xs → field_at (due st) s at ≡ body u m → (x : Numbered) (st' : Standing)
-        → judge st at N u B ≡ got (st', symbol x)
+    pub tracks_more : (st : Standing) → Tracks s st at P ms f t xs → Handed (due st) s at fd → (x : Numbered) (st' : Standing)
+        → judge st fd.at N fd.tag B ≡ got (st', symbol x)
         → (length ms < 128) × (length xs < 48) × Tracks s st' N P ms f t (xs ++ (x ∷ [])) × (total st' (xs ++ (x ∷ [])) ≡ total st xs) × Opened st × Opened st'
-    tracks_more Head r e x st' h = let i = (count_got at B (st', symbol x) h).1 in let z : ◌≡◌ {A = ℕ} 0 1 = cc i in absurd (omega arith)
-    tracks_more (Between l) r e x st' h = let i = (open_got l at B (st', symbol x) h).1 in let z : ◌≡◌ {A = ℕ} 0 1 = cc i in absurd (omega arith)
+    tracks_more Head r e x st' h = let i = (count_got fd.at B (st', symbol x) h).1 in let z : ◌≡◌ {A = ℕ} 0 1 = cc i in absurd (omega arith)
+    tracks_more (Between l) r e x st' h = let i = (open_got l fd.at B (st', symbol x) h).1 in let z : ◌≡◌ {A = ℕ} 0 1 = cc i in absurd (omega arith)
     tracks_more (Within l p q) r e x st' h =
-        let y = symbol_got l p q at N u B (st', symbol x) h in
+        let y = symbol_got l p q fd.at N fd.tag B (st', symbol x) h in
         let (z, w, _) = grown_more l p y.x y.q' st' x y.grown_is in
-        let (pl, pd) = push_got q at N (arity y.x.number) y.q' y.push_is in
+        let (pl, pd) = push_got q fd.at N (arity y.x.number) y.q' y.push_is in
         let d = r.holds in
         let zs = xs ++ (x ∷ []) in
         let ln = length-append xs (x ∷ []) in
@@ -145,7 +147,7 @@ module _ (s : List ℕ) (at : ℕ) (P : List ℕ) (ms : List Flat) (f t : ℕ) (
           omega (arith, d.0),
           omega (arith, d.1, d.3),
           record {
-            going = going_more narrowed_form s _ _ at r.going u m e (st', gathered P ms f t zs) (ap (kept narrowed_format (gathered P ms f t xs)) h);
+            going = handed_more narrowed_form s _ _ at r.going e (st', gathered P ms f t zs) (ap (kept narrowed_format (gathered P ms f t xs)) h);
             holds = subst (λ (v : Standing). Holds v P ms zs) w (d.0, omega (arith, d.1, d.3, pl), omega (arith, d.2, pd), omega (arith, z));
           },
           sym (ap (λ (v : Standing). total v zs) w) ∙ same,
@@ -153,24 +155,31 @@ module _ (s : List ℕ) (at : ℕ) (P : List ℕ) (ms : List Flat) (f t : ℕ) (
           subst Opened w (λ v. refl),
         )
 
-    -- a member's last symbol
+    -- a member's last symbol leads to before the next
+    pub last_between : (st : Standing) (x : Numbered) (st' : Standing) (p : ℕ) → judge st fd.at N fd.tag B ≡ got (st', last x p) → (l : ℕ) × (Between l ≡ st')
+    last_between Head x st' p h = let i = (count_got fd.at B (st', last x p) h).1 in let z : ◌≡◌ {A = ℕ} 0 1 = cc i in absurd (omega arith)
+    last_between (Between l') x st' p h = let i = (open_got l' fd.at B (st', last x p) h).1 in let z : ◌≡◌ {A = ℕ} 0 1 = cc i in absurd (omega arith)
+    last_between (Within l' p' q) x st' p h =
+        let y = symbol_got l' p' q fd.at N fd.tag B (st', last x p) h in
+        (l', (grown_last l' p' y.x y.q' st' x p y.grown_is).1)
+
     module _ (x : Numbered) (l p : ℕ) where
       abbrev full : List Numbered
       full = xs ++ (x ∷ [])
 
-      fits : (st : Standing) → Tracks s st at P ms f t xs → judge st at N u B ≡ got (Between l, last x p)
+      fits : (st : Standing) → Tracks s st at P ms f t xs → judge st fd.at N fd.tag B ≡ got (Between l, last x p)
           → (length xs < 48) × (length ms + l < 128) × (total st xs ≡ length xs + 1) × Opened st
-      fits Head r h = let i = (count_got at B (Between l, last x p) h).1 in let z : ◌≡◌ {A = ℕ} 0 1 = cc i in absurd (omega arith)
-      fits (Between l') r h = let i = (open_got l' at B (Between l, last x p) h).1 in let z : ◌≡◌ {A = ℕ} 0 1 = cc i in absurd (omega arith)
+      fits Head r h = let i = (count_got fd.at B (Between l, last x p) h).1 in let z : ◌≡◌ {A = ℕ} 0 1 = cc i in absurd (omega arith)
+      fits (Between l') r h = let i = (open_got l' fd.at B (Between l, last x p) h).1 in let z : ◌≡◌ {A = ℕ} 0 1 = cc i in absurd (omega arith)
       fits (Within l' p' q) r h =
-          let y = symbol_got l' p' q at N u B (Between l, last x p) h in
+          let y = symbol_got l' p' q fd.at N fd.tag B (Between l, last x p) h in
           let (z, w, _, _) = grown_last l' p' y.x y.q' (Between l) x p y.grown_is in
           let k : l' ≡ l = cc w in
-          let (pl, pd) = push_got q at N (arity y.x.number) y.q' y.push_is in
+          let (pl, pd) = push_got q fd.at N (arity y.x.number) y.q' y.push_is in
           let d = r.holds in
           (omega (arith, d.1, d.3), omega (arith, d.0, k), omega (arith, d.3, pl, z), λ v. refl)
 
-      module _ (st : Standing) (r : Tracks s st at P ms f t xs) (e : field_at (due st) s at ≡ body u m) (h : judge st at N u B ≡ got (Between l, last x p)) where
+      module _ (st : Standing) (r : Tracks s st at P ms f t xs) (e : Handed (due st) s at fd) (h : judge st fd.at N fd.tag B ≡ got (Between l, last x p)) where
         pub last_few : length xs < 48
         last_few = (fits st r h).0
 
@@ -187,16 +196,16 @@ module _ (s : List ℕ) (at : ℕ) (P : List ℕ) (ms : List Flat) (f t : ℕ) (
         abbrev ordered : Bool → Result (Standing × Gathered)
         ordered b = onward (λ (g : Gathered). got (Between l, g)) (cond b (got (gathered (order_codes full) (ms ++ (flat f t full ∷ [])) 0 0 [])) (refused 4 p))
 
-        judged_last : narrowed_form.judge (st, gathered P ms f t xs) at N u B ≡ ordered (before? P (order_codes full))
+        judged_last : narrowed_form.judge (st, gathered P ms f t xs) fd.at N fd.tag B ≡ ordered (before? P (order_codes full))
         judged_last = ap (kept narrowed_format (gathered P ms f t xs)) h
 
         pub tracks_order : before? P (order_codes full) ≡ false → read narrowed_form s ≡ refused 4 p
-        tracks_order b = going_refused narrowed_form s _ _ at r.going u m e 4 p (judged_last ∙ ap ordered b)
+        tracks_order b = handed_refused narrowed_form s _ _ at r.going e 4 p (judged_last ∙ ap ordered b)
 
         pub tracks_done : before? P (order_codes full) ≡ true → Tracks s (Between l) N (order_codes full) (ms ++ (flat f t full ∷ [])) 0 0 []
         tracks_done b =
             let g = fits st r h in
             record {
-              going = going_more narrowed_form s _ _ at r.going u m e (Between l, gathered (order_codes full) (ms ++ (flat f t full ∷ [])) 0 0 []) (judged_last ∙ ap ordered b);
+              going = handed_more narrowed_form s _ _ at r.going e (Between l, gathered (order_codes full) (ms ++ (flat f t full ∷ [])) 0 0 []) (judged_last ∙ ap ordered b);
               holds = (omega (arith, g.1, length-append ms (flat f t full ∷ [])), refl);
             }

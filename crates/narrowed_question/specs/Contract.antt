@@ -1,13 +1,13 @@
 -- What the code says of the reading of a narrowed question, and how it hands on the members.
 -- Assumes nothing.
-use Rattle.std.specs.Prelude.{◌≡◌, List, [], map, ℕ, ◌-◌, length, take, drop, replicate}
+use Rattle.std.specs.Prelude as std
+use Rattle.std.specs.Prelude.{◌≡◌, List, [], map, ℕ, ◌-◌, length, take, drop, Ok, Err, IfOk, MatchResult}
 use Rattle.theory.specs.Lists.{concat_map}
 use Rattle.theory.specs.Result.{Result, got, refused, onward}
-use Rattle.fields.specs.Contract.{refusal_said}
+use Rattle.fields.specs.declared.Refusal.{Refusal}
+use Rattle.fields.specs.Contract.{read_said}
 use Rattle.symbols.specs.Symbols.{order_code}
 use Rattle.narrowed_question.specs.declared.Members.{Members}
-use Rattle.narrowed_question.specs.declared.Outcome.{Outcome}
-use Rattle.narrowed_question.specs.declared.Outcome.TheVariants.{Accepted, Refused}
 use Rattle.fields.specs.Padded.{padded}
 use Rattle.narrowed_question.specs.Form.{Flat, numbers, set_numbers}
 
@@ -36,11 +36,7 @@ pub record Packed (ms : List Flat) (q : Members) : Type 0 where
   pub numbers : q.numbers ≡ padded 6144 (numbers_of ms)
   pub sets : q.sets ≡ padded 6144 (sets_of ms)
 
--- ---- the outcome
-abbrev pub outcome_said : Outcome → Result ℕ
-outcome_said (Accepted n) = got n
-outcome_said (Refused r) = refusal_said r
-
+-- ---- what the code's results say
 abbrev pub counted : Result (List Flat) → Result ℕ
 counted a = onward (λ ms. got (length ms)) a
 
@@ -49,26 +45,20 @@ abbrev pub members_in : Result (List Flat) → List Flat
 members_in (got ms) = ms
 members_in (refused n p) = []
 
-pub record ReadsNarrowed (a : Result (List Flat)) (o : Outcome) (q : Members) : Type 0 where
-  pub outcome : outcome_said o ≡ counted a
-  pub members : Packed (members_in a) q
+-- by value: where the file is refused none is handed out
+pub record ReadsNarrowed (a : Result (List Flat)) (r : std.Result Members Refusal) : Type 0 where
+  pub outcome : read_said (λ q. q.count) r ≡ counted a
+  pub members : IfOk r (Packed (members_in a))
 
--- ---- the same, into arrays that are lent
-abbrev pub arrays : ℕ → List ℕ → List ℕ → List ℕ → List ℕ → List ℕ → Members
-arrays count sizes from to numbers sets = record { count = count; sizes = sizes; from = from; to = to; numbers = numbers; sets = sets }
+-- ---- the same, into a struct that is lent
+-- as it starts: no members
+abbrev pub Blank : Members → Type 0
+Blank q = Packed [] q
 
--- as they start
-pub record Blank (a b c n m : List ℕ) : Type 0 where
-  pub sizes : a ≡ replicate 128 0
-  pub from : b ≡ replicate 128 0
-  pub to : c ≡ replicate 128 0
-  pub numbers : n ≡ replicate 6144 0
-  pub sets : m ≡ replicate 6144 0
-
--- the members of an accepted file; of a refused one nothing is said
-pub record ReadsInto (a : Result (List Flat)) (o : Outcome) (sizes from to numbers sets : List ℕ) : Type 0 where
-  pub outcome : outcome_said o ≡ counted a
-  pub members : (n : ℕ) → o ≡ Accepted n → Packed (members_in a) (arrays n sizes from to numbers sets)
+-- the members of an accepted file; of a refused one it counts none, and of its arrays nothing is said
+pub record ReadsInto (a : Result (List Flat)) (r : std.Result (Unit {0}) Refusal) (q : Members) : Type 0 where
+  pub outcome : read_said (λ u. q.count) r ≡ counted a
+  pub members : MatchResult r (λ u. Packed (members_in a) q) (λ e. q.count ≡ 0)
 
 -- the codes of the symbols from a to b
 abbrev pub segment_codes : List ℕ → ℕ → ℕ → List ℕ

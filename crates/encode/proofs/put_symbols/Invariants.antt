@@ -2,8 +2,5 @@
 use Rattle.encode.proofs.Symbols.{Symbols}
 use Rattle.encode.proofs.put_symbols.Given as goal
 
-abbrev pub invariant-loop-left : goal.invariant-loop-left
-invariant-loop-left l = Symbols l.initial.out l.at l.numbers l.sets l.k l.n l.out l.a l.j l.left
-
-abbrev pub decreases-loop-left : goal.decreases-loop-left
-decreases-loop-left l = l.left
+abbrev pub invariant-loop-i : goal.invariant-loop-i
+invariant-loop-i l = Symbols l.initial.out l.at l.numbers l.sets l.k l.n l.out l.a l.i

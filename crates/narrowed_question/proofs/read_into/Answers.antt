@@ -1,174 +1,198 @@
 -- `narrowed_question::read_into` meets its contract: at each field the arrays hold the members read so far.
 -- Assumes nothing.
-use mathlib.Core.Path.{◌∙◌, ap, sym, subst}
-use Rattle.narrowed_question.specs.declared.Marks.{Marks}
-use Rattle.narrowed_question.specs.Internal.{turn_said}
-use Rattle.narrowed_question.proofs.Loop.{At, at_start, blank_long, reading_able, into_refused, turn_ends, turn_stop, turn_room}
-use Rattle.narrowed_question.proofs.Loop.{turn_go, turn_open, turn_more, turn_last, turn_order, at_open, at_more, at_close}
+use mathlib.Core.Path.{◌≡◌, ◌∙◌, ap, sym}
+use Rattle.std.specs.Prelude.{Ok}
+use Rattle.std.proofs.lemmas.Result.{err_from_is_err_and}
+use Rattle.fields.proofs.Fields.{Handed}
+use Rattle.field_reader.specs.Reader.{next_place}
+use Rattle.narrowed_question.specs.Form.{due}
+use Rattle.narrowed_question.proofs.Tracks.{field_ready}
+use Rattle.narrowed_question.proofs.Loop.{reading_start, reading_able, into_refused, seen_there, handed_there, none_left, item_is}
+use Rattle.narrowed_question.proofs.Loop.{reading_ends, reading_wrong, reading_stop, reading_go, reading_open, reading_more, reading_order, reading_last}
+use Rattle.narrowed_question.proofs.Loop.{last_room, last_done, last_ordered}
 use native.Mathlib.Omega.{arith}
 use Rattle.narrowed_question.proofs.read_into.Goals as goal
+use Rattle.narrowed_question.proofs.read_into.Goals.{In-Some}
 
-pub loop-r-init : goal.loop-r-init
-loop-r-init c = subst (At _ _ _ _ _ _) (sym c.start-k.ensures) (at_start _ c.requires)
+-- the field that was handed out, and where the reader then stands
+there : (c : In-Some) → Handed (due c.loop-f.st) c.args.s.now c.loop-f.reader.at c.in-Some.f × (c.next.new.self.at ≡ c.in-Some.f.next) × (c.next.new.self.src.now ≡ c.args.s.now)
+there c =
+    let u = c.in_ok-f.was ∙ ap Ok c.in-Some.is in (
+      handed_there _ _ c.loop-f.reader c.loop-f.invariant.2 c.due.ensures c.next.ensures.said c.next.ensures.part u,
+      c.next.ensures.place ∙ ap (next_place c.loop-f.reader.at) u,
+      ap (λ b. b.now) c.next.ensures.file ∙ c.loop-f.invariant.2,
+    )
 
-pub look-requires : goal.look-requires
-look-requires c = reading_able c.loop-r.invariant.0
+pub loop-f-init : goal.loop-f-init
+loop-f-init c = (rw c.new-reader.ensures.1 (reading_start _ c.requires), c.requires.count, ap (λ b. b.now) c.new-reader.ensures.0)
 
-pub shape_of-sizes-in-Ends : goal.shape_of-sizes-in-Ends
-shape_of-sizes-in-Ends c = c.loop-r.invariant.1.0 ∙ sym (blank_long c.requires).0
+pub returns-in_err-f : goal.returns-in_err-f
+returns-in_err-f c =
+    let r = c.loop-f.invariant in
+    let p = err_from_is_err_and c.from_residual.result c.from_residual.ensures.1 in
+    rw (p.1, p.2) (into_refused r.1 (reading_wrong r.0 _ _ (seen_there _ _ c.loop-f.reader r.2 c.due.ensures c.next.ensures.said c.in_err-f.was)))
 
-pub shape_of-from-in-Ends : goal.shape_of-from-in-Ends
-shape_of-from-in-Ends c = c.loop-r.invariant.1.1 ∙ sym (blank_long c.requires).1
+pub judge-requires : goal.judge-requires
+judge-requires c = field_ready _ _ _ _ (reading_able c.loop-f.invariant.0).0 (there (goal.at.judge-requires c).In-Some).0
 
-pub shape_of-to-in-Ends : goal.shape_of-to-in-Ends
-shape_of-to-in-Ends c = c.loop-r.invariant.1.2 ∙ sym (blank_long c.requires).2
+pub returns-in_err-next : goal.returns-in_err-next
+returns-in_err-next c =
+    let r = c.loop-f.invariant in
+    let h = (there (goal.at.returns-in_err-next c).In-Some).0 in
+    let p = err_from_is_err_and c.from_residual-in_err-next.result c.from_residual-in_err-next.ensures.1 in
+    rw (p.1, p.2) (into_refused r.1 (reading_stop r.0 _ h _ _ (sym c.in_err-next.ensures)))
 
-pub shape_of-numbers-in-Ends : goal.shape_of-numbers-in-Ends
-shape_of-numbers-in-Ends c = c.loop-r.invariant.1.3 ∙ sym (blank_long c.requires).3
+pub loop-f-smaller-in-Nothing : goal.loop-f-smaller-in-Nothing
+loop-f-smaller-in-Nothing c =
+    let h = there (goal.at.loop-f-smaller-in-Nothing c).In-Some in
+    let next = h.0.next in
+    let room = h.0.room in
+    omega (arith, h.1)
 
-pub shape_of-sets-in-Ends : goal.shape_of-sets-in-Ends
-shape_of-sets-in-Ends c = c.loop-r.invariant.1.4 ∙ sym (blank_long c.requires).4
-
-pub returns-in-Ends : goal.returns-in-Ends
-returns-in-Ends c = turn_ends c.loop-r.invariant.0 (sym c.look.ensures ∙ ap turn_said c.in-Ends.is)
-
-pub shape_of-sizes-in-Stop : goal.shape_of-sizes-in-Stop
-shape_of-sizes-in-Stop c = c.loop-r.invariant.1.0 ∙ sym (blank_long c.requires).0
-
-pub shape_of-from-in-Stop : goal.shape_of-from-in-Stop
-shape_of-from-in-Stop c = c.loop-r.invariant.1.1 ∙ sym (blank_long c.requires).1
-
-pub shape_of-to-in-Stop : goal.shape_of-to-in-Stop
-shape_of-to-in-Stop c = c.loop-r.invariant.1.2 ∙ sym (blank_long c.requires).2
-
-pub shape_of-numbers-in-Stop : goal.shape_of-numbers-in-Stop
-shape_of-numbers-in-Stop c = c.loop-r.invariant.1.3 ∙ sym (blank_long c.requires).3
-
-pub shape_of-sets-in-Stop : goal.shape_of-sets-in-Stop
-shape_of-sets-in-Stop c = c.loop-r.invariant.1.4 ∙ sym (blank_long c.requires).4
-
-pub returns-in-Stop : goal.returns-in-Stop
-returns-in-Stop c = into_refused (turn_stop c.loop-r.invariant.0 _ _ (sym c.look.ensures ∙ ap turn_said c.in-Stop.is))
-
-pub next_at-requires : goal.next_at-requires
-next_at-requires c = turn_room _ _ _ _ (sym c.look.ensures ∙ ap turn_said c.in-Go.is)
-
-pub loop-r-smaller-in-Go : goal.loop-r-smaller-in-Go
-loop-r-smaller-in-Go c =
-    let p = ap (λ (k : Marks). k.at) c.past-k.ensures in
-    let q = c.next_at.ensures in
-    let h = turn_room _ _ _ _ (sym c.look.ensures ∙ ap turn_said c.in-Go.is) in
-    omega arith
-
-pub loop-r-preserved-in-Go : goal.loop-r-preserved-in-Go
-loop-r-preserved-in-Go c =
-    let l = c.loop-r in
-    subst (At _ _ _ _ _ _) (sym c.past-k.ensures) (rw c.next_at.ensures (turn_go l.invariant.0 _ (sym c.look.ensures ∙ ap turn_said c.in-Go.is), l.invariant.1))
+pub loop-f-preserved-in-Nothing : goal.loop-f-preserved-in-Nothing
+loop-f-preserved-in-Nothing c =
+    let r = c.loop-f.invariant in
+    let h = there (goal.at.loop-f-preserved-in-Nothing c).In-Some in
+    let j = item_is c.in_ok-next.ensures c.in-Nothing.is in
+    rw h.1 (reading_go r.0 _ h.0 _ j, r.1, h.2)
 
 pub keep_head-requires : goal.keep_head-requires
 keep_head-requires c =
-    let l = c.loop-r.invariant in
-    let h = (turn_open l.0 _ _ _ _ (sym c.look.ensures ∙ ap turn_said c.in-Open.is)).0 in
-    (omega (arith, h, l.1.0), (omega (arith, h, l.1.1), omega (arith, h, l.1.2)))
+    let r = c.loop-f.invariant in
+    let h = there (goal.at.keep_head-requires c).In-Some in
+    let j = item_is c.in_ok-next.ensures c.in-Opens.is in
+    (reading_open r.0 _ h.0 _ _ _ _ j).0
 
-pub next_at-requires-in-Open : goal.next_at-requires-in-Open
-next_at-requires-in-Open c = turn_room _ _ _ _ (sym c.look.ensures ∙ ap turn_said c.in-Open.is)
+pub loop-f-smaller-in-Opens : goal.loop-f-smaller-in-Opens
+loop-f-smaller-in-Opens c =
+    let h = there (goal.at.loop-f-smaller-in-Opens c).In-Some in
+    let next = h.0.next in
+    let room = h.0.room in
+    omega (arith, h.1)
 
-pub loop-r-smaller-in-Open : goal.loop-r-smaller-in-Open
-loop-r-smaller-in-Open c =
-    let p = ap (λ (k : Marks). k.at) c.past-k-in-Open.ensures in
-    let q = c.next_at-in-Open.ensures in
-    let h = turn_room _ _ _ _ (sym c.look.ensures ∙ ap turn_said c.in-Open.is) in
-    omega arith
-
-pub loop-r-preserved-in-Open : goal.loop-r-preserved-in-Open
-loop-r-preserved-in-Open c =
-    let l = c.loop-r in
-    let kept = c.keep_head.ensures in
-    rw (c.past-k-in-Open.ensures, c.next_at-in-Open.ensures, kept.0, kept.1.0, kept.1.1)
-    (at_open _ l.sizes l.from l.to l.numbers l.sets l.k l.invariant _ _ _ _ (sym c.look.ensures ∙ ap turn_said c.in-Open.is))
+pub loop-f-preserved-in-Opens : goal.loop-f-preserved-in-Opens
+loop-f-preserved-in-Opens c =
+    let r = c.loop-f.invariant in
+    let h = there (goal.at.loop-f-preserved-in-Opens c).In-Some in
+    let j = item_is c.in_ok-next.ensures c.in-Opens.is in
+    rw (h.1, c.keep_head.ensures) ((reading_open r.0 _ h.0 _ _ _ _ j).1, r.1, h.2)
 
 pub keep-requires : goal.keep-requires
 keep-requires c =
-    let l = c.loop-r.invariant in
-    let h = (turn_more l.0 _ _ _ (sym c.look.ensures ∙ ap turn_said c.in-More.is)).0 in
-    (omega (arith, h, l.1.3), omega (arith, h, l.1.4))
+    let r = c.loop-f.invariant in
+    let h = there (goal.at.keep-requires c).In-Some in
+    let j = item_is c.in_ok-next.ensures c.in-Symbol.is in
+    (reading_more r.0 _ h.0 _ _ j).0
 
-pub next_at-requires-in-More : goal.next_at-requires-in-More
-next_at-requires-in-More c = turn_room _ _ _ _ (sym c.look.ensures ∙ ap turn_said c.in-More.is)
+pub overflow_add-used : goal.overflow_add-used
+overflow_add-used c =
+    let r = c.loop-f.invariant in
+    let h = there (goal.at.overflow_add-used c).In-Some in
+    let j = item_is c.in_ok-next.ensures c.in-Symbol.is in
+    let b = (reading_more r.0 _ h.0 _ _ j).0 in omega arith
 
-pub one_more-k-requires : goal.one_more-k-requires
-one_more-k-requires c = (turn_more c.loop-r.invariant.0 _ _ _ (sym c.look.ensures ∙ ap turn_said c.in-More.is)).0
+pub loop-f-smaller-in-Symbol : goal.loop-f-smaller-in-Symbol
+loop-f-smaller-in-Symbol c =
+    let h = there (goal.at.loop-f-smaller-in-Symbol c).In-Some in
+    let next = h.0.next in
+    let room = h.0.room in
+    omega (arith, h.1)
 
-pub loop-r-smaller-in-More : goal.loop-r-smaller-in-More
-loop-r-smaller-in-More c =
-    let p = ap (λ (k : Marks). k.at) c.one_more-k.ensures in
-    let q = c.next_at-in-More.ensures in
-    let h = turn_room _ _ _ _ (sym c.look.ensures ∙ ap turn_said c.in-More.is) in
-    omega arith
-
-pub loop-r-preserved-in-More : goal.loop-r-preserved-in-More
-loop-r-preserved-in-More c =
-    let l = c.loop-r in
-    let kept = c.keep.ensures in
-    rw (c.one_more-k.ensures, c.next_at-in-More.ensures, kept.0, kept.1)
-    (at_more _ l.sizes l.from l.to l.numbers l.sets l.k l.invariant _ _ _ (sym c.look.ensures ∙ ap turn_said c.in-More.is))
+pub loop-f-preserved-in-Symbol : goal.loop-f-preserved-in-Symbol
+loop-f-preserved-in-Symbol c =
+    let r = c.loop-f.invariant in
+    let h = there (goal.at.loop-f-preserved-in-Symbol c).In-Some in
+    let j = item_is c.in_ok-next.ensures c.in-Symbol.is in
+    rw (h.1, c.keep.ensures) ((reading_more r.0 _ h.0 _ _ j).1, r.1, h.2)
 
 pub keep-requires-in-Last : goal.keep-requires-in-Last
 keep-requires-in-Last c =
-    let l = c.loop-r.invariant in
-    let h = (turn_last l.0 _ _ _ _ (sym c.look.ensures ∙ ap turn_said c.in-Last.is)).0 in
-    (omega (arith, h, l.1.3), omega (arith, h, l.1.4))
+    let r = c.loop-f.invariant in
+    let h = there (goal.at.keep-requires-in-Last c).In-Some in
+    let j = item_is c.in_ok-next.ensures c.in-Last.is in
+    last_room r.0 _ h.0 _ _ _ j
 
-pub overflow_add-k : goal.overflow_add-k
-overflow_add-k c =
-    let h = (turn_last c.loop-r.invariant.0 _ _ _ _ (sym c.look.ensures ∙ ap turn_said c.in-Last.is)).0 in
-    omega arith
+pub overflow_add-used-in-Last : goal.overflow_add-used-in-Last
+overflow_add-used-in-Last c =
+    let r = c.loop-f.invariant in
+    let h = there (goal.at.overflow_add-used-in-Last c).In-Some in
+    let j = item_is c.in_ok-next.ensures c.in-Last.is in
+    let b = last_room r.0 _ h.0 _ _ _ j in omega arith
 
-pub earlier-requires : goal.earlier-requires
-earlier-requires c =
-    let h = turn_last c.loop-r.invariant.0 _ _ _ _ (sym c.look.ensures ∙ ap turn_said c.in-Last.is) in
-    rw c.keep-in-Last.ensures.0 (h.2, (h.3, omega (arith, h.0, h.4)))
+pub slice_bounds-earlier-count : goal.slice_bounds-earlier-count
+slice_bounds-earlier-count c =
+    let r = c.loop-f.invariant in
+    let h = there (goal.at.slice_bounds-earlier-count c).In-Some in
+    let j = item_is c.in_ok-next.ensures c.in-Last.is in
+    omega (arith, last_ordered r.0 _ h.0 _ _ _ j, last_room r.0 _ h.0 _ _ _ j)
 
-pub next_at-requires-then-earlier : goal.next_at-requires-then-earlier
-next_at-requires-then-earlier c = turn_room _ _ _ _ (sym c.look.ensures ∙ ap turn_said c.in-Last.is)
+pub slice_bounds-earlier-start : goal.slice_bounds-earlier-start
+slice_bounds-earlier-start c =
+    let r = c.loop-f.invariant in
+    let h = there (goal.at.slice_bounds-earlier-start c).In-Some in
+    let j = item_is c.in_ok-next.ensures c.in-Last.is in
+    omega (arith, last_ordered r.0 _ h.0 _ _ _ j, last_room r.0 _ h.0 _ _ _ j)
 
-pub closed-k-requires : goal.closed-k-requires
-closed-k-requires c =
-    let h = turn_last c.loop-r.invariant.0 _ _ _ _ (sym c.look.ensures ∙ ap turn_said c.in-Last.is) in
-    (h.0, h.1)
+pub slice_bounds-earlier-end : goal.slice_bounds-earlier-end
+slice_bounds-earlier-end c =
+    let r = c.loop-f.invariant in
+    let h = there (goal.at.slice_bounds-earlier-end c).In-Some in
+    let j = item_is c.in_ok-next.ensures c.in-Last.is in
+    omega (arith, last_ordered r.0 _ h.0 _ _ _ j, last_room r.0 _ h.0 _ _ _ j)
 
-pub loop-r-smaller : goal.loop-r-smaller
-loop-r-smaller c =
-    let p = ap (λ (k : Marks). k.at) c.closed-k.ensures in
-    let q = c.next_at-then-earlier.ensures in
-    let h = turn_room _ _ _ _ (sym c.look.ensures ∙ ap turn_said c.in-Last.is) in
-    omega arith
+pub slice_bounds-earlier-count-in-Last : goal.slice_bounds-earlier-count-in-Last
+slice_bounds-earlier-count-in-Last c =
+    let r = c.loop-f.invariant in
+    let h = there (goal.at.slice_bounds-earlier-count-in-Last c).In-Some in
+    let j = item_is c.in_ok-next.ensures c.in-Last.is in
+    omega (arith, last_ordered r.0 _ h.0 _ _ _ j, last_room r.0 _ h.0 _ _ _ j)
 
-pub loop-r-preserved : goal.loop-r-preserved
-loop-r-preserved c =
-    let l = c.loop-r in
-    let kept = c.keep-in-Last.ensures in
-    rw (c.closed-k.ensures, c.next_at-then-earlier.ensures, kept.0, kept.1)
-    (at_close _ l.sizes l.from l.to l.numbers l.sets l.k l.invariant _ _ _ _ (sym c.look.ensures ∙ ap turn_said c.in-Last.is)
-    (rw (← kept.0) (sym c.earlier.ensures ∙ c.if-earlier.true)))
+pub slice_bounds-earlier-start-in-Last : goal.slice_bounds-earlier-start-in-Last
+slice_bounds-earlier-start-in-Last c =
+    let r = c.loop-f.invariant in
+    let h = there (goal.at.slice_bounds-earlier-start-in-Last c).In-Some in
+    let j = item_is c.in_ok-next.ensures c.in-Last.is in
+    omega (arith, last_ordered r.0 _ h.0 _ _ _ j, last_room r.0 _ h.0 _ _ _ j)
 
-pub shape_of-sizes-else-earlier : goal.shape_of-sizes-else-earlier
-shape_of-sizes-else-earlier c = c.loop-r.invariant.1.0 ∙ sym (blank_long c.requires).0
+pub slice_bounds-earlier-end-in-Last : goal.slice_bounds-earlier-end-in-Last
+slice_bounds-earlier-end-in-Last c =
+    let r = c.loop-f.invariant in
+    let h = there (goal.at.slice_bounds-earlier-end-in-Last c).In-Some in
+    let j = item_is c.in_ok-next.ensures c.in-Last.is in
+    omega (arith, last_ordered r.0 _ h.0 _ _ _ j, last_room r.0 _ h.0 _ _ _ j)
 
-pub shape_of-from-else-earlier : goal.shape_of-from-else-earlier
-shape_of-from-else-earlier c = c.loop-r.invariant.1.1 ∙ sym (blank_long c.requires).1
+pub returns-then-not-earlier : goal.returns-then-not-earlier
+returns-then-not-earlier c =
+    let r = c.loop-f.invariant in
+    let h = there (goal.at.returns-then-not-earlier c).In-Some in
+    let j = item_is c.in_ok-next.ensures c.in-Last.is in
+    let b = rw c.keep-in-Last.ensures at (sym c.earlier.ensures ∙ c.if-not-earlier.true) in
+    rw c.keep-in-Last.ensures (into_refused r.1 (reading_order r.0 _ h.0 _ _ _ j b))
 
-pub shape_of-to-else-earlier : goal.shape_of-to-else-earlier
-shape_of-to-else-earlier c = c.loop-r.invariant.1.2 ∙ sym (blank_long c.requires).2
+pub overflow_add-done : goal.overflow_add-done
+overflow_add-done c =
+    let r = c.loop-f.invariant in
+    let h = there (goal.at.overflow_add-done c).In-Some in
+    let j = item_is c.in_ok-next.ensures c.in-Last.is in
+    let b = last_done r.0 _ h.0 _ _ _ j in omega arith
 
-pub shape_of-numbers-else-earlier : goal.shape_of-numbers-else-earlier
-shape_of-numbers-else-earlier c = c.numbers-in-Last-1.given ∙ c.loop-r.invariant.1.3 ∙ sym (blank_long c.requires).3
+pub loop-f-smaller : goal.loop-f-smaller
+loop-f-smaller c =
+    let h = there (goal.at.loop-f-smaller c).In-Some in
+    let next = h.0.next in
+    let room = h.0.room in
+    omega (arith, h.1)
 
-pub shape_of-sets-else-earlier : goal.shape_of-sets-else-earlier
-shape_of-sets-else-earlier c = c.sets-in-Last-1.given ∙ c.loop-r.invariant.1.4 ∙ sym (blank_long c.requires).4
+pub loop-f-preserved : goal.loop-f-preserved
+loop-f-preserved c =
+    let r = c.loop-f.invariant in
+    let h = there (goal.at.loop-f-preserved c).In-Some in
+    let j = item_is c.in_ok-next.ensures c.in-Last.is in
+    let b = rw c.keep-in-Last.ensures at (sym c.earlier.ensures ∙ c.if-not-earlier.false) in
+    rw (h.1, c.keep-in-Last.ensures) (reading_last r.0 _ h.0 _ _ _ j b, r.1, h.2)
 
-pub returns-else-earlier : goal.returns-else-earlier
-returns-else-earlier c =
-    into_refused (turn_order c.loop-r.invariant.0 _ _ _ _ (sym c.look.ensures ∙ ap turn_said c.in-Last.is)
-    (rw (← c.keep-in-Last.ensures.0) (sym c.earlier.ensures ∙ c.if-earlier.false)))
+pub returns : goal.returns
+returns c =
+    let r = c.loop-f.invariant in
+    let u = c.in_ok-f.was ∙ ap Ok (none_left _ c.in_default.not-Some) in
+    reading_ends r.0 (seen_there _ _ c.loop-f.reader r.2 c.due.ensures c.next.ensures.said u)

@@ -1,44 +1,32 @@
 -- What the check yields, from what the readers and the search say.
 -- Assumes nothing.
+use Rattle.std.specs.Prelude as std
+use Rattle.std.specs.Prelude.{Ok, Err}
 use mathlib.Core.Path.{◌≡◌, ap}
 use mathlib.Core.List.{List}
-use mathlib.Core.Option.{some}
 use Prim.Native.Nat.{ℕ, ◌<◌}
 use lib.Dec.{T}
 use Rattle.theory.specs.Register.{Edge, Register, records, kind}
 use Rattle.theory.specs.Sheet.{Sheet, sheet?, permits?, link_permitted?, breach, or_else}
 use Rattle.fields.specs.declared.Refusal.{Refusal}
 use Rattle.fields.specs.declared.Source.TheVariants as source
-use Rattle.fields.specs.Call.{accepts, refuses}
-use Rattle.fields.specs.Contract.{number_of, place_of}
+use Rattle.fields.specs.Call.{refuses}
+use Rattle.fields.specs.Contract.{number_of, place_of, read_said}
 use Rattle.fields.specs.Reading.{read}
-use Rattle.sheet.specs.declared.Outcome as sheet·Outcome
-use Rattle.sheet.specs.declared.Outcome.TheVariants as sheet·outcome
+use Rattle.sheet.specs.declared.Sheet.{Sheet as Sheet·code}
 use Rattle.sheet.specs.Form.{sheet_form}
 use Rattle.sheet.specs.Table.{tabled?, table_of}
 use Rattle.sheet.specs.Contract.{ReadsSheet}
 use Rattle.sheet.proofs.Ranges.{accepted_sheet}
 use Rattle.sheet.proofs.Tables.{table_permits}
 use Rattle.sheet.proofs.ReaderOutcome.{refused_sheet, told_sheet}
-use Rattle.register.specs.declared.Outcome as register·Outcome
-use Rattle.register.specs.declared.Outcome.TheVariants as register·outcome
 use Rattle.register.specs.Form.{register_form, register_in}
-use Rattle.register.specs.Contract.{outcome_said as register-said, sized as register-sizes}
+use Rattle.register.specs.Contract.{RegisterSizes, sized}
 use Rattle.register.proofs.AcceptedRegister.{accepted_register, Limits}
 use Rattle.register.proofs.ReaderOutcome.{refused_file, accepted_file}
-use Rattle.conformance.specs.declared.Failing.{Failing}
-use Rattle.conformance.specs.declared.Failing.TheVariants.{At, Nowhere}
 use Rattle.conformance.specs.Check.{obeying, check_of}
 use Rattle.conformance.specs.Contract.{failing_said, link_tabled?, first_unknown, first_forbidden, first_breach}
 use Rattle.conformance.proofs.Search.{same_failing}
-
--- the search over the kinds, then over the links
-module _ (K : ℕ) (t : List ℕ) (r : Register) (u : Failing) (h : failing_said u ≡ first_unknown K r) where
-  pub breach_of_kind : (i : ℕ) → u ≡ At i → some i ≡ first_breach K t r
-  breach_of_kind i e = rw (← h, e)
-
-  pub breach_of_link : (f : Failing) → u ≡ Nowhere → failing_said f ≡ first_forbidden t r → failing_said f ≡ first_breach K t r
-  breach_of_link f e g = rw (← h, e) g
 
 -- the search by a table that permits what the sheet permits is the search by the sheet
 pub breach_is : (S : Sheet) (t : List ℕ) (r : Register) → ((a l b : ℕ) → a < 64 → tabled? t a l b ≡ permits? S a l b) → Limits r → first_breach S.kinds t r ≡ breach S r
@@ -53,29 +41,21 @@ own_table : (S : Sheet) → T (sheet? S) → (a l b : ℕ) → a < 64 → tabled
 unfolding tabled?
 own_table S ok = table_permits S ok
 
-module _ (s g : List ℕ) (o : sheet·Outcome.Outcome) (t : List ℕ) (h : ReadsSheet (read sheet_form s) o t) where
-  pub sheet_refused : (x : Refusal) → o ≡ sheet·outcome.Refused x → refuses source.Sheet (number_of x) (place_of x) ≡ check_of s g
+module _ (s g : List ℕ) {a : std.Result Sheet·code Refusal} (h : ReadsSheet (read sheet_form s) a) where
+  pub sheet_refused : {x : Refusal} → a ≡ Err x → refuses source.Sheet (number_of x) (place_of x) ≡ check_of s g
   unfolding check_of
-  sheet_refused x w = rw (refused_sheet s o t h x w)
+  sheet_refused {x} w = rw (refused_sheet s a h x w)
 
-  module _ (k e : ℕ) (w : o ≡ sheet·outcome.Accepted k e) (q : register·Outcome.Outcome) (z : register-said q ≡ register-sizes (read register_form g)) where
-    pub register_refused : (x : Refusal) → q ≡ register·outcome.Refused x → refuses source.Register (number_of x) (place_of x) ≡ check_of s g
+  module _ {x : Sheet·code} (w : a ≡ Ok x) {A : Type 0} (f : A → RegisterSizes) {b : std.Result A Refusal} (z : read_said f b ≡ sized (read register_form g)) where
+    pub register_refused : {y : Refusal} → b ≡ Err y → refuses source.Register (number_of y) (place_of y) ≡ check_of s g
     unfolding check_of
-    register_refused x u =
-        rw ((told_sheet s o t h k e w).1.reads, refused_file g q z x u)
+    register_refused {y} u = rw ((told_sheet s a h x w).1.reads, refused_file f g b z y u)
 
-    module _ (n l : ℕ) (u : q ≡ register·outcome.Accepted n l) (f : Failing) (y : failing_said f ≡ first_breach k t (register_in g)) where
-      obeyed : obeying (failing_said f) ≡ check_of s g
-      unfolding check_of
-      obeyed =
-          let (S, d) = told_sheet s o t h k e w in
-          let r = accepted_file g q z n l u in
-          let i = d.table in
-          let j = breach_is S (table_of S.permitted) (register_in g) (own_table S (accepted_sheet s S d.reads)) (accepted_register g (register_in g) r) in
-          rw (d.reads, r, ← j, d.kinds, ← i) (ap obeying y)
-
-      pub breach_at : (i : ℕ) → f ≡ At i → refuses source.Work 16 i ≡ check_of s g
-      breach_at i w = rw w at obeyed
-
-      pub no_breach : f ≡ Nowhere → accepts tt ≡ check_of s g
-      no_breach w = rw w at obeyed
+    pub checked : {y : A} → b ≡ Ok y → (o : std.Option ℕ) → failing_said o ≡ first_breach x.kinds x.table (register_in g) → obeying (failing_said o) ≡ check_of s g
+    unfolding check_of
+    checked {y} u o j =
+        let (S, d) = told_sheet s a h x w in
+        let r = accepted_file f g b z y u in
+        let i = d.table in
+        let k = breach_is S (table_of S.permitted) (register_in g) (own_table S (accepted_sheet s S d.reads)) (accepted_register g (register_in g) r) in
+        rw (d.reads, r, ← k, d.kinds, ← i) (ap obeying j)

@@ -1,17 +1,17 @@
 -- What the code says of the search for a breach.
 -- Assumes nothing.
+use Rattle.std.specs.Prelude as std
 use Rattle.std.specs.Prelude.{Bool, List, ℕ, ltb}
 use Rattle.std.proofs.Math.Option.{Option, none, some}
 use Rattle.theory.specs.Lists.{first_failing}
 use Rattle.theory.specs.Register.{Edge, Register, records, kind}
 use Rattle.theory.specs.Sheet.{or_else}
 use Rattle.sheet.specs.Table.{tabled?}
-use Rattle.conformance.specs.declared.Failing.{Failing}
-use Rattle.conformance.specs.declared.Failing.TheVariants.{At, Nowhere}
 
-abbrev pub failing_said : Failing → Option ℕ
-failing_said (At i) = some i
-failing_said Nowhere = none
+-- where a test fails first, if anywhere
+abbrev pub failing_said : std.Option ℕ → Option ℕ
+failing_said (std.Some i) = some i
+failing_said std.None = none
 
 -- a kind is one of K
 abbrev pub below? : ℕ → ℕ → Bool

@@ -1,22 +1,39 @@
 -- `conformance::check` meets its contract: a refused file comes first, then the breach found by the sheet's own table, which permits what the sheet does.
 -- Assumes nothing.
-use Rattle.conformance.proofs.Checked.{sheet_refused, register_refused, breach_at, no_breach}
-use Rattle.register.proofs.ReaderOutcome.{accepted_file, accepted_records}
+use mathlib.Core.Path.{◌≡◌}
+use Rattle.std.proofs.lemmas.Result.{err_from_is_err_and}
+use Rattle.fields.specs.declared.Source.TheVariants as source
+use Rattle.fields.proofs.Calls.{about_ok, about_err, about_ref_ok, about_ref_err}
+use Rattle.conformance.specs.Check.{obeying, check_of}
+use Rattle.conformance.specs.Contract.{failing_said}
+use Rattle.conformance.proofs.Checked.{sheet_refused, register_refused, checked}
+use Rattle.conformance.proofs.check.Goals.{After-first_breach}
 use Rattle.conformance.proofs.check.Goals as goal
 
-pub first_breach-requires : goal.first_breach-requires
-first_breach-requires c = search (accepted_file, accepted_records)
+pub returns-in_err-sheet : goal.returns-in_err-sheet
+returns-in_err-sheet c =
+    let p = err_from_is_err_and c.from_residual.result c.from_residual.ensures.1 in
+    let a = about_ref_err source.Sheet c.read-sheet.result c.about_ref.ensures c.in_err-sheet.was in
+    rw (p.1, p.2, a.0) (sheet_refused _ _ c.read-sheet.ensures a.1)
 
-pub returns-in-Refused : goal.returns-in-Refused
-returns-in-Refused c = sheet_refused _ _ _ _ c.read-s.ensures _ c.in-Refused.is
+pub returns-in_err-register : goal.returns-in_err-register
+returns-in_err-register c =
+    let p = err_from_is_err_and c.from_residual-in_err-register.result c.from_residual-in_err-register.ensures.1 in
+    let a = about_ref_ok source.Sheet c.read-sheet.result c.about_ref.ensures c.in_ok-sheet.was in
+    let b = about_err source.Register c.read.result c.about.ensures c.in_err-register.was in
+    rw (p.1, p.2, b.0) (register_refused _ _ c.read-sheet.ensures a _ c.read.ensures.said b.1)
 
-pub returns-in-Refused-read : goal.returns-in-Refused-read
-returns-in-Refused-read c = register_refused _ _ _ _ c.read-s.ensures _ _ c.in-Accepted.is _ c.read.ensures _ c.in-Refused-read.is
+-- where both were read
+whole : (c : After-first_breach) → obeying (failing_said c.first_breach.result) ≡ check_of c.args.sheet.now c.args.register.now
+whole c =
+    let a = about_ref_ok source.Sheet c.read-sheet.result c.about_ref.ensures c.in_ok-sheet.was in
+    let b = about_ok source.Register c.read.result c.about.ensures c.in_ok-register.was in
+    let e : c.in_ok-register.register.file.now ≡ c.args.register.now = rw b at c.read.ensures.file in
+    checked _ _ c.read-sheet.ensures a _ c.read.ensures.said b c.first_breach.result
+    (rw e at c.first_breach.ensures)
 
-pub returns-in-At : goal.returns-in-At
-returns-in-At c =
-    breach_at _ _ _ _ c.read-s.ensures _ _ c.in-Accepted.is _ c.read.ensures _ _ c.in-Accepted-read.is _ c.first_breach.ensures _ c.in-At.is
+pub returns-in-Some : goal.returns-in-Some
+returns-in-Some c = rw (c.about-in-Some.ensures) (rw c.in-Some.is at (whole (goal.at.returns-in-Some c).After-first_breach))
 
-pub returns-in-Nowhere : goal.returns-in-Nowhere
-returns-in-Nowhere c =
-    no_breach _ _ _ _ c.read-s.ensures _ _ c.in-Accepted.is _ c.read.ensures _ _ c.in-Accepted-read.is _ c.first_breach.ensures c.in-Nowhere.is
+pub returns-in-None : goal.returns-in-None
+returns-in-None c = rw c.in-None.is at (whole (goal.at.returns-in-None c).After-first_breach)

@@ -1,31 +1,47 @@
 -- `conformance::first_forbidden` meets its contract: the search over the links still to come, counted from their place, finds what the whole search finds.
 -- Assumes nothing.
-use Rattle.register.proofs.Walk.{fewer}
-use Rattle.conformance.proofs.LinkSearch.{kind_fits, links_start, links_end, link_from, link_label, link_to, link_forbidden, link_permitted}
+use mathlib.Core.Path.{◌∙◌}
+use mathlib.Core.Logic.{inl}
+use native.Mathlib.Omega.{arith}
+use Prim.Native.Nat.{◌+◌, ◌<◌}
+use lib.ListN.{length}
+use Rattle.conformance.proofs.LinkSearch.{few_links, kind_fits, links_start, links_end, link_from, link_label, link_to, link_forbidden, link_permitted}
 use Rattle.conformance.proofs.first_forbidden.Goals as goal
 
-pub loop-from-init : goal.loop-from-init
-loop-from-init c = links_start _ _ _ _ c.requires.0 c.requires.1 c.links_of-c.ensures
+pub loop-i-init-derived : goal.loop-i-init-derived
+loop-i-init-derived c =
+    let h = c.enumerate-i-items.ensures in
+    let n : 0 + length c.enumerate-i-items.result.iter < 18446744073709551616 = omega (arith, few_links _ _ c.args.register.now.accepted (h.source ∙ c.links.ensures)) in
+    ((tt, tt, inl (rw (c.into_iter-i-iterator.ensures.into_iter_gives, h.count) n)), tt)
 
-pub returns-in-Done : goal.returns-in-Done
-returns-in-Done c = search links_end
+pub loop-i-init : goal.loop-i-init
+loop-i-init c =
+    let h = c.enumerate-i-items.ensures in
+    rw (c.into_iter-i-iterator.ensures.into_iter_gives, h.count) (links_start _ _ _ c.args.register.now.accepted (h.source ∙ c.links.ensures))
 
-pub kind_at-a-requires : goal.kind_at-a-requires
-kind_at-a-requires c = search (link_from, link_to)
+pub kind_at-from-requires : goal.kind_at-from-requires
+kind_at-from-requires c = rw c.args.register.now.counted (link_from _ _ _ _ c.loop-i.invariant c.in-Some.ensures.steps.0)
 
-pub kind_at-b-requires : goal.kind_at-b-requires
-kind_at-b-requires c = search (link_from, link_to)
+pub kind_at-to-requires : goal.kind_at-to-requires
+kind_at-to-requires c = rw c.args.register.now.counted (link_to _ _ _ _ c.loop-i.invariant c.in-Some.ensures.steps.0)
 
 pub permits-requires : goal.permits-requires
-permits-requires c = search (kind_fits, link_label)
+permits-requires c =
+    let a = c.args.register.now.accepted in
+    (kind_fits _ a _ _ c.kind_at-from.ensures, link_label _ _ _ _ c.loop-i.invariant c.in-Some.ensures.steps.0, kind_fits _ a _ _ c.kind_at-to.ensures)
 
-pub loop-from-smaller : goal.loop-from-smaller
-loop-from-smaller c = search fewer
+pub overflow_add-result : goal.overflow_add-result
+overflow_add-result c = omega (arith, c.args.register.now.counted, c.loop-i.invariant.few, c.in-Some.ensures.steps.1)
 
-pub loop-from-preserved : goal.loop-from-preserved
-loop-from-preserved c =
-    link_permitted _ _ _ _ c.loop-from.invariant _ c.next_link.ensures _ _ _ _ c.in-Link.is _ _ c.kind_at-a.ensures c.kind_at-b.ensures _ c.permits.ensures c.if-permits.true
+pub returns-then-not-permits : goal.returns-then-not-permits
+returns-then-not-permits c =
+    let e = c.in-Some.ensures.steps in
+    rw e.1 (link_forbidden _ _ _ _ c.loop-i.invariant e.0 c.kind_at-from.ensures c.kind_at-to.ensures c.permits.ensures c.if-not-permits.true c.args.register.now.counted)
 
-pub returns-else-permits : goal.returns-else-permits
-returns-else-permits c =
-    link_forbidden _ _ _ _ c.loop-from.invariant _ c.next_link.ensures _ _ _ _ c.in-Link.is _ _ c.kind_at-a.ensures c.kind_at-b.ensures _ c.permits.ensures c.if-permits.false
+pub loop-i-preserved : goal.loop-i-preserved
+loop-i-preserved c =
+    let e = c.in-Some.ensures.steps in
+    rw e.2 (link_permitted _ _ _ _ c.loop-i.invariant e.0 c.kind_at-from.ensures c.kind_at-to.ensures c.permits.ensures c.if-not-permits.false)
+
+pub returns : goal.returns
+returns c = links_end _ _ _ _ c.loop-i.invariant c.in-None.ensures.steps.0.0

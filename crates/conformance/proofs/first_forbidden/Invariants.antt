@@ -2,8 +2,5 @@
 use Rattle.conformance.proofs.LinkSearch.{LinksFrom}
 use Rattle.conformance.proofs.first_forbidden.Given as goal
 
-abbrev pub invariant-loop-from : goal.invariant-loop-from
-invariant-loop-from l = LinksFrom l.register l.table l.place l.c
-
-abbrev pub decreases-loop-from : goal.decreases-loop-from
-decreases-loop-from l = l.c.left
+abbrev pub invariant-loop-i : goal.invariant-loop-i
+invariant-loop-i l = LinksFrom l.register.file.now l.sheet.table l.i-iterator.count l.i-iterator.iter

@@ -10,7 +10,7 @@ ghost use Rattle.fields.specs.Contract.{written_said};
 ghost use Rattle.encode.specs.BytesWritten.{BytesWritten};
 ghost use Rattle.question.specs.Writing.{question_bytes};
 
-use fields::{Refusal, Source, Written};
+use fields::{Failure, Refusal, Size, Source};
 
 // The bytes of a question's head.
 const QUESTION_BYTES: usize = fields::HEAD + fields::QUESTION_LENGTH as usize;
@@ -20,16 +20,12 @@ fn measure(codes: &[u8]) -> usize
     requires { length codes.now ≤ 32 }
     ensures { result ≡ length (question_bytes codes.now) }
 {
-    let mut n = QUESTION_BYTES;
-    let mut i = 0;
-    while i < codes.len() {
-        n += encode::symbol_size(codes[i]);
-        i += 1;
-    }
-    n
+    let symbols: usize = codes.iter().map(|&code| encode::symbol_size(code)).sum();
+    QUESTION_BYTES + symbols
 }
 
 // 21: the number of symbols.
+#[tactic(auto, using(encode::proofs::Along::wrote_more), unfolding(fields::specs::Table::field_size, fields::specs::Table::tag_length, fields::specs::Table::rows))]
 fn put_count(out: &mut [u8], n: u8) -> usize
     requires { field_size 0x21 ≤ length out.old }
     ensures { BytesWritten out.old out.new 0 result (field_bytes 0x21 (n ∷ [])) }
@@ -50,14 +46,17 @@ fn put_question(codes: &[u8], out: &mut [u8]) -> usize
 }
 
 // 14, or the file; tells the numbers of its symbols and of its bytes.
-pub fn write(codes: &[u8], file: &mut [u8]) -> Written
+pub fn write(codes: &[u8], file: &mut [u8]) -> Result<Size, Failure>
     requires { length codes.now ≤ 32 }
     ensures { Gives (file_in (length codes.now) (question_bytes codes.now) file.old) (written_said result) file.new }
 {
     let n = measure(codes);
     if file.len() < n {
-        return Written::Refused(Source::Work, Refusal::AreaShort(n));
+        return Err(Refusal::AreaShort(n).about(Source::Work));
     }
     let bytes = put_question(codes, file);
-    Written::File(codes.len(), bytes)
+    Ok(Size {
+        count: codes.len(),
+        bytes,
+    })
 }

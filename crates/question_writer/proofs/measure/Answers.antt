@@ -1,13 +1,20 @@
--- `question_writer::measure` meets its contract: the bytes counted, and those of the symbols to come, are always those of the file (`Counting`).
+-- `question_writer::measure` meets its contract: the bytes of the head and of all symbols are those of the file.
 -- Assumes nothing.
-use Rattle.question_writer.proofs.Measuring.{counting_start, counting_next, counting_end}
+use mathlib.Core.Path.{◌≡◌, ◌∙◌, ap}
+use Prim.Native.Nat.{◌+◌}
+use native.Mathlib.Omega.{arith}
+use borrow.Author.Rules.{rules}
+use Rattle.std.specs.Prelude.{sum_by}
+use Rattle.encode.specs.Size.{symbol_size}
+use Rattle.question_writer.proofs.Measuring.{small, sized}
 use Rattle.question_writer.proofs.measure.Goals as goal
 
-pub loop-i-init : goal.loop-i-init
-loop-i-init c = counting_start _ c.requires
-
-pub loop-i-preserved : goal.loop-i-preserved
-loop-i-preserved c = counting_next _ c.loop-i.invariant c.loop-i-test.true c.symbol_size-n.ensures
+pub overflow_add-result : goal.overflow_add-result
+overflow_add-result c =
+    let e : c.sum-symbols.result ≡ sum_by symbol_size c.args.codes.now = search rules in
+    omega (arith, e, small c.args.codes.now c.requires)
 
 pub returns : goal.returns
-returns c = counting_end c.loop-i.invariant c.loop-i-test.false
+returns c =
+    let e : c.sum-symbols.result ≡ sum_by symbol_size c.args.codes.now = search rules in
+    ap (λ n. 4 + n) e ∙ sized c.args.codes.now

@@ -8,12 +8,7 @@ pub put_count-a-requires : goal.put_count-a-requires
 put_count-a-requires c = head_room _ c.requires.0 c.requires.1
 
 pub put_symbols-requires : goal.put_symbols-requires
-put_symbols-requires c =
-    let a = c in
-    let h = a.requires in
-    (omega arith, (omega (arith, h.0), symbols_room _ h.0 a.put_count-a.ensures h.1))
+put_symbols-requires c = (omega arith, (omega (arith, c.requires.0), symbols_room _ c.requires.0 c.put_count-a.ensures c.requires.1))
 
 pub returns : goal.returns
-returns c =
-    let a = c in
-    question_put _ a.requires.0 a.put_count-a.ensures c.put_symbols.ensures
+returns c = question_put _ c.requires.0 c.put_count-a.ensures c.put_symbols.ensures

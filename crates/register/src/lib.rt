@@ -4,9 +4,9 @@
 ghost use Rattle.std.specs.Prelude.{◌≡◌, true, ◌<◌, ◌≤◌, length, IfOk};
 ghost use Rattle.std.specs.Iterator.{YieldsFirstBy, item_count};
 ghost use Rattle.fields.specs.Reading.{read};
+ghost use Rattle.fields.specs.Contract.{read_said};
 ghost use Rattle.theory.specs.Register.{kind};
 ghost use Rattle.register.specs.Form.{head_of, kind_of, link_of, entry_of, advance, key, register_format, register_form, register_in};
-ghost use Rattle.fields.specs.Contract.{read_said};
 ghost use Rattle.register.specs.Contract.{sizes, sized};
 ghost use Rattle.register.specs.Internal.{BodyReady};
 ghost use Rattle.register.specs.Passed.{KindAt, NumberAt, Passes, Passed};
@@ -173,18 +173,19 @@ pub struct Reached {
     pub progress: Progress,
 }
 
-// Whether a kind is due at a place and a whole field of one is there.
-fn kind_lies(s: &[u8], at: usize, q: Progress) -> bool
-    requires { at ≤ length s.now }
-    ensures { result ≡ true → KindAt s.now q at }
+// Whether a kind is due there and a whole field of one is there.
+fn kind_lies(s: &[u8], r: Reached) -> bool
+    requires { r.at ≤ length s.now }
+    ensures { result ≡ true → KindAt s.now r.progress r.at }
 {
-    q.kindless != 0
-        && KIND_BYTES <= s.len() - at
-        && s[at] == fields::KIND_TAG
-        && fields::two(s, at + 1) == KIND_LENGTH
+    r.progress.kindless != 0
+        && KIND_BYTES <= s.len() - r.at
+        && s[r.at] == fields::KIND_TAG
+        && fields::two(s, r.at + 1) == KIND_LENGTH
 }
 
-// The number in the bytes of a link's field, which are eight, at a place; or 0 where there are fewer.
+// The number in the bytes of a link's field, which are eight, at a place; or 0 where there are fewer. An Option was tried in place of the 0,
+// and is slower: each link then takes some 22 instructions, and not 18.
 fn number_at(s: &[u8], at: usize) -> u64
     requires { at ≤ length s.now }
     ensures { 0 < result → NumberAt s.now at result }
@@ -206,41 +207,39 @@ fn link_passes(v: u64, left: u16, floor: u64, top: u64, records: u64) -> bool
         && v % LABEL_WEIGHT < records
 }
 
-// Passes over valid kinds in a quick loop of their own; whatever else lies there is left to the general loop.
-fn past_kinds(s: &[u8], from: usize, start: Progress) -> Reached
-    requires { from ≤ length s.now }
-    ensures { Passed s.now start from result.progress result.at }
+// Passes over valid kinds in a quick loop of their own; whatever else lies there is left to the general loop. An iterator over pieces of four
+// bytes would be no plainer: whether a kind is due changes with each, so that it would carry the same value from turn to turn.
+fn past_kinds(s: &[u8], start: Reached) -> Reached
+    requires { start.at ≤ length s.now }
+    ensures { Passed s.now start.progress start.at result.progress result.at }
 {
-    let mut at = from;
-    let mut q = start;
-    while kind_lies(s, at, q) {
-        let Ok(next) = judge_kind(q, at, &s[at + HEAD..at + KIND_BYTES]) else {
+    let mut r = start;
+    while kind_lies(s, r) {
+        let next = r.at + KIND_BYTES;
+        let Ok(progress) = judge_kind(r.progress, r.at, &s[r.at + HEAD..next]) else {
             break;
         };
-        q = next;
-        at += KIND_BYTES;
+        r = Reached { at: next, progress };
     }
-    Reached { at, progress: q }
+    r
 }
 
 // The same of links, each as the number in its eight bytes: tag and length above the key, so that two bounds settle tag, length, from and
 // order. A turn ends with the next number: the compiler splits one that is used at once into bytes again. A floor above
 // every key, which no file leads to, is left to the general loop.
-fn past_links(s: &[u8], from: usize, start: Progress) -> Reached
-    requires { from ≤ length s.now }
-    ensures { Passed s.now start from result.progress result.at }
+fn past_links(s: &[u8], start: Reached) -> Reached
+    requires { start.at ≤ length s.now }
+    ensures { Passed s.now start.progress start.at result.progress result.at }
 {
-    if start.kindless != 0 || KEYS < start.floor {
-        return Reached {
-            at: from,
-            progress: start,
-        };
+    let q = start.progress;
+    if q.kindless != 0 || KEYS < q.floor {
+        return start;
     }
-    let records = u64::from(start.records);
+    let records = u64::from(q.records);
     let top = LINK_NUMBER + records * FROM_WEIGHT;
-    let mut at = from;
-    let mut left = start.left;
-    let mut floor = LINK_NUMBER + start.floor;
+    let mut at = start.at;
+    let mut left = q.left;
+    let mut floor = LINK_NUMBER + q.floor;
     let mut v = number_at(s, at);
     while link_passes(v, left, floor, top, records) {
         at += LINK_BYTES;
@@ -253,17 +252,16 @@ fn past_links(s: &[u8], from: usize, start: Progress) -> Reached
         progress: Progress {
             left,
             floor: floor - LINK_NUMBER,
-            ..start
+            ..q
         },
     }
 }
 
-fn past(s: &[u8], from: usize, start: Progress) -> Reached
-    requires { from ≤ length s.now }
-    ensures { Passed s.now start from result.progress result.at }
+fn past(s: &[u8], start: Reached) -> Reached
+    requires { start.at ≤ length s.now }
+    ensures { Passed s.now start.progress start.at result.progress result.at }
 {
-    let r = past_kinds(s, from, start);
-    past_links(s, r.at, r.progress)
+    past_links(s, past_kinds(s, start))
 }
 
 // A register whose file is accepted, where it lies, and its numbers of records and links.
@@ -284,7 +282,14 @@ pub fn read(s: &[u8]) -> Result<Register<'_>, Refusal>
     let mut st = Standing::Head;
     let mut at = 0;
     while let Some(f) = fields::field(s, at, due_at(st))? {
-        let r = past(s, f.next, judge(st, f.at, f.body)?);
+        let progress = judge(st, f.at, f.body)?;
+        let r = past(
+            s,
+            Reached {
+                at: f.next,
+                progress,
+            },
+        );
         st = Standing::Within(r.progress);
         at = r.at;
     }
@@ -310,9 +315,9 @@ pub struct Edge {
 // The links still to come of an accepted file: the place of the next one, or the file's end where none is left, and their number.
 #[derive(Drop)]
 pub struct Links<'a> {
-    file: &'a [u8],
-    at: usize,
-    left: usize,
+    pub file: &'a [u8],
+    pub at: usize,
+    pub left: usize,
 }
 
 impl<'a> Model for Links<'a> {
@@ -324,6 +329,18 @@ impl<'a> Model for Links<'a> {
 }
 
 impl<'a> Register<'a> {
+    // The register in a file that was accepted before, with the numbers of its head; `read` is for any other.
+    pub fn from_accepted(file: &'a [u8]) -> Register<'a>
+        requires { Accepted file.now }
+        ensures { result.file.now ≡ file.now }
+    {
+        Register {
+            file,
+            records: usize::from(fields::two(file, RECORD_COUNT_AT)),
+            links: usize::from(fields::two(file, LINK_COUNT_AT)),
+        }
+    }
+
     // The kind of record i.
     pub fn kind_at(&self, i: usize) -> Kind
         requires { i < self.now.records }

@@ -6,6 +6,6 @@ use Rattle.std.proofs.lemmas.Grind.{common_steps}
 use Rattle.fields.specs.Table.{rows, tag_length, field_size}
 use Rattle.register.proofs.kind_lies.Goals as goal
 
-pub returns-then-s-at-eq-KIND_TAG : goal.returns-then-s-at-eq-KIND_TAG
+pub returns-then-s-r-eq-KIND_TAG : goal.returns-then-s-r-eq-KIND_TAG
 unfolding field_size tag_length rows
-returns-then-s-at-eq-KIND_TAG c = grind (arith, common_steps, nat_tests)
+returns-then-s-r-eq-KIND_TAG c = grind (arith, common_steps, nat_tests)

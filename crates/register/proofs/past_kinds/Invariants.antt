@@ -4,8 +4,8 @@ use lib.ListN.{length}
 use Prim.Native.Nat.{◌-◌, ◌≤◌}
 use Rattle.register.proofs.past_kinds.Given as goal
 
-abbrev pub invariant-loop-q : goal.invariant-loop-q
-invariant-loop-q l = Passed l.s l.initial.q l.from l.q l.at × (l.at ≤ length l.s)
+abbrev pub invariant-loop-next : goal.invariant-loop-next
+invariant-loop-next l = Passed l.s l.initial.r.progress l.initial.r.at l.r.progress l.r.at × (l.r.at ≤ length l.s)
 
-abbrev pub decreases-loop-q : goal.decreases-loop-q
-decreases-loop-q l = length l.s - l.at
+abbrev pub decreases-loop-next : goal.decreases-loop-next
+decreases-loop-next l = length l.s - l.r.at

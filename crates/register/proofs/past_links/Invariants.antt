@@ -5,7 +5,7 @@ use Rattle.register.proofs.Passing.{Linked}
 use Rattle.register.proofs.past_links.Given as goal
 
 abbrev pub invariant-loop-floor : goal.invariant-loop-floor
-invariant-loop-floor l = Linked l.s l.start l.from l.at l.left l.floor l.v
+invariant-loop-floor l = Linked l.s l.q l.fn.start.at l.at l.left l.floor l.v
 
 abbrev pub decreases-loop-floor : goal.decreases-loop-floor
 decreases-loop-floor l = length l.s - l.at

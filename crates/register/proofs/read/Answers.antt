@@ -3,14 +3,12 @@
 use Rattle.std.proofs.Common.{Ok}
 use Rattle.std.proofs.lemmas.Result.{err_from_is_err_and}
 use Rattle.register.proofs.Passing.{reading_passed, passed_on}
-use Rattle.register.proofs.Loop.{reading_start, ends_within, reading_ends, reading_accepted, reading_counted, reading_linked}
+use Rattle.register.proofs.Loop.{reading_start, ends_within, reading_accepted, reading_counted, reading_linked}
 use Rattle.register.proofs.Loop.{reading_wrong, reading_ready, reading_refused, reading_next}
 use Rattle.fields.proofs.Fields.{seen_at, Handed, handed}
 use Rattle.register.specs.Form.{due}
-use Rattle.register.specs.Contract.{sizes}
 use Rattle.fields.specs.Contract.{read_said}
 use Rattle.fields.specs.Reading.{ends, field_at}
-use Rattle.theory.specs.Result.{got}
 use mathlib.Core.Path.{◌≡◌, ◌∙◌, ap, sym}
 use native.Mathlib.Omega.{arith}
 use Rattle.register.proofs.read.Goals.{In-Some, In_default}
@@ -34,11 +32,11 @@ returns-in_err-f-clause-said c =
 pub judge-requires : goal.judge-requires
 judge-requires c = reading_ready _ _ _ c.loop-f.invariant (at_field (goal.at.judge-requires c).In-Some)
 
-pub returns-in_err-judge-clause-said : goal.returns-in_err-judge-clause-said
-returns-in_err-judge-clause-said c =
-    let p = err_from_is_err_and c.from_residual-in_err-judge.result c.from_residual-in_err-judge.ensures.1 in
-    let h = at_field (goal.at.returns-in_err-judge-clause-said c).In-Some in
-    rw (p.1, p.2) (reading_refused _ _ _ c.loop-f.invariant h _ _ (sym c.judge.ensures ∙ ap (read_said (λ q. q)) c.in_err-judge.was))
+pub returns-in_err-progress-clause-said : goal.returns-in_err-progress-clause-said
+returns-in_err-progress-clause-said c =
+    let p = err_from_is_err_and c.from_residual-in_err-progress.result c.from_residual-in_err-progress.ensures.1 in
+    let h = at_field (goal.at.returns-in_err-progress-clause-said c).In-Some in
+    rw (p.1, p.2) (reading_refused _ _ _ c.loop-f.invariant h _ _ (sym c.judge.ensures ∙ ap (read_said (λ q. q)) c.in_err-progress.was))
 
 pub past-r-requires : goal.past-r-requires
 past-r-requires c = (at_field (goal.at.past-r-requires c).In-Some).room
@@ -51,7 +49,7 @@ loop-f-smaller c =
 pub loop-f-preserved : goal.loop-f-preserved
 loop-f-preserved c =
     let h = at_field (goal.at.loop-f-preserved c).In-Some in
-    reading_passed _ _ c.past-r.ensures (reading_next _ _ _ c.loop-f.invariant h _ (sym c.judge.ensures ∙ ap (read_said (λ q. q)) c.in_ok-judge.was))
+    reading_passed _ _ c.past-r.ensures (reading_next _ _ _ c.loop-f.invariant h _ (sym c.judge.ensures ∙ ap (read_said (λ q. q)) c.in_ok-progress.was))
 
 pub unreachable-requires : goal.unreachable-requires
 unreachable-requires c = ends_within _ _ _ c.loop-f.invariant (at_end (goal.at.unreachable-requires c).In_default) c.in_default-st.is
@@ -65,7 +63,3 @@ invariant_of-result c =
       counted = c.from.ensures ∙ reading_counted _ _ _ r _ c.in-Within.is e;
       linked = c.from-2.ensures ∙ reading_linked _ _ _ r _ c.in-Within.is e;
     }
-
-pub returns-clause-said : goal.returns-clause-said
-returns-clause-said c =
-    (λ i. got (sizes (c.from.ensures i) (c.from-2.ensures i))) ∙ reading_ends _ _ _ c.loop-f.invariant _ c.in-Within.is (at_end (goal.at.returns-clause-said c).In_default)

@@ -1,25 +1,24 @@
 -- The join, row by row: a row takes in the rows that another row and the mask name, word by word, and bit by bit of a word.
 -- Assumes nothing.
-use mathlib.Core.Path.{◌≡◌, refl, sym, ap, ap₂, ◌∙◌, subst}
+use mathlib.Core.Path.{◌≡◌, refl, sym, ap, ap₂, ◌∙◌}
 use mathlib.Core.Bool.{Bool, true, false, ◌&&◌, ◌||◌, or-false, or_assoc, false≢true}
 use mathlib.Core.List.{List}
 use mathlib.Core.Logic.{⊎_elim}
-use Prim.Native.Nat.{ℕ, ◌+◌, ◌-◌, ◌*◌, ◌/◌, ◌%◌, ◌^◌, ◌≤◌, ◌<◌}
-use native.Mathlib.Nat.{add_assoc, div-one}
+use Prim.Native.Nat.{ℕ, ◌+◌, ◌*◌, ◌/◌, ◌%◌, ◌^◌, ◌≤◌, ◌<◌}
 use native.Mathlib.Numerals.{add-one}
 use native.Mathlib.Omega.{arith}
 use lib.Bits.{bit_and}
 use lib.ListN.{get_or, replicate, get_or-replicate}
-use lib.Pow.{shr-shr}
-use Rattle.bits.specs.Bit.{bit_of, Lowest}
-use Rattle.bits.proofs.Bits.{bit_zero, bit_shr, bit_high, bit_of_and}
+use Rattle.bits.specs.Bit.{bit_of}
+use Rattle.bits.proofs.Bits.{bit_zero, bit_high, bit_of_and}
 use Rattle.theory.specs.Lists.{some?, range}
 use Rattle.theory.specs.Evaluation.{join?}
 use Rattle.theory.proofs.Tests.{and_left, of_true, to_true}
 use Rattle.rows.specs.Row.{row_bit, Row}
 use Rattle.rows.proofs.Words.{le_or_lt}
-use Rattle.rows.proofs.Ranges.{some_suc, some_same, some_none, some_no, some_add, some_skip, some_cut}
+use Rattle.rows.proofs.Ranges.{some_suc, some_same, some_none, some_no, some_add, some_cut}
 use Rattle.rows.proofs.Rows.{row_is, row_then, row_same}
+use Rattle.rows.proofs.BitLists.{Next}
 use Rattle.relation.specs.Pairs.{pair_at, Made, CleanRow, taken, taken_row}
 use Rattle.relation.proofs.Combining.{row_ahead}
 use Rattle.relation.proofs.Clean.{clean_past}
@@ -33,67 +32,47 @@ abbrev by_row : List ℕ → ℕ → List ℕ → ℕ → ℕ → List ℕ → �
 by_row fs d xs q w ms m t z = row_bit fs d z && (pair_at xs q w z t && row_bit ms m z)
 
 -- ---- the bits of one word v, which stand for the records from g on
--- what a turn at the lowest bit k of the bits of v from p on knows
-pub record Turn (v g p k n w : ℕ) : Type 0 where
-  pub low : Lowest 64 (v / 2 ^ p) k
-  pub bit : p + k < 64
-  pub node : g + p + k < n
-  pub room : (g + p + k) * w + w ≤ n * w
-
 -- a bit that is set lies below the width
 pub bit_below : (w v i : ℕ) → v < 2 ^ w → bit_of v i ≡ true → i < w
 bit_below w v i h e = ⊎_elim (λ (l : w ≤ i). absurd (false≢true (sym (bit_high w v i h l) ∙ e))) (λ (l : i < w). l) (le_or_lt w i)
 
-pub turn : {v g y p k n : ℕ} (w : ℕ) → y ≡ v / 2 ^ p → Lowest 64 y k → v < 2 ^ 64 → ((i : ℕ) → bit_of v i ≡ true → g + i < n) → Turn v g p k n w
-turn {v} {g} {y} {p} {k} {n} w e l h c =
-    let m : Lowest 64 (v / 2 ^ p) k = subst (λ (x : ℕ). Lowest 64 x k) e l in
-    let b = sym (bit_shr v p k) ∙ m.here in
-    let z : g + p + k < n = omega (arith, c (p + k) b) in
-    record { low = m; bit = bit_below 64 v (p + k) h b; node = z; room = row_le w z }
-
--- the bits that are left after it
-pub next_word : (v y p k : ℕ) → y ≡ v / 2 ^ p → y / 2 ^ k / 2 ≡ v / 2 ^ (p + k + 1)
-next_word v y p k e = rw e (ap (λ (x : ℕ). x / 2) (shr-shr v p k) ∙ shr-shr v (p + k) 1)
+-- the row that a bit stands for is one of the relation's
+pub bit_row : {v p k n : ℕ} (g w : ℕ) → Next v p k → ((i : ℕ) → bit_of v i ≡ true → g + i < n) → (g + k < n) × ((g + k) * w + w ≤ n * w)
+bit_row g w x c = (c _ x.here, row_le w (c _ x.here))
 
 pub word_none : (rs xs : List ℕ) (q w g v : ℕ) → Row 0 w (taken rs xs q w g v 0) rs rs
 unfolding taken
 word_none rs xs q w g v = row_is (row_same 0 w rs) (λ t h. sym (or-false (row_bit rs 0 t)))
 
--- the row took in row g + p + k
-pub word_more : {rs ys zs : List ℕ} (xs : List ℕ) (q w g v p k : ℕ) → Row 0 w (taken rs xs q w g v p) rs ys → Lowest 64 (v / 2 ^ p) k
-    → Row 0 w (λ t. row_bit ys 0 t || pair_at xs q w (g + p + k) t) ys zs → Row 0 w (taken rs xs q w g v (p + k + 1)) rs zs
+-- the row took in row g + k
+pub word_more : {rs ys zs : List ℕ} {v p k : ℕ} (xs : List ℕ) (q w g : ℕ) → Row 0 w (taken rs xs q w g v p) rs ys → Next v p k
+    → Row 0 w (λ t. row_bit ys 0 t || pair_at xs q w (g + k) t) ys zs → Row 0 w (taken rs xs q w g v (k + 1)) rs zs
 unfolding taken
-word_more {rs} xs q w g v p k r l o =
+word_more {rs} {v = v} {p} {k} xs q w g r x o =
     row_is (row_then r o) (λ t h.
-    ap (λ (b : Bool). b || pair_at xs q w (g + p + k) t) (r.bit t h)
-    ∙ or_assoc (row_bit rs 0 t) (some? (by_bit xs q w g v t) (range p)) (pair_at xs q w (g + p + k) t)
+    ap (λ (b : Bool). b || pair_at xs q w (g + k) t) (r.bit t h)
+    ∙ or_assoc (row_bit rs 0 t) (some? (by_bit xs q w g v t) (range p)) (pair_at xs q w (g + k) t)
     ∙ ap (λ (b : Bool). row_bit rs 0 t || b) (sym (grown t)))
   where
-    skipped : (t i : ℕ) → i < k → by_bit xs q w g v t (p + i) ≡ false
-    skipped t i h = ap (λ (b : Bool). b && pair_at xs q w (g + (p + i)) t) (sym (bit_shr v p i) ∙ l.below i h)
+    skipped : (t i : ℕ) → p ≤ i → i < k → by_bit xs q w g v t i ≡ false
+    skipped t i a b = ap (λ (c : Bool). c && pair_at xs q w (g + i) t) (x.below i a b)
 
-    here : (t : ℕ) → by_bit xs q w g v t (p + k) ≡ pair_at xs q w (g + p + k) t
-    here t = ap (λ (b : Bool). b && pair_at xs q w (g + (p + k)) t) (sym (bit_shr v p k) ∙ l.here) ∙ ap (λ (z : ℕ). pair_at xs q w z t) (sym (add_assoc g p k))
-
-    grown : (t : ℕ) → some? (by_bit xs q w g v t) (range (p + k + 1)) ≡ some? (by_bit xs q w g v t) (range p) || pair_at xs q w (g + p + k) t
+    grown : (t : ℕ) → some? (by_bit xs q w g v t) (range (k + 1)) ≡ some? (by_bit xs q w g v t) (range p) || pair_at xs q w (g + k) t
     grown t =
-        ap (λ (m : ℕ). some? (by_bit xs q w g v t) (range m)) (add-one (p + k))
-        ∙ some_suc (by_bit xs q w g v t) (p + k)
-        ∙ ap₂ ◌||◌ (some_skip (by_bit xs q w g v t) p k (skipped t)) (here t)
+        ap (λ (m : ℕ). some? (by_bit xs q w g v t) (range m)) (add-one k)
+        ∙ some_suc (by_bit xs q w g v t) k
+        ∙ ap₂ ◌||◌ (some_cut (by_bit xs q w g v t) p k x.from (skipped t)) (ap (λ (b : Bool). b && pair_at xs q w (g + k) t) x.here)
 
 -- no bit is left
-pub word_all : {rs ys : List ℕ} (xs : List ℕ) (q w g v p : ℕ) → Row 0 w (taken rs xs q w g v p) rs ys → v / 2 ^ p ≡ 0 → p ≤ 64 → Row 0 w (taken rs xs q w g v 64) rs ys
+pub word_all : {rs ys : List ℕ} {p : ℕ} (xs : List ℕ) (q w g v : ℕ) → Row 0 w (taken rs xs q w g v p) rs ys → ((i : ℕ) → p ≤ i → i < 64 → bit_of v i ≡ false) → p ≤ 64
+    → Row 0 w (taken rs xs q w g v 64) rs ys
 unfolding taken
-word_all {rs} xs q w g v p r e h = row_is r (λ t l. ap (λ (b : Bool). row_bit rs 0 t || b) (sym (some_cut (by_bit xs q w g v t) p 64 h (none t))))
-  where
-    none : (t i : ℕ) → p ≤ i → i < 64 → by_bit xs q w g v t i ≡ false
-    none t i h l =
-        let s : p + (i - p) ≡ i = omega arith in
-        ap (λ (b : Bool). b && pair_at xs q w (g + i) t) (ap (bit_of v) (sym s) ∙ sym (bit_shr v p (i - p)) ∙ ap (λ (x : ℕ). bit_of x (i - p)) e ∙ bit_zero (i - p))
+word_all {rs} {p = p} xs q w g v r e h =
+    row_is r (λ t l. ap (λ (b : Bool). row_bit rs 0 t || b) (sym (some_cut (by_bit xs q w g v t) p 64 h (λ i a b. ap (λ (c : Bool). c && pair_at xs q w (g + i) t) (e i a b)))))
 
 -- no bit at all
 pub word_empty : (rs xs : List ℕ) (q w g v : ℕ) → v ≡ 0 → Row 0 w (taken rs xs q w g v 64) rs rs
-word_empty rs xs q w g v e = word_all xs q w g v 0 (word_none rs xs q w g v) (div-one v ∙ e) (omega arith)
+word_empty rs xs q w g v e = word_all xs q w g v (word_none rs xs q w g v) (λ i a b. ap (λ (x : ℕ). bit_of x i) e ∙ bit_zero i) (omega arith)
 
 -- a row of words that are 0 has no bit
 pub row_blank : (m t : ℕ) → t / 64 < m → row_bit (replicate m 0) 0 t ≡ false

@@ -10,7 +10,7 @@ ghost use Rattle.theory.specs.Evaluation.{join?, op?};
 ghost use Rattle.rows.specs.Row.{row_bit, Row, mask_of, Word};
 ghost use Rattle.relation.specs.Pairs.{pair_at, Made, Combined, Clean, CleanRow, taken, taken_row, followed};
 
-use rows::Merge;
+use rows::{Copied, Ones, Restricted, United};
 
 // Adds the pair (s, t) to the relation at b.
 pub fn set_pair(work: &mut [u64], b: usize, n: usize, w: usize, s: usize, t: usize)
@@ -25,14 +25,8 @@ fn take_bits(row: &mut [u64], work: &[u64], q: usize, n: usize, w: usize, g: usi
     requires { (w ≤ length row.old) × (q + n * w ≤ length work.now) × ((i : ℕ) → bit_of v i ≡ true → g + i < n) }
     ensures { Row 0 w (taken row.old work.now q w g v 64) row.old row.new }
 {
-    let mut y = v;
-    let mut p = 0;
-    while y != 0 {
-        let k = bits::lowest(y);
-        let z = g + p + k;
-        rows::unite(row, 0, work, q + z * w, w);
-        p = p + k + 1;
-        y = (y >> k) >> 1;
+    for k in Ones(v) {
+        rows::unite(row, 0, work, q + (g + k) * w, w);
     }
 }
 
@@ -151,7 +145,7 @@ pub fn union(work: &mut [u64], p: usize, q: usize, n: usize, w: usize)
     requires { (p + n * w ≤ q) × (q + n * w ≤ length work.old) × (w ≤ 16) }
     ensures { Combined (op? n union) p q n w work.old work.new }
 {
-    rows::merge_within(Merge::Unite, work, p, q, n * w);
+    rows::merge_within::<United>(work, p, q, n * w);
 }
 
 // The relation at p loses the pairs that the one at q lacks.
@@ -159,7 +153,7 @@ pub fn intersection(work: &mut [u64], p: usize, q: usize, n: usize, w: usize)
     requires { (p + n * w ≤ q) × (q + n * w ≤ length work.old) × (w ≤ 16) }
     ensures { Combined (op? n conjunction) p q n w work.old work.new }
 {
-    rows::merge_within(Merge::Restrict, work, p, q, n * w);
+    rows::merge_within::<Restricted>(work, p, q, n * w);
 }
 
 // The word of a mask for the m records from g on: those from which a pair of the relation at q leads.
@@ -216,7 +210,7 @@ fn branch_row(work: &mut [u64], d: usize, s: usize, n: usize, w: usize)
     ensures { Row d w (λ t. row_bit work.old s t && some? (row_bit work.old d) (range n)) work.old work.new }
 {
     if rows::any(work, d, w) {
-        rows::merge_within(Merge::Copy, work, d, s, w);
+        rows::merge_within::<Copied>(work, d, s, w);
     }
 }
 

@@ -10,5 +10,7 @@ pub mod Rows
 pub mod Folded
 -- the first bit of a row
 pub mod Leasts
+-- the bits of a word as a list
+pub mod BitLists
 -- rows made of a test
 pub mod Masks

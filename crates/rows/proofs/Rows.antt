@@ -16,9 +16,6 @@ use Rattle.bits.specs.Bit.{bit_of, with_bit, without}
 use Rattle.bits.proofs.Bits.{bit_zero, bit_of_or, bit_of_and, bit_pow, bit_with, bit_without}
 use Rattle.rows.specs.Kept.{Kept, Wrote}
 use Rattle.rows.specs.Row.{row_bit, Row, Put}
-use Rattle.rows.specs.Merged.{merged_word, merged_bit}
-use Rattle.rows.specs.declared.Merge.{Merge}
-use Rattle.rows.specs.declared.Merge.TheVariants.{Copy, Unite, Restrict, Exclude}
 use Rattle.rows.proofs.Words.{kept_refl, kept_trans, kept_in, kept_set, le_or_lt}
 
 -- a row that lies outside what changed is as it was
@@ -47,20 +44,14 @@ module _ {d w : ℕ} {xs ys : List ℕ} where
   unfolding row_bit
   row_zero p = record { kept = p.kept; bit = λ t h. ap (λ (x : ℕ). bit_of x (t % 64)) (p.word (t / 64) h) ∙ bit_zero (t % 64) }
 
--- a merged word has the merged bits
-bit_merged : (how : Merge) (a b k : ℕ) → bit_of (merged_word how a b) k ≡ merged_bit how (bit_of a k) (bit_of b k)
-unfolding without
-bit_merged Copy a b k = refl
-bit_merged Unite a b k = bit_of_or a b k
-bit_merged Restrict a b k = bit_of_and a b k
-bit_merged Exclude a b k = bit_without a b k
-
 module _ {d w : ℕ} {xs ys : List ℕ} (rs : List ℕ) (s : ℕ) where
-  pub row_merged : (how : Merge) → Wrote d w (λ j. merged_word how (get_or xs (d + j) 0) (get_or rs (s + j) 0)) xs ys → Row d w (λ t. merged_bit how (row_bit xs d t) (row_bit rs s t)) xs ys
+  -- of words that merge as their bits do
+  pub row_merged : (word : ℕ → ℕ → ℕ) (bit : Bool → Bool → Bool) → ((x y k : ℕ) → bit_of (word x y) k ≡ bit (bit_of x k) (bit_of y k))
+      → Wrote d w (λ j. word (get_or xs (d + j) 0) (get_or rs (s + j) 0)) xs ys → Row d w (λ t. bit (row_bit xs d t) (row_bit rs s t)) xs ys
   unfolding row_bit
-  row_merged how p = record {
+  row_merged word bit law p = record {
     kept = p.kept;
-    bit = λ t h. ap (λ (x : ℕ). bit_of x (t % 64)) (p.word (t / 64) h) ∙ bit_merged how (get_or xs (d + t / 64) 0) (get_or rs (s + t / 64) 0) (t % 64);
+    bit = λ t h. ap (λ (x : ℕ). bit_of x (t % 64)) (p.word (t / 64) h) ∙ law (get_or xs (d + t / 64) 0) (get_or rs (s + t / 64) 0) (t % 64);
   }
 
   pub row_masked : (ms : List ℕ) → Wrote d w (λ j. bit_or (get_or xs (d + j) 0) (bit_and (get_or rs (s + j) 0) (get_or ms j 0))) xs ys

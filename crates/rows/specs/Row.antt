@@ -1,6 +1,6 @@
 -- A row of bits in a list of words.
 -- Assumes nothing.
-use Rattle.std.specs.Prelude.{◌≡◌, Bool, true, false, ◌&&◌, List, ℕ, ◌+◌, ◌/◌, ◌%◌, ◌<◌, ◌≤◌, ltb, get_or}
+use Rattle.std.specs.Prelude.{◌≡◌, Bool, true, false, ◌&&◌, Option, Some, None, List, ℕ, ◌+◌, ◌/◌, ◌%◌, ◌<◌, ◌≤◌, ltb, get_or}
 use Rattle.bits.specs.Bit.{bit_of}
 use Rattle.rows.specs.Kept.{Kept}
 
@@ -34,3 +34,8 @@ pub record Least (f : ℕ → Bool) (m k : ℕ) : Type 0 where
   pub most : k ≤ m
   pub here : k < m → f k ≡ true
   pub below : (j : ℕ) → j < k → f j ≡ false
+
+-- the least number below m that passes a test, if one does
+abbrev pub Found : (ℕ → Bool) → ℕ → Option ℕ → Type 0
+Found f m (Some k) = (k < m) × Least f m k
+Found f m None = Least f m m

@@ -1,7 +1,7 @@
 -- One row that takes in the rows of its records until it is the closure's.
 -- Assumes nothing.
 use mathlib.Core.Path.{◌≡◌, refl, sym, ap, ◌∙◌}
-use mathlib.Core.Bool.{Bool, true, false, cond, ◌&&◌, ◌||◌, not, and-true, false≢true}
+use mathlib.Core.Bool.{Bool, true, false, ◌&&◌, ◌||◌, not, and-true, false≢true}
 use mathlib.Core.List.{List}
 use mathlib.Core.Logic.{◌⊎◌, inl, inr, ⊎_elim}
 use Prim.Native.Nat.{ℕ, zero, suc, ◌+◌, ◌*◌, ◌/◌, ◌%◌, ◌^◌, ◌≤◌, ◌<◌}
@@ -303,12 +303,3 @@ module _ {xs live pending finished : List ℕ} {b n w : ℕ} (h : PartlyClosed x
       both_ways (row_bit row 0 t) (cl s t) (g.sound t l)
       (closure_ind n f s (λ (k : ℕ). row_bit row 0 k ≡ true) (λ j u hj q. g.start j (omega (arith, h.bits)) q)
       (λ k j hk hj q e. g.covered k j hk (omega (arith, h.bits)) (z k (omega (arith, h.bits)) q) e) t)
-
--- a turn of the loop: what is left, and whether it goes on
-pub stepped_less : {xs : List ℕ} {b n w s : ℕ} {row left row' left' : List ℕ} {took : Bool} (going : Bool) → Stepped xs b n w s row left row' left' took → going ≡ true
-    → amount (row_bit left' 0) (64 * w) + cond took 1 0 < amount (row_bit left 0) (64 * w) + cond going 1 0
-stepped_less {w = w} {left = left} {left' = left'} {took} going p e = rw e (go took p.less)
-  where
-    go : (b : Bool) → (b ≡ true → amount (row_bit left' 0) (64 * w) < amount (row_bit left 0) (64 * w)) → amount (row_bit left' 0) (64 * w) + cond b 1 0 < amount (row_bit left 0) (64 * w) + 1
-    go true l = omega (arith, l refl)
-    go false l = omega (arith, p.grown.fewer)

@@ -21,6 +21,9 @@ use Rattle.relation.proofs.Clean.{clean_past}
 use Rattle.relation.proofs.Joining.{row_blank}
 use Rattle.relation.proofs.Pair.{made_row}
 use Rattle.transitive_closure.specs.Finishing.{closure_at, amount, PartlyClosed, Stage}
+use Rattle.transitive_closure.specs.Standing.{Ready, StageTo}
+use Rattle.transitive_closure.specs.declared.Place.{Place}
+use Rattle.transitive_closure.specs.declared.Marks.{Marks}
 use Rattle.transitive_closure.proofs.Amounts.{amount_less}
 use Rattle.transitive_closure.proofs.Paths.{closure_in, closure_edge, closure_trans, closure_ind}
 use Rattle.transitive_closure.proofs.Rows.{or_either, and_yes, off, both_ways, lost, gone_off}
@@ -31,22 +34,22 @@ empty_row {xs} {b = b} {n} {w} k t h d e =
     closure_ind n (pair_at xs b w) k (λ (j : ℕ). ⊥) (λ j hk hj q. false≢true (sym (h.empty k j hk (omega (arith, h.bits)) d) ∙ q)) (λ j i hj hi q p. q) t e
 
 -- ---- the rows that are not empty are live and pending, and none is finished
-pub ready_start : {xs os live os' pending : List ℕ} {b n w : ℕ} (m : ℕ) → b + n * w ≤ length xs → n ≤ 64 * w → w ≤ 16 → w ≤ m → w ≤ length live → w ≤ length pending → Clean xs b n w
-    → Row 0 w (mask_of (λ t. some? (pair_at xs b w t) (range n)) n) os live → Row 0 w (row_bit live 0) os' pending → PartlyClosed xs live pending (replicate m 0) b n w
-ready_start {xs} {live = live} {pending = pending} {b} {n} {w} m room bits words hm l o clean p q =
+pub ready_start : {xs os live : List ℕ} {b n w : ℕ} (m : ℕ) → b + n * w ≤ length xs → n ≤ 64 * w → w ≤ 16 → w ≤ m → w ≤ length live → Clean xs b n w
+    → Row 0 w (mask_of (λ t. some? (pair_at xs b w t) (range n)) n) os live → PartlyClosed xs live live (replicate m 0) b n w
+ready_start {xs} {live = live} {b} {n} {w} m room bits words hm l clean p =
     record {
       room = room;
       bits = bits;
       words = words;
       live_room = l;
-      pending_room = o;
+      pending_room = l;
       finished_room = omega (arith, length-replicate {A = ℕ} m 0);
       clean = clean;
-      inner = λ t h e. ⊎_elim (λ (k : n ≤ t). absurd (false≢true (sym (mask_past test n t k) ∙ sym (p.bit t h) ∙ sym (q.bit t h) ∙ e))) (λ (k : t < n). k) (le_or_lt n t);
+      inner = λ t h e. ⊎_elim (λ (k : n ≤ t). absurd (false≢true (sym (mask_past test n t k) ∙ sym (p.bit t h) ∙ e))) (λ (k : t < n). k) (le_or_lt n t);
       empty = empty;
       settled = λ k h e. absurd (false≢true (sym (row_blank m k (omega arith)) ∙ e));
       closed = λ k t h d e. absurd (closure_ind n (pair_at xs b w) k (λ (j : ℕ). ⊥)
-          (λ j hk hj y. false≢true (sym (empty k j hk (omega arith) (sym (q.bit k (omega arith)) ∙ d)) ∙ y)) (λ j i hj hi y z. y) t e);
+          (λ j hk hj y. false≢true (sym (empty k j hk (omega arith) d) ∙ y)) (λ j i hj hi y z. y) t e);
     }
   where
     test : ℕ → Bool
@@ -183,3 +186,13 @@ module _ (os : List ℕ) (w : ℕ) {k : ℕ} (p : Least (common os 0 os os) (64 
 
   pub pending_none : 64 * w ≤ k → (s : ℕ) → s < 64 * w → row_bit os 0 s ≡ false
   pending_none l s h = off (row_bit os 0 s) (λ e. false≢true (sym (p.below s (omega arith)) ∙ rw e))
+
+-- ---- of the code's structs
+pub stage_start : (p : Place) (xs : List ℕ) (m : Marks) → Ready xs m p → StageTo p xs m xs m
+stage_start p xs m h = (refl, stage_none h)
+
+pub stage_ready : (p : Place) (xs ys : List ℕ) (m o : Marks) → StageTo p xs m ys o → Ready ys o p
+stage_ready p xs ys m o s = rw s.0 s.1.ready
+
+pub stage_next : (p : Place) (xs ys zs : List ℕ) (m o q : Marks) → StageTo p xs m ys o → StageTo p ys o zs q → StageTo p xs m zs q
+stage_next p xs ys zs m o q s t = (t.0 ∙ s.0, stage_then s.1 (rw s.0 at t.1))

@@ -3,6 +3,7 @@
 use mathlib.Core.Path.{◌≡◌, refl, sym, ◌∙◌}
 use mathlib.Core.Bool.{true, ◌&&◌, not}
 use mathlib.Core.List.{List}
+use Rattle.std.specs.Prelude.{Option, Some, None, IfSome}
 use mathlib.Core.Logic.{⊎_elim}
 use Prim.Native.Nat.{ℕ, ◌+◌, ◌-◌, ◌*◌, ◌/◌, ◌≤◌, ◌<◌}
 use native.Mathlib.Nat.{eq-or-lt_of_le}
@@ -11,60 +12,51 @@ use lib.Dec.{eqb}
 use lib.ListN.{length, set, length-set}
 use lib.Seq.{get_or-set_same, get_or-set_other}
 use borrow.Author.Tests.{eq-eqb}
-use Rattle.rows.specs.Row.{row_bit, Row, Put, common, Least}
+use Rattle.rows.specs.Row.{row_bit, Put, common, Found}
 use Rattle.relation.specs.Pairs.{CleanRow}
-use Rattle.transitive_closure.specs.Finishing.{amount, Trail, Ahead, Turned}
+use Rattle.transitive_closure.specs.Finishing.{amount, Trail, Ahead}
 use Rattle.transitive_closure.proofs.Amounts.{amount_le, amount_less}
 use Rattle.transitive_closure.proofs.Rows.{and_yes, gone_off}
 
 -- no row yet
-pub trail_none : {unseen₀ unseen : List ℕ} {n w : ℕ} (os stack : List ℕ) → Row 0 w (row_bit os 0) unseen₀ unseen → CleanRow os 0 n w → 1024 ≤ length stack
-    → w ≤ length unseen → Trail stack unseen n w 0
-trail_none {unseen = unseen} {w = w} os stack p c l m =
-    record { room = l; marks = m; inner = λ t h e. c t h (sym (p.bit t h) ∙ e); deep = omega (arith, amount_le (row_bit unseen 0) (64 * w)); rows = λ i h. absurd (omega arith) }
+pub trail_none : {unseen : List ℕ} {n w : ℕ} (stack : List ℕ) → CleanRow unseen 0 n w → 1024 ≤ length stack → w ≤ length unseen → Trail stack unseen n w 0
+trail_none {unseen} {w = w} stack c l m =
+    record { room = l; marks = m; inner = c; deep = omega (arith, amount_le (row_bit unseen 0) (64 * w)); rows = λ i h. absurd (omega arith) }
 
 -- a row that it has not met, among those of any row
-pub ahead_first : (xs : List ℕ) (r : ℕ) (unseen : List ℕ) {w k : ℕ} → Least (common xs r unseen unseen) (64 * w) k → Ahead unseen w k
-ahead_first xs r unseen {k = k} p =
-    record { most = p.most; new = λ h. (and_yes (row_bit unseen 0 k) (row_bit unseen 0 k) (and_yes (row_bit xs r k) (row_bit unseen 0 k && row_bit unseen 0 k) (p.here h)).1).0 }
+pub ahead_found : (xs : List ℕ) (r : ℕ) (unseen : List ℕ) (w : ℕ) (o : Option ℕ) → Found (common xs r unseen unseen) (64 * w) o → IfSome o (Ahead unseen w)
+ahead_found xs r unseen w (Some k) p =
+    record { low = p.0; new = (and_yes (row_bit unseen 0 k) (row_bit unseen 0 k) (and_yes (row_bit xs r k) (row_bit unseen 0 k && row_bit unseen 0 k) (p.1.here p.0)).1).0 }
+ahead_found xs r unseen w None p = tt
 
 -- down
-module _ {unseen unseen' : List ℕ} {n k : ℕ} (w : ℕ) (p : Put 0 k (λ j. row_bit unseen 0 j && not (eqb j k)) unseen unseen') (a : Ahead unseen w k) (h : k < 64 * w)
+module _ {unseen unseen' : List ℕ} {n k : ℕ} (w : ℕ) (p : Put 0 k (λ j. row_bit unseen 0 j && not (eqb j k)) unseen unseen') (a : Ahead unseen w k)
     {stack : List ℕ} {depth : ℕ} (t : Trail stack unseen n w depth) (hk : w ≤ 16) where
   hw : k / 64 < w
-  hw = omega arith
+  hw = omega (arith, a.low)
 
   was : (j : ℕ) → j / 64 < w → row_bit unseen' 0 j ≡ true → row_bit unseen 0 j ≡ true
   was j l e = (and_yes (row_bit unseen 0 j) (not (eqb j k)) (sym ((p w hw).bit j l) ∙ e)).0
 
-  fewer : amount (row_bit unseen' 0) (64 * w) < amount (row_bit unseen 0) (64 * w)
-  fewer = amount_less (row_bit unseen 0) (row_bit unseen' 0) (64 * w) k (λ j l. was j (omega arith)) h (a.new h) ((p w hw).bit k hw ∙ gone_off (row_bit unseen 0 k) (eqb k k) (eq-eqb k k refl))
+  pub trail_fewer : amount (row_bit unseen' 0) (64 * w) < amount (row_bit unseen 0) (64 * w)
+  trail_fewer =
+      amount_less (row_bit unseen 0) (row_bit unseen' 0) (64 * w) k (λ j l. was j (omega arith)) a.low a.new ((p w hw).bit k hw ∙ gone_off (row_bit unseen 0 k) (eqb k k) (eq-eqb k k refl))
 
   pub trail_room : depth < length stack
-  trail_room = omega (arith, fewer, t.deep, t.room)
+  trail_room = omega (arith, trail_fewer, t.deep, t.room)
 
-  pub trail_down : Turned n w depth (depth + 1) stack unseen (set stack depth k) unseen'
-  trail_down =
-      record {
-        trail = record {
-          room = omega (arith, length-set stack depth k, t.room);
-          marks = omega (arith, (p w hw).kept.len, t.marks);
-          inner = λ j l e. t.inner j l (was j l e);
-          deep = omega (arith, fewer, t.deep);
-          rows = λ i q. ⊎_elim
-              (λ (z : i ≡ depth). rw (z, get_or-set_same stack depth k 0 trail_room) (t.inner k hw (a.new h)))
-              (λ (z : i < depth). rw (get_or-set_other stack depth i k 0 (omega arith)) (t.rows i z))
-              (eq-or-lt_of_le (omega arith));
-        };
-        same = (length-set stack depth k, (p w hw).kept.len);
-        less = omega (arith, fewer);
-      }
+  pub trail_down : Trail (set stack depth k) unseen' n w (depth + 1)
+  trail_down = record {
+    room = omega (arith, length-set stack depth k, t.room);
+    marks = omega (arith, (p w hw).kept.len, t.marks);
+    inner = λ j l e. t.inner j l (was j l e);
+    deep = omega (arith, trail_fewer, t.deep);
+    rows = λ i q. ⊎_elim
+        (λ (z : i ≡ depth). rw (z, get_or-set_same stack depth k 0 trail_room) (t.inner k hw a.new))
+        (λ (z : i < depth). rw (get_or-set_other stack depth i k 0 (omega arith)) (t.rows i z))
+        (eq-or-lt_of_le (omega arith));
+  }
 
 -- back
-pub trail_up : {stack unseen : List ℕ} {n w depth : ℕ} → Trail stack unseen n w depth → 0 < depth → Turned n w depth (depth - 1) stack unseen stack unseen
-trail_up t h =
-    record {
-      trail = record { room = t.room; marks = t.marks; inner = t.inner; deep = omega (arith, t.deep); rows = λ i l. t.rows i (omega arith) };
-      same = (refl, refl);
-      less = omega arith;
-    }
+pub trail_up : {stack unseen : List ℕ} {n w depth : ℕ} → Trail stack unseen n w depth → Trail stack unseen n w (depth - 1)
+trail_up t = record { room = t.room; marks = t.marks; inner = t.inner; deep = omega (arith, t.deep); rows = λ i l. t.rows i (omega arith) }

@@ -80,13 +80,7 @@ pub record Trail (stack unseen : List ℕ) (n w depth : ℕ) : Type 0 where
   pub deep : depth + amount (row_bit unseen 0) (64 * w) ≤ 64 * w
   pub rows : (i : ℕ) → i < depth → get_or stack i 0 < n
 
--- k is a row that it has not met, or 64 w
+-- k is a row that it has not met
 pub record Ahead (unseen : List ℕ) (w k : ℕ) : Type 0 where
-  pub most : k ≤ 64 * w
-  pub new : k < 64 * w → row_bit unseen 0 k ≡ true
-
--- one turn of it
-pub record Turned (n w depth depth' : ℕ) (stack unseen stack' unseen' : List ℕ) : Type 0 where
-  pub trail : Trail stack' unseen' n w depth'
-  pub same : (length stack' ≡ length stack) × (length unseen' ≡ length unseen)
-  pub less : 2 * amount (row_bit unseen' 0) (64 * w) + depth' < 2 * amount (row_bit unseen 0) (64 * w) + depth
+  pub low : k < 64 * w
+  pub new : row_bit unseen 0 k ≡ true

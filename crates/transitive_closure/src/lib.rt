@@ -3,250 +3,194 @@
 // Any order is right. The rows are finished as a depth-first search leaves them, so that most find finished ones to take in.
 #![tactic(auto)]
 
-ghost use Rattle.std.specs.Prelude.{◌≡◌, true, false, ◌&&◌, ◌||◌, ℕ, ◌+◌, ◌*◌, ◌/◌, ◌%◌, ◌<◌, ◌≤◌, eqb, length};
+ghost use Rattle.std.specs.Prelude.{◌≡◌, true, ◌&&◌, ◌||◌, false, ℕ, IfSome, ◌+◌, ◌*◌, ◌/◌, ◌%◌, ◌<◌, ◌≤◌, eqb, length};
 ghost use Rattle.bits.specs.Bit.{bit_of};
 ghost use Rattle.theory.specs.TransitiveClosure.{look, closure?};
-ghost use Rattle.rows.specs.Row.{row_bit, Row};
+ghost use Rattle.rows.specs.Row.{row_bit};
 ghost use Rattle.relation.specs.Pairs.{pair_at, Made, Clean};
-ghost use Rattle.transitive_closure.specs.Finishing.{closure_at, in_word, PartlyClosed, Took, Growing, Grown, Stepped, Stage, Trail, Ahead, Turned};
+ghost use Rattle.transitive_closure.specs.Finishing.{in_word, Ahead};
+ghost use Rattle.transitive_closure.specs.Standing.{Ready, TookIn, Grows, GrownTo, StepTo, Reached, StageTo, Walking, WalkedTo};
 
 use rows::{BITS, RECORDS, WIDEST};
 
-// The row takes in row k, which lies at d and is not finished; k is no longer left.
-fn take_pending(row: &mut [u64], left: &mut [u64], work: &[u64], d: usize, w: usize, k: usize)
-    requires { (w ≤ length row.old) × (w ≤ length left.old) × (d + w ≤ length work.now) × (k / 64 < w) }
-    ensures { Took w (row_bit work.now d) (λ t. eqb t k) row.old left.old row.new left.new }
-{
-    rows::unite(row, 0, work, d, w);
-    rows::unset(left, 0, k);
-}
+type Row = [u64; WIDEST];
 
-// The row takes in row k, which lies at d and is finished; neither k nor what row k has is left.
-fn take_finished(row: &mut [u64], left: &mut [u64], work: &[u64], d: usize, w: usize, k: usize)
-    requires { (w ≤ length row.old) × (w ≤ length left.old) × (d + w ≤ length work.now) × (k / 64 < w) }
-    ensures { Took w (row_bit work.now d) (λ t. row_bit work.now d t || eqb t k) row.old left.old row.new left.new }
-{
-    rows::unite(row, 0, work, d, w);
-    rows::exclude(left, 0, work, d, w);
-    rows::unset(left, 0, k);
-}
-
-// The row takes in the rows 64 i + j, which are finished, for each bit j of v; neither they nor what they have is left.
-fn take_all_finished(
-    row: &mut [u64],
-    left: &mut [u64],
-    work: &[u64],
+// Where the relation lies: n rows of w words, from word b on.
+#[derive(Clone, Copy)]
+struct Place {
     b: usize,
     n: usize,
     w: usize,
-    i: usize,
-    v: u64,
-)
-    requires { (w ≤ length row.old) × (w ≤ length left.old) × (b + n * w ≤ length work.now) × (i < w) × (w ≤ 16) × ((j : ℕ) → bit_of v j ≡ true → 64 * i + j < n) }
-    ensures { Took w (in_word work.now b w i v) (λ t. in_word work.now b w i v t || (eqb (t / 64) i && bit_of v (t % 64)))
-        row.old left.old row.new left.new }
-{
-    let mut all = [0u64; WIDEST];
-    relation::gather(&mut all, work, b, n, w, BITS * i, v);
-    rows::unite(row, 0, &all, 0, w);
-    rows::exclude(left, 0, &all, 0, w);
-    let x = left[i];
-    left[i] = x & (x ^ v);
 }
 
-// The row takes in the finished rows of word i that it has and that are left, all at once: no test is worth what a row costs.
-fn take_rest(
-    row: &mut [u64],
-    left: &mut [u64],
-    work: &[u64],
-    live: &[u64],
-    pending: &[u64],
-    finished: &[u64],
-    b: usize,
-    n: usize,
-    w: usize,
-    s: usize,
-    i: usize,
-)
-    requires { PartlyClosed work.now live.now pending.now finished.now b n w × Growing work.now b n w s row.old left.old
-        × (w ≤ length row.old) × (w ≤ length left.old) × (i < w) }
-    ensures { Grown work.now b n w s row.old left.old row.new left.new }
-{
-    let v = row[i] & (left[i] & finished[i]);
-    if v != 0 {
-        take_all_finished(row, left, work, b, n, w, i, v);
+impl Place {
+    // The word at which row k begins.
+    fn row(self, k: usize) -> usize
+        requires { self.b + k * self.w ≤ usize.MAX }
+        ensures { result ≡ self.b + k * self.w }
+    {
+        self.b + k * self.w
     }
 }
 
-// One step: the row takes in a finished row that is left, and then the others of its word; where there is none, one that is not finished.
-// False where what the row has is all taken in.
-fn step(
-    row: &mut [u64],
-    left: &mut [u64],
-    work: &[u64],
-    live: &[u64],
-    pending: &[u64],
-    finished: &[u64],
-    b: usize,
-    n: usize,
-    w: usize,
-    s: usize,
-) -> bool
-    requires { PartlyClosed work.now live.now pending.now finished.now b n w × Growing work.now b n w s row.old left.old × (w ≤ length row.old) × (w ≤ length left.old) }
-    ensures { Stepped work.now b n w s row.old left.old row.new left.new result }
-{
-    let k = rows::first(row, 0, left, finished, w);
-    if k < BITS * w {
-        take_finished(row, left, work, b + k * w, w, k);
-        take_rest(
-            row,
-            left,
-            work,
-            live,
-            pending,
-            finished,
-            b,
-            n,
-            w,
-            s,
-            k / BITS,
-        );
-        return true;
-    }
-    let z = rows::first(row, 0, left, left, w);
-    if z < BITS * w {
-        take_pending(row, left, work, b + z * w, w, z);
-        return true;
-    }
-    false
+// What is known of the rows: live ones are not empty, pending ones are not finished yet.
+#[derive(Drop)]
+struct Marks {
+    live: Row,
+    pending: Row,
+    finished: Row,
 }
 
-// The row becomes row s of the closure. An empty row adds nothing, so that only live ones are left at first.
-fn reach(
-    row: &mut [u64],
-    work: &[u64],
-    live: &[u64],
-    pending: &[u64],
-    finished: &[u64],
-    b: usize,
-    n: usize,
-    w: usize,
+// Row s on its way to the closure's, and the rows that it has still to take in where it has them.
+#[derive(Drop)]
+struct Growth {
+    row: Row,
+    left: Row,
     s: usize,
-)
-    requires { PartlyClosed work.now live.now pending.now finished.now b n w × (s < n) × (w ≤ length row.old) }
-    ensures { Row 0 w (closure_at work.now b n w s) row.old row.new }
-{
-    let mut left = [0u64; WIDEST];
-    rows::copy(&mut left, 0, live, 0, w);
-    rows::copy(row, 0, work, b + s * w, w);
-    let mut going = true;
-    while going {
-        going = step(row, &mut left, work, live, pending, finished, b, n, w, s);
+}
+
+impl Growth {
+    // Takes in row k, which lies at d and is not finished; k is no longer left.
+    fn take_pending(&mut self, work: &[u64], d: usize, w: usize, k: usize)
+        requires { (w ≤ 16) × (d + w ≤ length work.now) × (k / 64 < w) }
+        ensures { TookIn w (row_bit work.now d) (λ t. eqb t k) self.old self.new }
+    {
+        rows::unite(&mut self.row, 0, work, d, w);
+        rows::unset(&mut self.left, 0, k);
+    }
+
+    // Takes in row k, which lies at d and is finished; neither k nor what row k has is left.
+    fn take_finished(&mut self, work: &[u64], d: usize, w: usize, k: usize)
+        requires { (w ≤ 16) × (d + w ≤ length work.now) × (k / 64 < w) }
+        ensures { TookIn w (row_bit work.now d) (λ t. row_bit work.now d t || eqb t k) self.old self.new }
+    {
+        rows::unite(&mut self.row, 0, work, d, w);
+        rows::exclude(&mut self.left, 0, work, d, w);
+        rows::unset(&mut self.left, 0, k);
+    }
+
+    // Takes in the rows 64 i + j, which are finished, for each bit j of v; neither they nor what they have is left.
+    fn take_all_finished(&mut self, work: &[u64], p: Place, i: usize, v: u64)
+        requires { (p.b + p.n * p.w ≤ length work.now) × (i < p.w) × (p.w ≤ 16) × ((j : ℕ) → bit_of v j ≡ true → 64 * i + j < p.n) }
+        ensures { TookIn p.w (in_word work.now p.b p.w i v)
+            (λ t. in_word work.now p.b p.w i v t || (eqb (t / 64) i && bit_of v (t % 64))) self.old self.new }
+    {
+        let mut all = [0u64; WIDEST];
+        relation::gather(&mut all, work, p.b, p.n, p.w, BITS * i, v);
+        rows::unite(&mut self.row, 0, &all, 0, p.w);
+        rows::exclude(&mut self.left, 0, &all, 0, p.w);
+        let x = self.left[i];
+        self.left[i] = x & (x ^ v);
+    }
+
+    // Takes in the finished rows of word i that it has and that are left, all at once: no test is worth what a row costs.
+    fn take_rest(&mut self, work: &[u64], m: &Marks, p: Place, i: usize)
+        requires { Ready work.now m.now p × Grows work.now p self.old × (i < p.w) }
+        ensures { GrownTo work.now p self.old self.new }
+    {
+        let v = self.row[i] & (self.left[i] & m.finished[i]);
+        if v != 0 {
+            self.take_all_finished(work, p, i, v);
+        }
+    }
+
+    // One step: takes in a finished row that is left, and then the others of its word; where there is none, one that is not finished.
+    // False where what the row has is all taken in.
+    fn step(&mut self, work: &[u64], m: &Marks, p: Place) -> bool
+        requires { Ready work.now m.now p × Grows work.now p self.old }
+        ensures { StepTo work.now p self.old self.new result }
+    {
+        if let Some(k) = rows::first(&self.row, 0, &self.left, &m.finished, p.w) {
+            self.take_finished(work, p.row(k), p.w, k);
+            self.take_rest(work, m, p, k / BITS);
+            return true;
+        }
+        if let Some(k) = rows::first(&self.row, 0, &self.left, &self.left, p.w) {
+            self.take_pending(work, p.row(k), p.w, k);
+            return true;
+        }
+        false
+    }
+
+    // The row becomes the closure's.
+    fn reach(&mut self, work: &[u64], m: &Marks, p: Place)
+        requires { Ready work.now m.now p × Grows work.now p self.old }
+        ensures { Reached work.now p self.old self.new }
+    {
+        while self.step(work, m, p) {}
     }
 }
 
-// Row s becomes the closure's.
-fn finish(
-    work: &mut [u64],
-    pending: &mut [u64],
-    finished: &mut [u64],
-    live: &[u64],
-    b: usize,
-    n: usize,
-    w: usize,
-    s: usize,
-)
-    requires { PartlyClosed work.old live.now pending.old finished.old b n w × (s < n) }
-    ensures { Stage b n w live.now work.old pending.old finished.old work.new pending.new finished.new
-        × (row_bit pending.new 0 s ≡ false) }
+// Row s becomes the closure's. An empty row adds nothing, so that only live ones are left at first.
+fn finish(work: &mut [u64], m: &mut Marks, p: Place, s: usize)
+    requires { Ready work.old m.old p × (s < p.n) }
+    ensures { StageTo p work.old m.old work.new m.new × (row_bit m.new.pending 0 s ≡ false) }
 {
-    let mut row = [0u64; WIDEST];
-    reach(&mut row, work, live, pending, finished, b, n, w, s);
-    rows::copy(work, b + s * w, &row, 0, w);
-    rows::unset(pending, 0, s);
-    rows::set(finished, 0, s);
+    let mut g = Growth {
+        row: [0u64; WIDEST],
+        left: m.live,
+        s,
+    };
+    rows::copy(&mut g.row, 0, work, p.row(s), p.w);
+    g.reach(work, m, p);
+    rows::copy(work, p.row(s), &g.row, 0, p.w);
+    rows::unset(&mut m.pending, 0, s);
+    rows::set(&mut m.finished, 0, s);
 }
 
-// A row that the walk has not met, one that the last row on the stack leads to; at its start any. 64 w where there is none.
-fn ahead(
-    work: &[u64],
-    unseen: &[u64],
-    stack: &[usize],
-    b: usize,
-    n: usize,
-    w: usize,
+// A walk over the rows, depth first: those that it has not met, and on the stack those that lead to where it stands. The stack has room for
+// all rows: there is no heap.
+#[derive(Drop)]
+struct Search {
+    unseen: Row,
+    stack: [usize; RECORDS],
     depth: usize,
-) -> usize
-    requires { (b + n * w ≤ length work.now) × (w ≤ 16) × Trail stack.now unseen.now n w depth }
-    ensures { Ahead unseen.now w result }
-{
-    if depth == 0 {
-        return rows::first(unseen, 0, unseen, unseen, w);
-    }
-    rows::first(work, b + stack[depth - 1] * w, unseen, unseen, w)
 }
 
-// One turn of the walk: down into row k, or, where there is none, back from the last row, which is finished. Its depth.
-fn turn(
-    work: &mut [u64],
-    pending: &mut [u64],
-    finished: &mut [u64],
-    unseen: &mut [u64],
-    stack: &mut [usize],
-    live: &[u64],
-    b: usize,
-    n: usize,
-    w: usize,
-    depth: usize,
-    k: usize,
-) -> usize
-    requires { PartlyClosed work.old live.now pending.old finished.old b n w × Trail stack.old unseen.old n w depth × Ahead unseen.old w k × (k < 64 * w + depth) }
-    ensures { Stage b n w live.now work.old pending.old finished.old work.new pending.new finished.new
-        × Turned n w depth result stack.old unseen.old stack.new unseen.new }
-{
-    if k < BITS * w {
-        rows::unset(unseen, 0, k);
-        stack[depth] = k;
-        return depth + 1;
+impl Search {
+    // A row that the walk has not met, one that the last row on the stack leads to; at its start any.
+    fn ahead(&self, work: &[u64], p: Place) -> Option<usize>
+        requires { (p.b + p.n * p.w ≤ length work.now) × (p.w ≤ 16) × Walking p self.now }
+        ensures { IfSome result (Ahead self.now.unseen p.w) }
+    {
+        if self.depth == 0 {
+            return rows::first(&self.unseen, 0, &self.unseen, &self.unseen, p.w);
+        }
+        let d = p.row(self.stack[self.depth - 1]);
+        rows::first(work, d, &self.unseen, &self.unseen, p.w)
     }
-    finish(work, pending, finished, live, b, n, w, stack[depth - 1]);
-    depth - 1
+
+    // One turn: down into a row, or, where there is none, back from the last row, which is finished. False at the walk's end.
+    fn turn(&mut self, work: &mut [u64], m: &mut Marks, p: Place) -> bool
+        requires { Ready work.old m.old p × Walking p self.old }
+        ensures { StageTo p work.old m.old work.new m.new × WalkedTo p self.old self.new result }
+    {
+        if let Some(k) = self.ahead(work, p) {
+            rows::unset(&mut self.unseen, 0, k);
+            self.stack[self.depth] = k;
+            self.depth += 1;
+            return true;
+        }
+        if self.depth == 0 {
+            return false;
+        }
+        self.depth -= 1;
+        finish(work, m, p, self.stack[self.depth]);
+        true
+    }
 }
 
 // The rows are finished as a depth-first search over them leaves them.
-fn walk(
-    work: &mut [u64],
-    pending: &mut [u64],
-    finished: &mut [u64],
-    live: &[u64],
-    b: usize,
-    n: usize,
-    w: usize,
-)
-    requires { PartlyClosed work.old live.now pending.old finished.old b n w }
-    ensures { Stage b n w live.now work.old pending.old finished.old work.new pending.new finished.new }
+fn walk(work: &mut [u64], m: &mut Marks, p: Place)
+    requires { Ready work.old m.old p }
+    ensures { StageTo p work.old m.old work.new m.new }
 {
-    let mut unseen = [0u64; WIDEST];
-    rows::copy(&mut unseen, 0, pending, 0, w);
-    let mut stack = [0usize; RECORDS];
-    let mut depth = 0;
-    let mut k = ahead(work, &unseen, &stack, b, n, w, 0);
-    while k < BITS * w + depth {
-        depth = turn(
-            work,
-            pending,
-            finished,
-            &mut unseen,
-            &mut stack,
-            live,
-            b,
-            n,
-            w,
-            depth,
-            k,
-        );
-        k = ahead(work, &unseen, &stack, b, n, w, depth);
-    }
+    let mut search = Search {
+        unseen: m.pending,
+        stack: [0usize; RECORDS],
+        depth: 0,
+    };
+    while search.turn(work, m, p) {}
 }
 
 // The relation at b becomes its transitive closure. After the walk no row is pending: with the loop behind it its order is a matter of speed
@@ -257,13 +201,14 @@ pub fn closure(work: &mut [u64], b: usize, n: usize, w: usize)
 {
     let mut live = [0u64; WIDEST];
     relation::sources(&mut live, work, b, n, w);
-    let mut pending = [0u64; WIDEST];
-    rows::copy(&mut pending, 0, &live, 0, w);
-    let mut finished = [0u64; WIDEST];
-    walk(work, &mut pending, &mut finished, &live, b, n, w);
-    let mut s = rows::first(&pending, 0, &pending, &pending, w);
-    while s < BITS * w {
-        finish(work, &mut pending, &mut finished, &live, b, n, w, s);
-        s = rows::first(&pending, 0, &pending, &pending, w);
+    let mut m = Marks {
+        live,
+        pending: live,
+        finished: [0u64; WIDEST],
+    };
+    let p = Place { b, n, w };
+    walk(work, &mut m, p);
+    while let Some(s) = rows::first(&m.pending, 0, &m.pending, &m.pending, w) {
+        finish(work, &mut m, p, s);
     }
 }

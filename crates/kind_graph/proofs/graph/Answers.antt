@@ -4,5 +4,4 @@ use Rattle.kind_graph.proofs.Linking.{linked}
 use Rattle.kind_graph.proofs.graph.Goals as goal
 
 pub returns : goal.returns
-returns c =
-    linked c.edges.ensures c.closure.ensures c.cyclic.ensures c.double.ensures c.join.ensures
+returns c = linked c.edges.ensures c.closure.ensures c.cyclic.ensures c.double.ensures c.join.ensures

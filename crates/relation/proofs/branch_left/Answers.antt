@@ -2,24 +2,9 @@
 -- Assumes nothing.
 use Rattle.relation.proofs.Clean.{clean_ahead}
 use Rattle.relation.proofs.Branches.{branch_more}
-use Rattle.relation.proofs.Making.{row_le, made_none, made_all}
+use Rattle.relation.proofs.Making.{row_le}
 use native.Mathlib.Omega.{arith}
 use Rattle.relation.proofs.branch_left.Goals as goal
-
-pub loop-s-init : goal.loop-s-init
-loop-s-init c = (omega arith, made_none _ _ _ _)
-
-pub overflow_mul-s : goal.overflow_mul-s
-overflow_mul-s c = omega (arith, row_le c.args.w c.loop-s-test.true)
-
-pub overflow_add-p : goal.overflow_add-p
-overflow_add-p c = omega (arith, row_le c.args.w c.loop-s-test.true)
-
-pub overflow_mul-s-in-loop-s : goal.overflow_mul-s-in-loop-s
-overflow_mul-s-in-loop-s c = omega (arith, row_le c.args.w c.loop-s-test.true)
-
-pub overflow_add-q : goal.overflow_add-q
-overflow_add-q c = omega (arith, row_le c.args.w c.loop-s-test.true)
 
 pub branch_row-requires : goal.branch_row-requires
 branch_row-requires c =
@@ -28,11 +13,4 @@ branch_row-requires c =
     (omega arith, omega arith, omega arith, omega arith, clean_ahead _ _ l.invariant.1 (omega arith) (c.requires.4 l.s (omega arith)))
 
 pub loop-s-preserved : goal.loop-s-preserved
-loop-s-preserved c =
-    let c2 = c in
-    let c5 = c2 in
-    let c7 = c5 in
-    (omega arith, branch_more c7.args.q c7.args.n c5.loop-s.invariant.1 c2.branch_row.ensures (omega arith) (omega arith) (omega arith))
-
-pub returns : goal.returns
-returns c = made_all c.loop-s.invariant.1 (omega arith)
+loop-s-preserved c = (omega arith, branch_more c.args.q c.args.n c.loop-s.invariant.1 c.branch_row.ensures (omega arith) (omega arith) (omega arith))

@@ -4,8 +4,4 @@ use Rattle.relation.proofs.Branches.{branched}
 use Rattle.relation.proofs.branch_right.Goals as goal
 
 pub returns : goal.returns
-returns c =
-    let c2 = c in
-    let c6 = c2 in
-    let c10 = c6 in
-    branched c10.args.q c10.requires.4 c6.sources.ensures c2.keep_targets.ensures
+returns c = branched c.args.q c.requires.4 c.sources.ensures c.keep_targets.ensures

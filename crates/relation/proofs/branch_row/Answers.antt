@@ -7,12 +7,8 @@ use Rattle.relation.proofs.branch_row.Goals as goal
 
 pub returns-then-any : goal.returns-then-any
 returns-then-any c =
-    let c2 = c in
-    let c4 = c2 in
-    let c5 = c4 in
-    let c8 = c5 in
-    let a = c8.args in
-    branch_yes _ a.d a.s a.n _ c8.requires.4 (omega arith) (sym c5.any.ensures ∙ c4.if-any.true) c2.merge_within.ensures
+    let a = c.args in
+    branch_yes _ a.d a.s a.n _ c.requires.4 (omega arith) (sym c.any.ensures ∙ c.if-any.true) c.merge_within.ensures
 
 pub returns-else-any : goal.returns-else-any
 returns-else-any c =

@@ -6,8 +6,5 @@ use Rattle.relation.proofs.follow.Goals as goal
 
 pub returns : goal.returns
 returns c =
-    let c2 = c in
-    let c6 = c2 in
-    let c12 = c6 in
-    let a = c12.args in
-    words_put a.row.now 0 a.work.now a.q a.w a.mask.now a.m 16 0 a.n c6.take_row.ensures c2.copy.ensures (omega arith) (omega arith) c12.requires.5
+    let a = c.args in
+    words_put a.row.now 0 a.work.now a.q a.w a.mask.now a.m 16 0 a.n c.take_row.ensures c.copy.ensures (omega arith) (omega arith) c.requires.5

@@ -6,7 +6,5 @@ use Rattle.relation.proofs.take_aside.Goals as goal
 
 pub returns : goal.returns
 returns c =
-    let c2 = c in
-    let c6 = c2 in
-    let a = c6.args in
-    word_aside a.work.now 16 a.q a.w a.g a.v c6.take_bits.ensures c2.unite.ensures (omega arith)
+    let a = c.args in
+    word_aside a.work.now 16 a.q a.w a.g a.v c.take_bits.ensures c.unite.ensures (omega arith)

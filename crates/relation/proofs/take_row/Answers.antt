@@ -1,6 +1,5 @@
 -- `relation::take_row` meets its contract: a turn takes in the rows that one word names.
 -- Assumes nothing.
-use mathlib.Core.Path.{◌≡◌}
 use Prim.Native.Nat.{◌+◌}
 use native.Mathlib.Omega.{arith}
 use Rattle.relation.proofs.Joining.{word_clean, words_none, words_more}
@@ -11,20 +10,13 @@ loop-i-init c = (omega arith, words_none _ _ _ _ _ _ _ _)
 
 pub take_some-requires : goal.take_some-requires
 take_some-requires c =
-    let c4 = c in
-    let c7 = c4 in
-    let c9 = c7 in
-    let s = c9 in
-    let a = s.args in
-    let l = c4.loop-i in
+    let a = c.args in
+    let l = c.loop-i in
     let e = l.invariant.1.kept.len in
-    (omega arith, omega arith, word_clean a.from.now a.mask.now a.d a.m a.n a.w l.i s.requires.5 (omega arith) (omega (arith, c7.shared_slice_known-1.given (a.d + l.i))))
+    (omega arith, omega arith, word_clean a.from.now a.mask.now a.d a.m a.n a.w l.i c.requires.5 (omega arith) (omega (arith, c.type_inv.from (a.d + l.i))))
 
 pub loop-i-preserved : goal.loop-i-preserved
 loop-i-preserved c =
     let a = c.args in
     let l = c.loop-i in
     (omega arith, words_more a.from.now a.d a.work.now a.q a.w a.mask.now a.m l.i l.invariant.1 c.take_some.ensures)
-
-pub returns : goal.returns
-returns c = let e : c.loop-i.i ≡ c.args.w = omega arith in rw e at c.loop-i.invariant.1

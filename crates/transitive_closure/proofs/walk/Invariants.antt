@@ -1,15 +1,12 @@
 -- `transitive_closure::walk` meets its contract: each turn is a stage, and the walk ends with all rows met and none on the stack.
-use mathlib.Core.Path.{◌≡◌}
-use lib.ListN.{length}
 use Rattle.rows.specs.Row.{row_bit}
-use Rattle.transitive_closure.specs.Finishing.{amount, Stage, Trail, Ahead}
+use Rattle.transitive_closure.specs.Finishing.{amount}
+use Rattle.transitive_closure.specs.Standing.{StageTo, Walking}
 use Prim.Native.Nat.{◌+◌, ◌*◌}
 use Rattle.transitive_closure.proofs.walk.Given as goal
 
-abbrev pub invariant-loop-k : goal.invariant-loop-k
-invariant-loop-k l =
-    Stage l.b l.n l.w l.live l.initial.work l.initial.pending l.initial.finished l.work l.pending l.finished × Trail l.stack l.unseen l.n l.w l.depth × Ahead l.unseen l.w l.k ×
-    (length l.stack ≡ 1024) × (length l.unseen ≡ 16)
+abbrev pub invariant-loop-p : goal.invariant-loop-p
+invariant-loop-p l = StageTo l.p l.initial.work l.initial.m l.work l.m × Walking l.p l.search
 
-abbrev pub decreases-loop-k : goal.decreases-loop-k
-decreases-loop-k l = 2 * amount (row_bit l.unseen 0) (64 * l.w) + l.depth
+abbrev pub decreases-loop-p : goal.decreases-loop-p
+decreases-loop-p l = 2 * amount (row_bit l.search.unseen 0) (64 * l.p.w) + l.search.depth

@@ -8,15 +8,15 @@ use Prim.Native.Nat.{ℕ, ◌+◌, ◌-◌, ◌*◌, ◌/◌, ◌^◌, ◌≤◌
 use native.Mathlib.Nat.{zero-add, eq-or-lt_of_le}
 use native.Mathlib.Omega.{arith}
 use lib.ListN.{get_or}
-use Rattle.bits.specs.Bit.{bit_of, Lowest}
-use Rattle.bits.proofs.Bits.{bit_zero, bit_shr}
+use Rattle.bits.specs.Bit.{bit_of}
 use Rattle.rows.specs.Row.{row_bit, Row}
 use Rattle.rows.proofs.Words.{kept_refl, kept_trans, le_or_lt}
 use Rattle.rows.proofs.Rows.{kept_bit, row_is}
+use Rattle.rows.proofs.BitLists.{Next}
 use Rattle.relation.specs.Pairs.{pair_at, Made, CleanRow}
 use Rattle.relation.proofs.Making.{row_le}
 use Rattle.relation.proofs.Joining.{row_word, bit_below}
-use Rattle.chains.specs.Route.{between, Gained}
+use Rattle.chains.specs.Routed.{between, Gained}
 
 -- ---- any pairs f
 module _ {n w : ℕ} {f : ℕ → ℕ → Bool} where
@@ -76,35 +76,36 @@ module _ (f : ℕ → ℕ → Bool) (from to : List ℕ) (i : ℕ) where
   absent s t e = ap (λ (b : Bool). f s t && (b && row_bit to 0 t)) e ∙ and-false (f s t)
 
   module _ {n w : ℕ} {xs ys : List ℕ} (p : ℕ) where
-    -- from the p-th bit on to the lowest that is left, and its record's row
-    pub word_row : {zs : List ℕ} (k : ℕ) → Gained (64 * i) (64 * i + p) n w (between f from to) xs ys → Lowest 64 (get_or from i 0 / 2 ^ p) k → p + k < 64 → 64 * i + p + k < n
-        → Row ((64 * i + p + k) * w) w (λ t. row_bit ys ((64 * i + p + k) * w) t || (f (64 * i + p + k) t && row_bit to 0 t)) ys zs
-        → Gained (64 * i) (64 * i + (p + k + 1)) n w (between f from to) xs zs
-    word_row {zs} k g l h hn r =
-        subst (λ (q : ℕ). Gained (64 * i) q n w (between f from to) xs zs) (let e : 64 * i + p + k + 1 ≡ 64 * i + (p + k + 1) = omega arith in e)
-        (gained_row (64 * i + p + k) (gained_skip (64 * i + p + k) g (omega arith) skipped) (row_is r same) hn (omega arith))
+    -- from the p-th bit on to the next one, and its record's row
+    pub word_row : {zs : List ℕ} (k : ℕ) → Gained (64 * i) (64 * i + p) n w (between f from to) xs ys → Next (get_or from i 0) p k → 64 * i + k < n
+        → Row ((64 * i + k) * w) w (λ t. row_bit ys ((64 * i + k) * w) t || (f (64 * i + k) t && row_bit to 0 t)) ys zs
+        → Gained (64 * i) (64 * i + (k + 1)) n w (between f from to) xs zs
+    word_row {zs} k g x hn r =
+        subst (λ (q : ℕ). Gained (64 * i) q n w (between f from to) xs zs) (let e : 64 * i + k + 1 ≡ 64 * i + (k + 1) = omega arith in e)
+        (gained_row (64 * i + k) (gained_skip (64 * i + k) g (omega (arith, x.from)) skipped) (row_is r same) hn (omega arith))
       where
-        skipped : (s t : ℕ) → 64 * i + p ≤ s → s < 64 * i + p + k → between f from to s t ≡ false
+        skipped : (s t : ℕ) → 64 * i + p ≤ s → s < 64 * i + k → between f from to s t ≡ false
         skipped s t a b =
-            let j = s - (64 * i + p) in
-            let e : 64 * i + (p + j) ≡ s = omega arith in
-            absent s t (ap (row_bit from 0) (sym e) ∙ bit_at from i (p + j) (omega arith) ∙ sym (bit_shr (get_or from i 0) p j) ∙ l.below j (omega arith))
+            let j = s - 64 * i in
+            let e : 64 * i + j ≡ s = omega arith in
+            absent s t (ap (row_bit from 0) (sym e) ∙ bit_at from i j (omega (arith, x.small)) ∙ x.below j (omega arith) (omega arith))
 
-        here : row_bit from 0 (64 * i + p + k) ≡ true
-        here = let e : 64 * i + (p + k) ≡ 64 * i + p + k = omega arith in ap (row_bit from 0) (sym e) ∙ bit_at from i (p + k) h ∙ sym (bit_shr (get_or from i 0) p k) ∙ l.here
+        here : row_bit from 0 (64 * i + k) ≡ true
+        here = bit_at from i k x.small ∙ x.here
 
-        same : (t : ℕ) → t / 64 < w → row_bit ys ((64 * i + p + k) * w) t || (f (64 * i + p + k) t && row_bit to 0 t) ≡ row_bit ys ((64 * i + p + k) * w) t || between f from to (64 * i + p + k) t
-        same t ht = ap (λ (b : Bool). row_bit ys ((64 * i + p + k) * w) t || (f (64 * i + p + k) t && (b && row_bit to 0 t))) (sym here)
+        same : (t : ℕ) → t / 64 < w → row_bit ys ((64 * i + k) * w) t || (f (64 * i + k) t && row_bit to 0 t) ≡ row_bit ys ((64 * i + k) * w) t || between f from to (64 * i + k) t
+        same t ht = ap (λ (b : Bool). row_bit ys ((64 * i + k) * w) t || (f (64 * i + k) t && (b && row_bit to 0 t))) (sym here)
 
     -- no bit is left
-    pub word_end : Gained (64 * i) (64 * i + p) n w (between f from to) xs ys → get_or from i 0 / 2 ^ p ≡ 0 → p ≤ 64 → Gained (64 * i) (64 * i + 64) n w (between f from to) xs ys
+    pub word_end : Gained (64 * i) (64 * i + p) n w (between f from to) xs ys → ((j : ℕ) → p ≤ j → j < 64 → bit_of (get_or from i 0) j ≡ false) → p ≤ 64
+        → Gained (64 * i) (64 * i + 64) n w (between f from to) xs ys
     word_end g e h = gained_skip (64 * i + 64) g (omega arith) none
       where
         none : (s t : ℕ) → 64 * i + p ≤ s → s < 64 * i + 64 → between f from to s t ≡ false
         none s t a b =
-            let j = s - (64 * i + p) in
-            let q : 64 * i + (p + j) ≡ s = omega arith in
-            absent s t (ap (row_bit from 0) (sym q) ∙ bit_at from i (p + j) (omega arith) ∙ sym (bit_shr (get_or from i 0) p j) ∙ ap (λ (x : ℕ). bit_of x j) e ∙ bit_zero j)
+            let j = s - 64 * i in
+            let q : 64 * i + j ≡ s = omega arith in
+            absent s t (ap (row_bit from 0) (sym q) ∙ bit_at from i j (omega arith) ∙ e j (omega arith) (omega arith))
 
 pub gained_word : {n w : ℕ} (i : ℕ) {f : ℕ → ℕ → Bool} {xs ys : List ℕ} → Gained 0 (64 * i + 64) n w f xs ys → Gained 0 (64 * (i + 1)) n w f xs ys
 gained_word {n} {w} i {f} {xs} {ys} g = subst (λ (q : ℕ). Gained 0 q n w f xs ys) (let e : 64 * i + 64 ≡ 64 * (i + 1) = omega arith in e) g

@@ -16,7 +16,7 @@ use Rattle.rows.proofs.Rows.{row_is, row_then}
 use Rattle.relation.specs.Pairs.{pair_at, CleanRow, taken_row}
 use Rattle.relation.proofs.Clean.{clean_past}
 use Rattle.relation.proofs.Joining.{words_all}
-use Rattle.chains.specs.Route.{routed, Routed}
+use Rattle.chains.specs.Routed.{routed, Routed}
 
 module _ {xs bs ms : List ℕ} {n w m : ℕ} (route : Routed xs bs ms n w m) where
   -- it leads to no record of n or more

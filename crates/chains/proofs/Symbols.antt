@@ -15,7 +15,7 @@ use Rattle.theory.specs.PathExpr.{through, PathExpr, join, Symbol, s_step}
 use Rattle.theory.specs.Postfix.{Stack, push, go_on, read, single_path, path_of}
 use Rattle.symbols.specs.Symbols.{symbol_numbered}
 use Rattle.symbols.proofs.Numbers.{through_number, given_symbol}
-use Rattle.evaluation.specs.Ground.{symbols_in}
+use Rattle.evaluation.specs.Grounded.{symbols_in}
 use Rattle.chains.specs.Chain.{IsStep, step_numbered, Chained, chain_path}
 use Rattle.chains.proofs.Holding.{no_step, step_is}
 
@@ -52,45 +52,45 @@ module _ (ns ms : List ℕ) where
   twice_is (suc d) = let e = twice_is d in omega arith
 
   -- d links more
-  along : (first d j m : ℕ) → j + d ≡ m → Chained ns first m → read (symbols_in ns ms (twice d) (first + 2 * j + 1)) (chain_path ns ms first j ∷ []) ≡ some (chain_path ns ms first m ∷ [])
+  along : (d j m : ℕ) → j + d ≡ m → Chained ns m → read (symbols_in ns ms (twice d) (2 * j + 1)) (chain_path ns ms j ∷ []) ≡ some (chain_path ns ms m ∷ [])
   unfolding twice
-  along first zero j m e c = let z : j ≡ m = omega arith in ap (λ (k : ℕ). some (chain_path ns ms first k ∷ [])) z
-  along first (suc d) j m e c =
-      let a : first + 2 * j + 1 + 1 ≡ first + 2 * j + 2 = omega arith in
-      let b : suc (suc (first + 2 * j + 1)) ≡ first + 2 * suc j + 1 = omega arith in
-      let k : suc (first + 2 * j + 1) ≡ first + 2 * j + 2 = omega arith in
-      let p = chain_path ns ms first j in
-      let q = step_numbered (get_or ns (first + 2 * j + 1) 0) in
-      ap (λ o. go_on o (read (symbols_in ns ms (suc (twice d)) (suc (first + 2 * j + 1)))))
-      (ap (λ (x : Symbol). push x (p ∷ [])) (same_symbol (first + 2 * j + 1)) ∙ push_step (get_or ns (first + 2 * j + 1) 0) (get_or ms (first + 2 * j + 1) 0) (p ∷ []) (c.link j (omega arith)))
-      ∙ ap (λ o. go_on o (read (symbols_in ns ms (twice d) (suc (suc (first + 2 * j + 1))))))
-      (ap (λ (i : ℕ). push (symbol_at i) (q ∷ p ∷ [])) k ∙ ap (λ (x : Symbol). push x (q ∷ p ∷ [])) (same_symbol (first + 2 * j + 2))
-      ∙ push_joint (get_or ns (first + 2 * j + 2) 0) (get_or ms (first + 2 * j + 2) 0) p q [] (c.joint j (omega arith)))
-      ∙ ap (λ (i : ℕ). read (symbols_in ns ms (twice d) i) (chain_path ns ms first (suc j) ∷ [])) b
-      ∙ along first d (suc j) m (omega arith) c
+  along zero j m e c = let z : j ≡ m = omega arith in ap (λ (k : ℕ). some (chain_path ns ms k ∷ [])) z
+  along (suc d) j m e c =
+      let a : 2 * j + 1 + 1 ≡ 2 * j + 2 = omega arith in
+      let b : suc (suc (2 * j + 1)) ≡ 2 * suc j + 1 = omega arith in
+      let k : suc (2 * j + 1) ≡ 2 * j + 2 = omega arith in
+      let p = chain_path ns ms j in
+      let q = step_numbered (get_or ns (2 * j + 1) 0) in
+      ap (λ o. go_on o (read (symbols_in ns ms (suc (twice d)) (suc (2 * j + 1)))))
+      (ap (λ (x : Symbol). push x (p ∷ [])) (same_symbol (2 * j + 1)) ∙ push_step (get_or ns (2 * j + 1) 0) (get_or ms (2 * j + 1) 0) (p ∷ []) (c.link j (omega arith)))
+      ∙ ap (λ o. go_on o (read (symbols_in ns ms (twice d) (suc (suc (2 * j + 1))))))
+      (ap (λ (i : ℕ). push (symbol_at i) (q ∷ p ∷ [])) k ∙ ap (λ (x : Symbol). push x (q ∷ p ∷ [])) (same_symbol (2 * j + 2))
+      ∙ push_joint (get_or ns (2 * j + 2) 0) (get_or ms (2 * j + 2) 0) p q [] (c.joint j (omega arith)))
+      ∙ ap (λ (i : ℕ). read (symbols_in ns ms (twice d) i) (chain_path ns ms (suc j) ∷ [])) b
+      ∙ along d (suc j) m (omega arith) c
 
-  pub chain_reads : (first m size : ℕ) → size ≡ 2 * m + 1 → Chained ns first m → path_of (symbols_in ns ms size first) ≡ some (chain_path ns ms first m)
-  chain_reads first m size e c =
+  pub chain_reads : (m size : ℕ) → size ≡ 2 * m + 1 → Chained ns m → path_of (symbols_in ns ms size 0) ≡ some (chain_path ns ms m)
+  chain_reads m size e c =
       let z : size ≡ suc (twice m) = omega (arith, twice_is m) in
-      let a : suc first ≡ first + 2 * 0 + 1 = omega arith in
+      let a : suc 0 ≡ 2 * 0 + 1 = omega arith in
       ap single_path
-      (ap (λ (k : ℕ). read (symbols_in ns ms k first) []) z
-      ∙ ap (λ o. go_on o (read (symbols_in ns ms (twice m) (suc first))))
-      (ap (λ (x : Symbol). push x []) (same_symbol first) ∙ push_step (get_or ns first 0) (get_or ms first 0) [] c.start)
-      ∙ ap (λ (i : ℕ). read (symbols_in ns ms (twice m) i) (chain_path ns ms first 0 ∷ [])) a
-      ∙ along first m 0 m (omega arith) c)
+      (ap (λ (k : ℕ). read (symbols_in ns ms k 0) []) z
+      ∙ ap (λ o. go_on o (read (symbols_in ns ms (twice m) (suc 0))))
+      (ap (λ (x : Symbol). push x []) (same_symbol 0) ∙ push_step (get_or ns 0 0) (get_or ms 0 0) [] c.start)
+      ∙ ap (λ (i : ℕ). read (symbols_in ns ms (twice m) i) (chain_path ns ms 0 ∷ [])) a
+      ∙ along m 0 m (omega arith) c)
 
 -- ---- the loop that tells a chain
-pub chained_none : (ns : List ℕ) (first : ℕ) → IsStep (get_or ns first 0) → Chained ns first 0
-chained_none ns first h = record { start = h; link = λ j l. absurd (omega arith); joint = λ j l. absurd (omega arith) }
+pub chained_none : (ns : List ℕ) → IsStep (get_or ns 0 0) → Chained ns 0
+chained_none ns h = record { start = h; link = λ j l. absurd (omega arith); joint = λ j l. absurd (omega arith) }
 
-pub chained_more : {ns : List ℕ} {first : ℕ} (j : ℕ) → Chained ns first j → IsStep (get_or ns (first + 2 * j + 1) 0) → get_or ns (first + 2 * j + 2) 0 ≡ 255 → Chained ns first (j + 1)
-chained_more {ns} {first} j c a b =
+pub chained_more : {ns : List ℕ} (j : ℕ) → Chained ns j → IsStep (get_or ns (2 * j + 1) 0) → get_or ns (2 * j + 2) 0 ≡ 255 → Chained ns (j + 1)
+chained_more {ns} j c a b =
     record {
       start = c.start;
-      link = below_more (λ i. IsStep (get_or ns (first + 2 * i + 1) 0)) j c.link a;
-      joint = below_more (λ i. get_or ns (first + 2 * i + 2) 0 ≡ 255) j c.joint b;
+      link = below_more (λ i. IsStep (get_or ns (2 * i + 1) 0)) j c.link a;
+      joint = below_more (λ i. get_or ns (2 * i + 2) 0 ≡ 255) j c.joint b;
     }
 
-pub chained_all : {ns : List ℕ} {first j m : ℕ} → Chained ns first j → j ≡ m → Chained ns first m
-chained_all {ns} {first} c e = subst (Chained ns first) e c
+pub chained_all : {ns : List ℕ} {j m : ℕ} → Chained ns j → j ≡ m → Chained ns m
+chained_all {ns} c e = subst (Chained ns) e c

@@ -1,2 +1,3 @@
 pub mod Chain
-pub mod Route
+pub mod Routed
+pub mod Walked

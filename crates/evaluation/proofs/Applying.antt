@@ -15,7 +15,7 @@ use Rattle.theory.proofs.Postfix.{none_some}
 use Rattle.register.specs.Form.{register_in}
 use Rattle.rows.proofs.Words.{kept_in}
 use Rattle.relation.specs.Pairs.{pair_at, Made, Clean}
-use Rattle.evaluation.specs.Ground.{Ground}
+use Rattle.evaluation.specs.Grounded.{Grounded}
 use Rattle.evaluation.specs.Stack.{Stored, Stacked, binary?, Applicable, Applied}
 use Rattle.evaluation.proofs.Grounds.{limits, rows_hold}
 use Rattle.evaluation.proofs.Relations.{stored_clean, stored_step, stored_closure, stored_join, stored_op, stacked_length, stacked_kept}
@@ -27,7 +27,7 @@ Binary (s_join v) = Unit {0}
 Binary (s_op o) = Unit {0}
 Binary s_closure = ⊥
 
-module _ {s : List ℕ} {n w : ℕ} (ground : Ground s n w) where
+module _ {s : List ℕ} {n w : ℕ} (ground : Grounded s n w) where
   -- ---- its operands
   clean : {xs : List ℕ} {b : ℕ} (p : PathExpr) → Stored xs b n w (look (evaluate (register_in s) p)) → Clean xs b n w
   clean p h = stored_clean (register_in s) (limits ground).formed n w ground.count (rows_hold ground) p h

@@ -18,11 +18,11 @@ use Rattle.rows.proofs.Masks.{mask_at}
 use Rattle.register.specs.Form.{register_in}
 use Rattle.relation.specs.Pairs.{pair_at, Combined}
 use Rattle.relation.proofs.Making.{made_is}
-use Rattle.evaluation.specs.Ground.{Ground}
+use Rattle.evaluation.specs.Grounded.{Grounded}
 use Rattle.evaluation.specs.Stack.{binary?}
 use Rattle.evaluation.proofs.Grounds.{rows_hold, narrow}
 
-module _ {s : List ℕ} {n w : ℕ} (ground : Ground s n w) {xs ys : List ℕ} (p q : ℕ) where
+module _ {s : List ℕ} {n w : ℕ} (ground : Grounded s n w) {xs ys : List ℕ} (p q : ℕ) where
   by_mask : (v : Via) (pass : ℕ → Bool) → ((z : ℕ) → z < n → pass z ≡ passes? (register_in s) v z) → Combined (join? n pass) p q n w xs ys
       → Combined (binary? (register_in s) (s_join v)) p q n w xs ys
   by_mask v pass e m =

@@ -14,3 +14,5 @@ pub mod Joins
 pub mod Applying
 -- all symbols
 pub mod SymbolLoop
+-- symbols in a part of two arrays
+pub mod Slices

@@ -1,34 +1,38 @@
 -- One pass over the links of a register's file: what holds at the loop's head, and how it goes on.
 -- Assumes nothing.
 use mathlib.Core.Path.{◌≡◌, refl, sym, ap, subst, ◌∙◌}
-use mathlib.Core.Bool.{Bool, true, false, ◌&&◌, ◌||◌, or-false, or_assoc}
-use mathlib.Core.List.{List, ◌∷◌}
+use mathlib.Core.Bool.{Bool, true, false, not, ◌&&◌, ◌||◌, or-false, or_assoc, false≢true}
+use mathlib.Core.List.{List, [], ◌∷◌}
 use Prim.Native.Nat.{ℕ, ◌+◌, ◌*◌, ◌/◌, ◌<◌}
 use native.Mathlib.Omega.{arith}
-use lib.ListN.{length}
 use lib.Dec.{T, eqb, ltb, ltb→lt}
-use borrow.Author.Tests.{eq-eqb, ne_eqb}
+use borrow.Author.Tests.{eq-eqb, ne_eqb, eqb-true}
 use Rattle.theory.specs.Lists.{some?, every?}
 use Rattle.theory.specs.PathExpr.{Direction, forward, reverse, named}
 use Rattle.theory.specs.Register.{Edge, edge, same_edge?, Register, well_formed?}
 use Rattle.theory.specs.Evaluation.{step?}
 use Rattle.theory.proofs.Tests.{and_left, and_right}
 use Rattle.theory.proofs.Labels.{linked_same}
-use Rattle.fields.specs.declared.Link as declared·Link
-use Rattle.register.specs.declared.Links.{Links}
-use Rattle.register.specs.declared.NextLink.{NextLink}
-use Rattle.register.specs.declared.NextLink.TheVariants as next-link
 use Rattle.register.specs.Form.{register_in}
-use Rattle.register.specs.LinksAhead.{cursor_at, OnLinks, to_come, handed}
-use Rattle.register.proofs.Walk.{all_to_come, on_start, none_left, stepped, still_on}
 use Rattle.rows.specs.Kept.{Kept, Wrote}
 use Rattle.rows.proofs.Words.{kept_refl, kept_trans}
 use Rattle.relation.specs.Pairs.{pair_at, Made}
 use Rattle.relation.proofs.Making.{made_is, made_same, made_then, made_clear}
-use Rattle.evaluation.specs.Ground.{Ground, leads?}
+use Rattle.evaluation.specs.Grounded.{Grounded, leads?}
 use Rattle.evaluation.proofs.Grounds.{limits}
 
 -- ---- one link
+-- what the test of its name says
+pub named_same : (x y : ℕ) (b : Bool) → b ≡ not (eqb x y) → b ≡ false → x ≡ y
+named_same x y b e f = eqb-true x y (flip (eqb x y) (sym e ∙ f))
+  where
+    flip : (c : Bool) → not c ≡ false → c ≡ true
+    flip true q = refl
+    flip false q = absurd (false≢true (sym q))
+
+pub named_other : (x y : ℕ) (b : Bool) → b ≡ not (eqb x y) → b ≡ true → x ≡ y → ⊥
+named_other x y b e t q = false≢true (sym (ap not (eq-eqb x y q)) ∙ sym e ∙ t)
+
 middle : (a c : Bool) → a && true && c ≡ a && c
 middle true c = refl
 middle false c = refl
@@ -78,54 +82,43 @@ abbrev inside? : ℕ → Edge → Bool
 inside? n e = ltb e.from n && ltb e.to n
 
 -- the links still to come, and with their pairs the relation is what it was with all pairs of the step
-pub record Passing (s : List ℕ) (b n w : ℕ) (d : Direction) (l : ℕ) (xs ys : List ℕ) (c : Links) : Type 0 where
-  pub cursor : OnLinks s c
-  pub inside : T (every? (inside? n) (to_come s c))
+pub record Passing (s : List ℕ) (b n w : ℕ) (d : Direction) (l : ℕ) (xs ys : List ℕ) (es : List Edge) : Type 0 where
+  pub inside : T (every? (inside? n) es)
   pub kept : Kept b (b + n * w) xs ys
-  pub pair : (i j : ℕ) → i < n → j / 64 < w
-      → pair_at ys b w i j || some? (λ e. leads? d l e i j) (to_come s c) ≡ pair_at xs b w i j || step? (register_in s) d (named l) i j
+  pub pair : (i j : ℕ) → i < n → j / 64 < w → pair_at ys b w i j || some? (λ e. leads? d l e i j) es ≡ pair_at xs b w i j || step? (register_in s) d (named l) i j
 
-pub passing_start : {s : List ℕ} {b n w : ℕ} {c : Links} (d : Direction) (l : ℕ) (xs : List ℕ) → Ground s n w → c ≡ cursor_at s (length (register_in s).links) → Passing s b n w d l xs xs c
+pub passing_start : {s : List ℕ} {b n w : ℕ} {es : List Edge} (d : Direction) (l : ℕ) (xs : List ℕ) → Grounded s n w → es ≡ (register_in s).links → Passing s b n w d l xs xs es
 unfolding well_formed?
-passing_start {s} {b} {n} {w} {c} d l xs g a = record {
-  cursor = on_start s c a g.accepted;
-  inside = rw (all_to_come s c a) (subst (λ (k : ℕ). T (every? (inside? k) (register_in s).links)) g.count (limits g).formed);
+passing_start {s} {b} {n} {w} d l xs g e = record {
+  inside = rw e (subst (λ (k : ℕ). T (every? (inside? k) (register_in s).links)) g.count (limits g).formed);
   kept = kept_refl b (b + n * w) xs;
-  pair = λ i j hi hj. rw (all_to_come s c a) (ap (λ (x : Bool). pair_at xs b w i j || x) (step_links (register_in s) d l i j));
+  pair = λ i j hi hj. rw e (ap (λ (x : Bool). pair_at xs b w i j || x) (step_links (register_in s) d l i j));
 }
 
-module _
-    {s : List ℕ} {b n w l : ℕ} {d : Direction} {xs ys : List ℕ} {c : Links} (p : Passing s b n w d l xs ys c)
-    (r : NextLink) (e : r ≡ handed s (to_come s c)) where
-  pub passing_end : r ≡ next-link.Done → Made b n w (λ i j. pair_at xs b w i j || step? (register_in s) d (named l) i j) xs ys
-  passing_end q =
-      let z = none_left s c p.cursor r e q in
-      record {
-        kept = p.kept;
-        pair = λ i j hi hj. sym (ap (λ (es : List Edge). pair_at ys b w i j || some? (λ x. leads? d l x i j) es) z ∙ or-false (pair_at ys b w i j)) ∙ p.pair i j hi hj;
-      }
+module _ {s : List ℕ} {b n w l : ℕ} {d : Direction} {xs ys : List ℕ} {es : List Edge} (p : Passing s b n w d l xs ys es) where
+  pub passing_end : es ≡ [] → Made b n w (λ i j. pair_at xs b w i j || step? (register_in s) d (named l) i j) xs ys
+  passing_end z = record {
+    kept = p.kept;
+    pair = λ i j hi hj. sym (ap (λ (l' : List Edge). pair_at ys b w i j || some? (λ x. leads? d l x i j) l') z ∙ or-false (pair_at ys b w i j)) ∙ p.pair i j hi hj;
+  }
 
-  module _ (from : ℕ) (label : declared·Link.Link) (to : ℕ) (rest : Links) (q : r ≡ next-link.Link from label to rest) where
-    links_are : to_come s c ≡ edge from label.0 to ∷ to_come s rest
-    links_are = stepped s c p.cursor r e from label to rest q
+  module _ (e : Edge) (rest : List Edge) (q : es ≡ e ∷ rest) where
+    inside_all : T (every? (inside? n) (e ∷ rest))
+    inside_all = subst (λ (l' : List Edge). T (every? (inside? n) l')) q p.inside
 
-    inside_all : T (every? (inside? n) (edge from label.0 to ∷ to_come s rest))
-    inside_all = subst (λ (es : List Edge). T (every? (inside? n) es)) links_are p.inside
-
-    pub link_inside : (from < n) × (to < n)
+    pub link_inside : (e.from < n) × (e.to < n)
     link_inside =
-        let h = and_left (inside? n (edge from label.0 to)) (every? (inside? n) (to_come s rest)) inside_all in
-        (ltb→lt from n (and_left (ltb from n) (ltb to n) h), ltb→lt to n (and_right (ltb from n) (ltb to n) h))
+        let h = and_left (inside? n e) (every? (inside? n) rest) inside_all in
+        (ltb→lt e.from n (and_left (ltb e.from n) (ltb e.to n) h), ltb→lt e.to n (and_right (ltb e.from n) (ltb e.to n) h))
 
-    pub passing_more : {zs : List ℕ} → Made b n w (λ i j. pair_at ys b w i j || leads? d l (edge from label.0 to) i j) ys zs → Passing s b n w d l xs zs rest
+    pub passing_more : {zs : List ℕ} → Made b n w (λ i j. pair_at ys b w i j || leads? d l e i j) ys zs → Passing s b n w d l xs zs rest
     passing_more m = record {
-      cursor = still_on s c p.cursor r e from label to rest q;
-      inside = and_right (inside? n (edge from label.0 to)) (every? (inside? n) (to_come s rest)) inside_all;
+      inside = and_right (inside? n e) (every? (inside? n) rest) inside_all;
       kept = kept_trans p.kept m.kept (omega arith) (omega arith) (omega arith) (omega arith);
       pair = λ i j hi hj.
-          ap (λ (x : Bool). x || some? (λ e. leads? d l e i j) (to_come s rest)) (m.pair i j hi hj)
-          ∙ or_assoc (pair_at ys b w i j) (leads? d l (edge from label.0 to) i j) (some? (λ e. leads? d l e i j) (to_come s rest))
-          ∙ sym (ap (λ (es : List Edge). pair_at ys b w i j || some? (λ e. leads? d l e i j) es) links_are)
+          ap (λ (x : Bool). x || some? (λ y. leads? d l y i j) rest) (m.pair i j hi hj)
+          ∙ or_assoc (pair_at ys b w i j) (leads? d l e i j) (some? (λ y. leads? d l y i j) rest)
+          ∙ sym (ap (λ (l' : List Edge). pair_at ys b w i j || some? (λ y. leads? d l y i j) l') q)
           ∙ p.pair i j hi hj;
     }
 

@@ -1,6 +1,6 @@
 -- All symbols, one after the other: what holds at the loop's head, and how it goes on.
 -- Assumes nothing.
-use mathlib.Core.Path.{◌≡◌, refl, sym, ap, ap₂, subst, ◌∙◌}
+use mathlib.Core.Path.{◌≡◌, refl, sym, ap, subst, ◌∙◌}
 use mathlib.Core.List.{List, [], ◌∷◌}
 use mathlib.Core.Option.{some}
 use Prim.Native.Nat.{ℕ, zero, suc, ◌+◌, ◌-◌, ◌*◌, ◌≤◌, ◌<◌}
@@ -15,7 +15,7 @@ use Rattle.theory.proofs.Postfix.{none_some, single, Step, read_step}
 use Rattle.symbols.specs.Symbols.{symbol_numbered}
 use Rattle.rows.specs.Kept.{Kept}
 use Rattle.rows.proofs.Words.{kept_refl, kept_trans, kept_in}
-use Rattle.evaluation.specs.Ground.{symbols_in}
+use Rattle.evaluation.specs.Grounded.{symbols_in}
 use Rattle.theory.specs.Register.{Register}
 use Rattle.evaluation.specs.Stack.{Stored, Stacked, Applicable, Applied, Evaluated}
 use Rattle.symbols.proofs.Numbers.{given_symbol}
@@ -47,25 +47,25 @@ symbols_length : (ns ms : List ℕ) (k i : ℕ) → length (symbols_in ns ms k i
 symbols_length ns ms zero i = refl
 symbols_length ns ms (suc k) i = ap suc (symbols_length ns ms k (suc i))
 
-symbols_next : (ns ms : List ℕ) (count first i : ℕ) → i < count
-    → symbols_in ns ms (count - i) (first + i) ≡ symbol_numbered (get_or ns (first + i) 0) (get_or ms (first + i) 0) ∷ symbols_in ns ms (count - (i + 1)) (first + (i + 1))
-symbols_next ns ms count first i h =
+symbols_next : (ns ms : List ℕ) (count i : ℕ) → i < count
+    → symbols_in ns ms (count - i) i ≡ symbol_numbered (get_or ns i 0) (get_or ms i 0) ∷ symbols_in ns ms (count - (i + 1)) (i + 1)
+symbols_next ns ms count i h =
     let a : count - i ≡ suc (count - (i + 1)) = omega arith in
-    let b : suc (first + i) ≡ first + (i + 1) = omega arith in
-    ap (λ (k : ℕ). symbols_in ns ms k (first + i)) a
-    ∙ ap (λ (y : Symbol). y ∷ symbols_in ns ms (count - (i + 1)) (suc (first + i))) (given_symbol (get_or ns (first + i) 0) (get_or ms (first + i) 0))
-    ∙ ap (λ (k : ℕ). symbol_numbered (get_or ns (first + i) 0) (get_or ms (first + i) 0) ∷ symbols_in ns ms (count - (i + 1)) k) b
+    let b : suc i ≡ i + 1 = omega arith in
+    ap (λ (k : ℕ). symbols_in ns ms k i) a
+    ∙ ap (λ (y : Symbol). y ∷ symbols_in ns ms (count - (i + 1)) (suc i)) (given_symbol (get_or ns i 0) (get_or ms i 0))
+    ∙ ap (λ (k : ℕ). symbol_numbered (get_or ns i 0) (get_or ms i 0) ∷ symbols_in ns ms (count - (i + 1)) k) b
 
 -- ---- the loop
-module _ (r : Register) (n w : ℕ) (ns ms : List ℕ) (first count : ℕ) where
+module _ (r : Register) (n w : ℕ) (ns ms : List ℕ) (count : ℕ) where
   abbrev pub Makes : PathExpr → Type 0
-  Makes p = path_of (symbols_in ns ms count first) ≡ some p
+  Makes p = path_of (symbols_in ns ms count 0) ≡ some p
 
   -- the stack after i symbols, from which the rest makes the path
   pub record At (ys : List ℕ) (b i : ℕ) (p : PathExpr) : Type 0 where
     pub stack : Stack
     pub stacked : Stacked r ys n w b stack
-    pub rest : read (symbols_in ns ms (count - i) (first + i)) stack ≡ some (p ∷ [])
+    pub rest : read (symbols_in ns ms (count - i) i) stack ≡ some (p ∷ [])
     pub height : length stack ≤ i
 
   pub record Going (xs ys : List ℕ) (b i : ℕ) : Type 0 where
@@ -78,37 +78,37 @@ module _ (r : Register) (n w : ℕ) (ns ms : List ℕ) (first count : ℕ) where
     at = λ p e. record {
       stack = [];
       stacked = refl;
-      rest = whole ∙ single (read (symbols_in ns ms count first) []) p e;
+      rest = whole ∙ single (read (symbols_in ns ms count 0) []) p e;
       height = omega arith;
     };
   }
     where
-      whole : read (symbols_in ns ms (count - 0) (first + 0)) [] ≡ read (symbols_in ns ms count first) []
-      whole = let a : count - 0 ≡ count = omega arith in let b : first + 0 ≡ first = omega arith in ap₂ (λ (k i : ℕ). read (symbols_in ns ms k i) []) a b
+      whole : read (symbols_in ns ms (count - 0) 0) [] ≡ read (symbols_in ns ms count 0) []
+      whole = let a : count - 0 ≡ count = omega arith in ap (λ (k : ℕ). read (symbols_in ns ms k 0) []) a
 
   module _ (few : count ≤ 48) {ys : List ℕ} {b i : ℕ} (h : i < count) (p : PathExpr) (a : At ys b i p) where
     abbrev x : Symbol
-    x = symbol_numbered (get_or ns (first + i) 0) (get_or ms (first + i) 0)
+    x = symbol_numbered (get_or ns i 0) (get_or ms i 0)
 
     abbrev ss : List Symbol
-    ss = symbols_in ns ms (count - (i + 1)) (first + (i + 1))
+    ss = symbols_in ns ms (count - (i + 1)) (i + 1)
 
     one : Step x ss a.stack p
-    one = read_step x ss a.stack p (ap (λ l. read l a.stack) (sym (symbols_next ns ms count first i h)) ∙ a.rest)
+    one = read_step x ss a.stack p (ap (λ l. read l a.stack) (sym (symbols_next ns ms count i h)) ∙ a.rest)
 
     near : Near a.stack one.next
     near = push_near x a.stack one.next one.pushes
 
     low : length a.stack ≤ 24
     low =
-        let e = read_height (symbols_in ns ms (count - i) (first + i)) a.stack p a.rest in
-        let l = symbols_length ns ms (count - i) (first + i) in
+        let e = read_height (symbols_in ns ms (count - i) i) a.stack p a.rest in
+        let l = symbols_length ns ms (count - i) i in
         omega (arith, a.height, e, l)
 
     low_next : length one.next ≤ 24
     low_next =
         let e = read_height ss one.next p one.reads in
-        let l = symbols_length ns ms (count - (i + 1)) (first + (i + 1)) in
+        let l = symbols_length ns ms (count - (i + 1)) (i + 1) in
         omega (arith, a.height, e, l, near.up)
 
     pub fits : 24 * (n * w) ≤ length ys → Applicable r ys n w b x
@@ -131,7 +131,7 @@ module _ (r : Register) (n w : ℕ) (ns ms : List ℕ) (first count : ℕ) where
           (omega (arith, stacked_length r n w zs c one.next (d.next a.stack one.next a.stacked one.pushes), mul-le-mul_right (n * w) low_next))
 
   pub going_more : {xs ys zs : List ℕ} {b c i : ℕ} → count ≤ 48 → i < count → (p : PathExpr) → Makes p → Going xs ys b i
-      → Applied r n w b (symbol_numbered (get_or ns (first + i) 0) (get_or ms (first + i) 0)) c ys zs → Going xs zs c (i + 1)
+      → Applied r n w b (symbol_numbered (get_or ns i 0) (get_or ms i 0)) c ys zs → Going xs zs c (i + 1)
   going_more few h p e g d = record {
     kept = kept_trans g.kept (kept_more few h p (g.at p e) d) (omega arith) (omega arith) (omega arith) (omega arith);
     at = λ p e. at_more few h p (g.at p e) d;
@@ -144,7 +144,7 @@ module _ (r : Register) (n w : ℕ) (ns ms : List ℕ) (first count : ℕ) where
       a = g.at p e
 
       rest : some a.stack ≡ some (p ∷ [])
-      rest = ap (λ (k : ℕ). read (symbols_in ns ms k (first + i)) a.stack) (let z : 0 ≡ count - i = omega arith in z) ∙ a.rest
+      rest = ap (λ (k : ℕ). read (symbols_in ns ms k i) a.stack) (let z : 0 ≡ count - i = omega arith in z) ∙ a.rest
 
       go : (st : Stack) → Stacked r ys n w b st → some st ≡ some (p ∷ []) → Stored ys 0 n w (look (evaluate r p))
       go st k m =

@@ -1,2 +1,3 @@
-pub mod Ground
+pub mod Grounded
+pub mod Standing
 pub mod Stack

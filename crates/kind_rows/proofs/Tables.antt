@@ -25,7 +25,7 @@ use Rattle.rows.proofs.Masks.{mask_at, mask_past}
 use Rattle.relation.specs.Pairs.{pair_at, Made, taken}
 use Rattle.relation.proofs.Making.{made_clear}
 use Rattle.relation.proofs.Pair.{made_row}
-use Rattle.evaluation.specs.Ground.{Ground}
+use Rattle.evaluation.specs.Grounded.{Grounded}
 use Rattle.evaluation.proofs.Grounds.{limits}
 use Rattle.kind_rows.specs.Kinds.{KindRows, in_set, OfRecords}
 
@@ -92,7 +92,7 @@ pub of_records : {r : Register} {n w : ℕ} {kinds : List ℕ} → KindRows r n 
 of_records {n = n} p set t h e = ⊎_elim (λ (l : n ≤ t). absurd (false≢true (sym (set_past set p t l h) ∙ e))) (λ (l : t < n). l) (le_or_lt n t)
 
 -- the records whose kind is in the set
-pub set_has : {s : List ℕ} {n w : ℕ} {kinds : List ℕ} (ground : Ground s n w) (set : ℕ) → KindRows (register_in s) n w kinds → (t : ℕ) → t / 64 < w
+pub set_has : {s : List ℕ} {n w : ℕ} {kinds : List ℕ} (ground : Grounded s n w) (set : ℕ) → KindRows (register_in s) n w kinds → (t : ℕ) → t / 64 < w
     → in_set kinds w set t ≡ mask_of (λ t. has set (kind (register_in s) t)) n t
 unfolding has
 set_has {s} {n} {w} {kinds} ground set p t h = ⊎_elim (λ (l : n ≤ t). past t l h) (λ (l : t < n). below t l h) (le_or_lt n t)

@@ -2,10 +2,12 @@
 #![tactic(auto)]
 
 ghost use Rattle.std.specs.Prelude.{◌*◌, ◌≤◌, length};
-ghost use Rattle.register.specs.Form.{register_in};
 ghost use Rattle.rows.specs.Row.{Row};
-ghost use Rattle.evaluation.specs.Ground.{Ground};
+ghost use Rattle.register.specs.Form.{register_in};
+ghost use Rattle.evaluation.specs.Standing.{register_on};
 ghost use Rattle.kind_rows.specs.Kinds.{KindRows, in_set};
+
+use evaluation::Ground;
 
 // How many kinds there are.
 const KINDS: usize = fields::KINDS as usize;
@@ -13,15 +15,23 @@ const KINDS: usize = fields::KINDS as usize;
 // The words of a table for the largest registers.
 pub const TABLE: usize = KINDS * rows::WIDEST;
 
-// The table becomes that of a register of n records, in rows of w words.
-pub fn fill(kinds: &mut [u64], register: &[u8], n: usize, w: usize)
-    requires { (64 * w ≤ length kinds.old) × Ground register.now n w }
-    ensures { KindRows (register_in register.now) n w kinds.new }
+// A ground with the table of its kinds.
+#[derive(Clone, Copy)]
+pub struct KindTable<'a> {
+    pub ground: Ground<'a>,
+    pub rows: &'a [u64],
+    pub ghost filled: { KindRows (register_in ground.register.file.now) ground.register.records ground.words rows.now },
+}
+
+// The table becomes that of a register.
+pub fn fill(kinds: &mut [u64], ground: &Ground<'_>)
+    requires { 64 * ground.now.words ≤ length kinds.old }
+    ensures { KindRows (register_on ground.now) ground.now.register.records ground.now.words kinds.new }
 {
-    rows::clear(kinds, 0, KINDS * w);
-    for t in 0..n {
-        let k = evaluation::kind_index(register::kind_at(register, t));
-        rows::set(kinds, k * w, t);
+    rows::clear(kinds, 0, KINDS * ground.words);
+    for t in 0..ground.register.records {
+        let k = usize::from(ground.register.kind_at(t).0);
+        rows::set(kinds, k * ground.words, t);
     }
 }
 

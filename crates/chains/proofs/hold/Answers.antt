@@ -1,34 +1,43 @@
 -- `chains::hold` meets its contract: a step that is loaded takes a free place, and the others lie apart from it.
 -- Assumes nothing.
+use Rattle.evaluation.proofs.Grounds.{grounded}
 use Rattle.chains.proofs.Holding.{past, before_end, held_more, holds_more}
 use Rattle.symbols.proofs.Numbers.{decoded}
-use Rattle.evaluation.proofs.Grounds.{small}
 use Rattle.rows.proofs.Words.{kept_in}
-use Prim.Native.Nat.{◌*◌, ◌<◌}
+use Prim.Native.Nat.{◌*◌}
 use lib.Seq.{get_or-set_same}
+use Rattle.std.specs.Prelude.{Some, None}
 use native.Mathlib.Omega.{arith}
 use Rattle.chains.proofs.hold.Goals as goal
 
-pub overflow_mul-b-in-Step : goal.overflow_mul-b-in-Step
-overflow_mul-b-in-Step c =
-    let a = c.args in
-    omega (arith, before_end c.place-free.result (a.n * a.w) (omega (arith, c.place-free.ensures.0, c.if-free-eq-HELD.false)), small c.requires.0)
+pub overflow_mul-b : goal.overflow_mul-b
+overflow_mul-b c = let g = c.args.table.now.ground in let f = c.in_ok-free in let s = c.size.ensures in
+    rw s.0 (omega (arith, before_end f.free (g.register.records * g.words) f.ensures.0, s.0, s.1))
 
 pub step-requires : goal.step-requires
 step-requires c =
-    let a = c.args in
-    (omega (arith, before_end c.place-free.result (a.n * a.w) (omega (arith, c.place-free.ensures.0, c.if-free-eq-HELD.false)), c.requires.1), c.requires.0)
+    let g = c.args.table.now.ground in
+    let f = c.in_ok-free in
+    let h = before_end f.free (g.register.records * g.words) f.ensures.0 in
+    rw c.size.ensures.0 (omega (arith, h, c.requires.0))
 
-pub returns-in-Step : goal.returns-in-Step
-returns-in-Step c =
+pub returns-clause-found : goal.returns-clause-found
+returns-clause-found c = let f = c.in_ok-free in
+    (f.ensures.0, get_or-set_same c.args.held.now f.free (Some c.args.number) None (omega (arith, f.ensures.0, c.requires.1.few)))
+
+pub returns-clause-held : goal.returns-clause-held
+returns-clause-held c =
     let a = c.args in
-    let p = c.requires in
-    let f = c.place-free.result in
-    let z = a.n * a.w in
-    let l : f < 4 = omega (arith, c.place-free.ensures.0, c.if-free-eq-HELD.false) in (
-      c.place-free.ensures.0,
-      λ h. get_or-set_same a.held.now f a.number 0 (omega (arith, p.2.few)),
-      held_more p.0 f a.number p.2 c.step.ensures (decoded c.decode.ensures c.in-Step.is) l,
-      holds_more a.held.now f a.number (c.place-free.ensures.1 l),
-      kept_in c.step.ensures.kept (past f z) (before_end f z l),
+    let f = c.in_ok-free in
+    let m = rw c.size.ensures.0 at c.step.ensures in (
+      held_more (grounded a.table.now.ground) f.free a.number c.requires.1 m (decoded c.decode.ensures c.in-Step.is) f.ensures.0,
+      holds_more a.held.now f.free a.number f.ensures.1,
     )
+
+pub returns-clause-kept : goal.returns-clause-kept
+returns-clause-kept c =
+    let g = c.args.table.now.ground in
+    let f = c.in_ok-free in
+    let z = g.register.records * g.words in
+    let m = rw c.size.ensures.0 at c.step.ensures in
+    kept_in m.kept (past f.free z) (before_end f.free z f.ensures.0)

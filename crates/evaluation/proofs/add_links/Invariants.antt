@@ -3,8 +3,7 @@ use Rattle.evaluation.proofs.Links.{Passing}
 use Rattle.symbols.specs.Contract.{direction_said}
 use Rattle.evaluation.proofs.add_links.Given as goal
 
-abbrev pub invariant-loop-from : goal.invariant-loop-from
-invariant-loop-from l = Passing l.register l.b l.n l.w (direction_said l.direction) l.l.0 l.initial.work l.work l.c
-
-abbrev pub decreases-loop-from : goal.decreases-loop-from
-decreases-loop-from l = l.c.left
+abbrev pub invariant-loop-e : goal.invariant-loop-e
+invariant-loop-e l =
+    let g = l.ground in
+    Passing g.register.file.now l.b g.register.records g.words (direction_said l.direction) l.l.0 l.initial.work l.work l.e-iterator

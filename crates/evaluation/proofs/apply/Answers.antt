@@ -3,85 +3,76 @@
 use Rattle.symbols.specs.Contract.{operator_said}
 use Prim.Native.Nat.{◌-◌, ◌*◌}
 use Rattle.evaluation.proofs.Joins.{by_op}
-use Rattle.evaluation.proofs.Grounds.{small, rows_hold, narrow}
+use Rattle.evaluation.proofs.Grounds.{grounded, rows_hold, narrow}
 use Rattle.evaluation.proofs.Applying.{fits_step, fits_one, fits_two, applied_step, applied_closure, applied_two}
 use Rattle.symbols.proofs.Numbers.{decoded}
 use native.Mathlib.Omega.{arith}
 use Rattle.evaluation.proofs.apply.Goals as goal
 
-pub overflow_mul-z : goal.overflow_mul-z
-overflow_mul-z c = omega (arith, small c.requires.0)
-
 pub step-requires : goal.step-requires
-step-requires c =
-    let r = c.requires in
-    (fits_step r.0 _ _ (decoded c.decode.ensures c.in-Step.is) r.1, r.0)
+step-requires c = fits_step (grounded c.args.ground.now) _ _ (decoded c.decode.ensures c.in-Step.is) c.requires
 
 pub overflow_add-result : goal.overflow_add-result
-overflow_add-result c =
-    let r = c.requires in
-    omega (arith, fits_step r.0 _ _ (decoded c.decode.ensures c.in-Step.is) r.1)
+overflow_add-result c = omega (arith, c.size-z.ensures.0, fits_step (grounded c.args.ground.now) _ _ (decoded c.decode.ensures c.in-Step.is) c.requires)
 
 pub overflow_sub-a : goal.overflow_sub-a
-overflow_sub-a c = let r = c.requires in (fits_two r.0 _ tt (decoded c.decode.ensures c.in-Join.is) r.1).below
+overflow_sub-a c = omega (arith, c.size-z.ensures.0, (fits_two (grounded c.args.ground.now) _ tt (decoded c.decode.ensures c.in-Join.is) c.requires).below)
 
 pub overflow_sub-a-in-Join : goal.overflow_sub-a-in-Join
-overflow_sub-a-in-Join c =
-    let r = c.requires in
-    (fits_two r.0 _ tt (decoded c.decode.ensures c.in-Join.is) r.1).under
+overflow_sub-a-in-Join c = omega (arith, c.size-z.ensures.0, (fits_two (grounded c.args.ground.now) _ tt (decoded c.decode.ensures c.in-Join.is) c.requires).under)
 
 pub join_via-requires : goal.join_via-requires
 join_via-requires c =
-    let r = c.requires in
-    let t = fits_two r.0 _ tt (decoded c.decode.ensures c.in-Join.is) r.1 in
-    (omega (arith, t.under), omega (arith, t.below, t.ends), r.0, t.next)
+    let e = c.size-z.ensures.0 in
+    let t = fits_two (grounded c.args.ground.now) _ tt (decoded c.decode.ensures c.in-Join.is) c.requires in
+    (omega (arith, e, t.under), omega (arith, e, t.below, t.ends), rw e t.next)
 
 pub overflow_sub-a-in-Op : goal.overflow_sub-a-in-Op
-overflow_sub-a-in-Op c = let r = c.requires in (fits_two r.0 _ tt (decoded c.decode.ensures c.in-Op.is) r.1).below
+overflow_sub-a-in-Op c = omega (arith, c.size-z.ensures.0, (fits_two (grounded c.args.ground.now) _ tt (decoded c.decode.ensures c.in-Op.is) c.requires).below)
 
 pub overflow_sub-a-in-Op-2 : goal.overflow_sub-a-in-Op-2
-overflow_sub-a-in-Op-2 c =
-    let r = c.requires in
-    (fits_two r.0 _ tt (decoded c.decode.ensures c.in-Op.is) r.1).under
+overflow_sub-a-in-Op-2 c = omega (arith, c.size-z.ensures.0, (fits_two (grounded c.args.ground.now) _ tt (decoded c.decode.ensures c.in-Op.is) c.requires).under)
 
 pub operate-requires : goal.operate-requires
 operate-requires c =
-    let r = c.requires in
-    let t = fits_two r.0 _ tt (decoded c.decode.ensures c.in-Op.is) r.1 in
-    (omega (arith, t.under), omega (arith, t.below, t.ends), narrow r.0, rows_hold r.0, t.next, t.top)
+    let e = c.size-z.ensures.0 in
+    let g = (grounded c.args.ground.now) in
+    let t = fits_two g _ tt (decoded c.decode.ensures c.in-Op.is) c.requires in
+    (omega (arith, e, t.under), omega (arith, e, t.below, t.ends), narrow g, rows_hold g, rw e t.next, rw e t.top)
 
 pub overflow_sub-b : goal.overflow_sub-b
-overflow_sub-b c = let r = c.requires in (fits_one r.0 (decoded c.decode.ensures c.in-Closure.is) r.1).below
+overflow_sub-b c = omega (arith, c.size-z.ensures.0, (fits_one (grounded c.args.ground.now) (decoded c.decode.ensures c.in-Closure.is) c.requires).below)
 
 pub closure-requires : goal.closure-requires
 closure-requires c =
-    let r = c.requires in
-    let o = fits_one r.0 (decoded c.decode.ensures c.in-Closure.is) r.1 in
-    (omega (arith, o.below, o.ends), rows_hold r.0, narrow r.0, o.top)
+    let e = c.size-z.ensures.0 in
+    let g = (grounded c.args.ground.now) in
+    let o = fits_one g (decoded c.decode.ensures c.in-Closure.is) c.requires in
+    (omega (arith, e, o.below, o.ends), rows_hold g, narrow g, rw e o.top)
 
 pub returns-in-Step : goal.returns-in-Step
-returns-in-Step c =
-    let r = c.requires in
-    applied_step r.0 c.args.b _ _ _ (decoded c.decode.ensures c.in-Step.is) c.step.ensures
+returns-in-Step c = rw c.size-z.ensures.0 (applied_step (grounded c.args.ground.now) c.args.b _ _ _ (decoded c.decode.ensures c.in-Step.is) c.step.ensures)
 
 pub returns-in-Join : goal.returns-in-Join
 returns-in-Join c =
-    let r = c.requires in
+    let z = c.size-z.ensures.0 in
+    let g = (grounded c.args.ground.now) in
     let e = decoded c.decode.ensures c.in-Join.is in
-    let t = fits_two r.0 _ tt e r.1 in
-    applied_two r.0 c.args.b _ tt e t.below t.under c.join_via.ensures
+    let t = fits_two g _ tt e c.requires in
+    rw z (applied_two g c.args.b _ tt e t.below t.under (rw z at c.join_via.ensures))
 
 pub returns-in-Op : goal.returns-in-Op
 returns-in-Op c =
-    let r = c.requires in
-    let a = c.args in
-    let z = a.n * a.w in
+    let z = c.size-z.ensures.0 in
+    let g = (grounded c.args.ground.now) in
+    let s = c.args.ground.now.register.records * c.args.ground.now.words in
+    let b = c.args.b in
     let e = decoded c.decode.ensures c.in-Op.is in
-    let t = fits_two r.0 _ tt e r.1 in
-    applied_two r.0 a.b _ tt e t.below t.under (by_op r.0 (a.b - z - z) (a.b - z) (operator_said c.in-Op.o) c.operate.ensures)
+    let t = fits_two g _ tt e c.requires in
+    rw z (applied_two g b _ tt e t.below t.under (by_op g (b - s - s) (b - s) (operator_said c.in-Op.o) (rw z at c.operate.ensures)))
 
 pub returns-in-Closure : goal.returns-in-Closure
 returns-in-Closure c =
-    let r = c.requires in
+    let g = (grounded c.args.ground.now) in
     let x = decoded c.decode.ensures c.in-Closure.is in
-    applied_closure r.0 c.args.b _ x (fits_one r.0 x r.1).below c.closure.ensures
+    applied_closure g c.args.b _ x (fits_one g x c.requires).below (rw c.size-z.ensures.0 at c.closure.ensures)

@@ -1,25 +1,36 @@
 -- `evaluation::evaluate` meets its contract: the rest of the symbols makes the path out of the relations on the stack, of which 48 symbols never need more than 24.
 -- Assumes nothing.
-use Rattle.evaluation.proofs.SymbolLoop.{going_start, going_more, going_end, fits}
 use native.Mathlib.Omega.{arith}
+use Rattle.std.proofs.Common.{rules}
+use Rattle.std.proofs.lemmas.List.{length_push}
+use Rattle.std.proofs.lemmas.Slice.Zip.{zip_turn, zip_end}
+use Rattle.evaluation.proofs.Grounds.{path_is}
+use Rattle.evaluation.proofs.SymbolLoop.{going_start, going_more, going_end, fits}
 use Rattle.evaluation.proofs.evaluate.Goals as goal
 
-pub loop-i-init : goal.loop-i-init
-loop-i-init c = (omega arith, going_start _ _ _ _ _ _ _ _)
+pub loop-number-init : goal.loop-number-init
+loop-number-init c = going_start _ _ _ _ _ _ _
 
 pub apply-b-requires : goal.apply-b-requires
 apply-b-requires c =
-    let a = c.args in
-    let r = c.requires in
-    let g = c.loop-i.invariant.1 in
-    let p = r.make_path in
-    (r.grounded.0, fits _ _ _ _ _ _ _ r.grounded.4 c.loop-i-test.true p.0 (g.at p.0 p.1) (omega (arith, r.grounded.1, g.kept.len)))
+    let x = c.args.path.now.symbols in
+    let l = c.loop-number in
+    let g = l.invariant in
+    let t = zip_turn x.numbers.now x.sets.now l.yielded c.into_iter-number-iterator.result l.number-iterator c.next.new.self c.next.result (search rules) (search rules) l.yielded_by _ c.in-Some.is c.next.ensures.steps in
+    let p = path_is _ c.args.path.now.whole in
+    rw (t.2 0, t.3 0) (fits _ _ _ _ _ _ x.few t.0 p.0 (g.at p.0 p.1) (omega (arith, c.requires, g.kept.len)))
 
-pub loop-i-preserved : goal.loop-i-preserved
-loop-i-preserved c =
-    let r = c.requires in
-    let p = r.make_path in
-    (omega arith, going_more _ _ _ _ _ _ _ r.grounded.4 c.loop-i-test.true p.0 p.1 c.loop-i.invariant.1 c.apply-b.ensures)
+pub loop-number-preserved : goal.loop-number-preserved
+loop-number-preserved c =
+    let x = c.args.path.now.symbols in
+    let l = c.loop-number in
+    let t = zip_turn x.numbers.now x.sets.now l.yielded c.into_iter-number-iterator.result l.number-iterator c.next.new.self c.next.result (search rules) (search rules) l.yielded_by _ c.in-Some.is c.next.ensures.steps in
+    let p = path_is _ c.args.path.now.whole in
+    rw (length_push l.yielded (c.in-Some.number, c.in-Some.set)) (going_more _ _ _ _ _ _ x.few t.0 p.0 p.1 l.invariant (rw (t.2 0, t.3 0) at c.apply-b.ensures))
 
 pub returns : goal.returns
-returns c p e = going_end _ _ _ _ _ _ _ (omega arith) c.loop-i.invariant.1 p e
+returns c p e =
+    let x = c.args.path.now.symbols in
+    let l = c.loop-number in
+    let t = zip_end x.numbers.now x.sets.now l.yielded c.into_iter-number-iterator.result l.number-iterator c.next.new.self c.next.result (search rules) (search rules) l.yielded_by c.in-None.is c.next.ensures.steps in
+    going_end _ _ _ _ _ _ (omega (arith, t, x.paired)) l.invariant p e

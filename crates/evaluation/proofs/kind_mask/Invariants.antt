@@ -7,4 +7,4 @@ use Prim.Native.Nat.{◌≤◌}
 use Rattle.evaluation.proofs.kind_mask.Given as goal
 
 abbrev pub invariant-loop-i : goal.invariant-loop-i
-invariant-loop-i l = (l.i ≤ l.w) × Row 0 l.i (mask_of (λ t. has l.set (kind (register_in l.register) t)) l.n) l.initial.mask l.mask
+invariant-loop-i l = (l.i ≤ l.ground.words) × Row 0 l.i (mask_of (λ t. has l.set (kind (register_in l.ground.register.file.now) t)) l.ground.register.records) l.initial.mask l.mask

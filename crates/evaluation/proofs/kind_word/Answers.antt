@@ -12,16 +12,16 @@ pub loop-i-init : goal.loop-i-init
 loop-i-init c = (omega arith, word_none _)
 
 pub overflow_add-g : goal.overflow_add-g
-overflow_add-g c = omega (arith, (accepted_register _ _ c.requires.0).few_records)
+overflow_add-g c = let r = c.args.register.now in omega (arith, r.counted, (accepted_register _ _ r.accepted).few_records)
 
 pub overflow_shr-v : goal.overflow_shr-v
 overflow_shr-v c =
-    let k = (accepted_register _ _ c.requires.0).kinds (c.args.g + c.loop-i.i) in
-    omega (arith, c.kind_index-k.ensures, c.kind_at.ensures)
+    let k = (accepted_register _ _ c.args.register.now.accepted).kinds (c.args.g + c.loop-i.i) in
+    omega (arith, c.kind_at.ensures)
 
 pub loop-i-preserved : goal.loop-i-preserved
 loop-i-preserved c =
-    (omega arith, word_more _ c.loop-i.invariant.1 (kind_moved c.args.set c.loop-i.i _ c.kind_index-k.ensures c.kind_at.ensures (omega arith)))
+    (omega arith, word_more _ c.loop-i.invariant.1 (kind_moved c.args.set c.loop-i.i _ c.from-k.ensures c.kind_at.ensures (omega arith)))
 
 pub returns : goal.returns
 returns c = let e : c.loop-i.i ≡ c.args.m = omega arith in rw e at c.loop-i.invariant.1

@@ -7,4 +7,4 @@ use Prim.Native.Nat.{◌+◌, ◌≤◌}
 use Rattle.evaluation.proofs.kind_word.Given as goal
 
 abbrev pub invariant-loop-i : goal.invariant-loop-i
-invariant-loop-i l = (l.i ≤ l.m) × Word (λ j. has l.set (kind (register_in l.register) (l.g + j))) l.i l.v
+invariant-loop-i l = (l.i ≤ l.m) × Word (λ j. has l.set (kind (register_in l.register.file.now) (l.g + j))) l.i l.v

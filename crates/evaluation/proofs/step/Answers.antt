@@ -8,4 +8,4 @@ use Rattle.evaluation.proofs.step.Goals as goal
 pub returns : goal.returns
 returns c =
     let a = c.args in
-    step_made (register_in a.register.now) (direction_said a.direction) a.l.0 c.clear.ensures c.add_links.ensures
+    step_made (register_in a.ground.now.register.file.now) (direction_said a.direction) a.l.0 (rw c.size.ensures.0 at c.clear.ensures) c.add_links.ensures

@@ -7,4 +7,4 @@ use Prim.Native.Nat.{◌≤◌}
 use Rattle.kind_rows.proofs.fill.Given as goal
 
 abbrev pub invariant-loop-t : goal.invariant-loop-t
-invariant-loop-t l = (l.t ≤ l.n) × KindRows (register_in l.register) l.t l.w l.kinds × (length l.kinds ≡ length l.initial.kinds)
+invariant-loop-t l = (l.t ≤ l.ground.register.records) × KindRows (register_in l.ground.register.file.now) l.t l.ground.words l.kinds × (length l.kinds ≡ length l.initial.kinds)

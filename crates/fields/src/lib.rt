@@ -304,19 +304,12 @@ pub struct Due {
 pub fn rows_due(file: File, rows: u16, complete: bool, full: bool) -> Due
     ensures { result ≡ rows_due file rows complete full }
 {
-    if full {
-        return Due {
-            file,
-            rows: NO_ROWS,
-            complete,
-            closing: true,
-        };
-    }
+    let rows = if full { NO_ROWS } else { rows };
     Due {
         file,
         rows,
         complete,
-        closing: false,
+        closing: full,
     }
 }
 
@@ -325,10 +318,7 @@ pub fn rows_due(file: File, rows: u16, complete: bool, full: bool) -> Due
 fn row_due(due: Due, row: Row) -> bool
     ensures { result ≡ due_row? due row }
 {
-    if due.rows & row.6 == 0 {
-        return false;
-    }
-    allows(row, due.file)
+    due.rows & row.6 != 0 && allows(row, due.file)
 }
 
 // The number in two bytes, the high one first.

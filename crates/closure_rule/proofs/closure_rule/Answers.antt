@@ -5,12 +5,6 @@ use Rattle.rules.proofs.RuleOutcome.{few_made, few_not}
 use Rattle.closure_rule.proofs.RulePieces.{rule_copies, rule_walks, rule_long, rule_grows, rule_many, rule_keeps, rule_told}
 use Rattle.closure_rule.proofs.closure_rule.Goals as goal
 
-pub copy_acyclic-f-requires : goal.copy_acyclic-f-requires
-copy_acyclic-f-requires c = rule_copies c.requires c.graph.ensures
-
-pub walks_short-requires : goal.walks_short-requires
-walks_short-requires c = rule_walks c.requires c.copy_acyclic-f.ensures
-
 pub returns-then-not-walks_short : goal.returns-then-not-walks_short
 returns-then-not-walks_short c = rule_long c.requires c.copy_acyclic-f.ensures c.walks_short.ensures c.if-not-walks_short.true
 

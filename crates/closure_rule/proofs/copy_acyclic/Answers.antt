@@ -7,9 +7,6 @@ use Rattle.closure_rule.proofs.copy_acyclic.Goals.{then-acyclic, else-acyclic}
 pub loop-j-init : goal.loop-j-init
 loop-j-init c = acyclic_start c.requires
 
-pub load-x-requires : goal.load-x-requires
-load-x-requires c = acyclic_load c.requires c.loop-j.invariant c.loop-j-test.true
-
 pub add-count-requires : goal.add-count-requires
 add-count-requires c = acyclic_asks c.requires c.loop-j.invariant c.loop-j-test.true c.load-x.ensures
 

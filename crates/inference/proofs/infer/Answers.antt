@@ -13,9 +13,6 @@ use Rattle.inference.proofs.infer.Goals as goal
 pub loop-i-init : goal.loop-i-init
 loop-i-init c = (c.requires, running_start (asked c.requires))
 
-pub overflow_sub-b : goal.overflow_sub-b
-overflow_sub-b c = omega (arith, enough (asked c.loop-i.invariant.0) c.loop-i.invariant.1 c.loop-i-test.true c.decode-k.ensures (c.from.ensures ∙ c.operands.ensures))
-
 pub rule-made-requires : goal.rule-made-requires
 rule-made-requires c = (turn_at (asked c.loop-i.invariant.0) c.loop-i.invariant.1 c.loop-i-test.true c.decode-k.ensures (c.from.ensures ∙ c.operands.ensures)).asks
 
@@ -25,12 +22,6 @@ returns-in_err-n c =
     let m = mapped_err _ c.rule-made.result c.map_err.ensures.cases c.in_err-n.was in
     let r : c.in_err-n.field-0.0 ≡ refusal_at m.0 c.loop-i.i-counter = (let q = m.2 in search rules) in
     rw (p.1, p.2, r) (inferred (running_stops (asked c.loop-i.invariant.0) c.loop-i.invariant.1 c.loop-i-test.true c.decode-k.ensures (c.from.ensures ∙ c.operands.ensures) c.rule-made.ensures m.0 m.1))
-
-pub overflow_add-nodes : goal.overflow_add-nodes
-overflow_add-nodes c = omega (arith, c.rule-made.ensures.few c.in_ok-n.n (mapped_ok _ c.rule-made.result c.map_err.ensures.cases c.in_ok-n.was))
-
-pub overflow_add-used : goal.overflow_add-used
-overflow_add-used c = omega (arith, c.rule-made.ensures.few c.in_ok-n.n (mapped_ok _ c.rule-made.result c.map_err.ensures.cases c.in_ok-n.was))
 
 pub loop-i-preserved : goal.loop-i-preserved
 loop-i-preserved c = (

@@ -4,12 +4,6 @@ use Rattle.members_file.proofs.Symbols.{going_start, going_turn, going_over}
 use native.Mathlib.Omega.{arith}
 use Rattle.members_file.proofs.number_symbols.Goals as goal
 
-pub loop-j-init : goal.loop-j-init
-loop-j-init c = going_start _ _ _
-
-pub overflow_add-total : goal.overflow_add-total
-overflow_add-total c = omega (arith, c.loop-j.invariant.at_most, c.loop-j-test.true, c.requires.2, c.symbol_size-total.ensures.1)
-
 pub loop-j-preserved : goal.loop-j-preserved
 loop-j-preserved c =
     going_turn c.loop-j.invariant c.loop-j-test.true c.requires.0 c.number-c.ensures c.symbol_size-total.ensures.0 c.symbol_size-total.ensures.1

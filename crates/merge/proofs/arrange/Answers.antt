@@ -7,9 +7,6 @@ use Rattle.merge.proofs.arrange.Goals as goal
 pub loop-i-init : goal.loop-i-init
 loop-i-init c = arrange_start c.requires
 
-pub overflow_add-s : goal.overflow_add-s
-overflow_add-s c = omega (arith, c.requires.in_use, c.requires.in_table, c.loop-i.invariant.in_n)
-
 pub place-requires : goal.place-requires
 place-requires c = rw c.loop-i.invariant.same_length (arrange_asks c.requires c.loop-i.invariant c.loop-i-test.true)
 

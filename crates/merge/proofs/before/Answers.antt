@@ -8,12 +8,6 @@ use lib.ListN.{take}
 use mathlib.Core.Path.{refl, sym, ap₂, ◌∙◌}
 use Rattle.merge.proofs.before.Goals as goal
 
-pub expand-n-requires : goal.expand-n-requires
-expand-n-requires c = ready c.requires.0 _ _ refl refl
-
-pub expand-m-requires : goal.expand-m-requires
-expand-m-requires c = ready c.requires.1 _ _ refl c.expand-n.ensures.sets_length
-
 pub slice_bounds-a-end : goal.slice_bounds-a-end
 slice_bounds-a-end c = expanded_end c.requires.0 c.expand-n.ensures refl
 

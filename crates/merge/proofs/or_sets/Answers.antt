@@ -4,8 +4,5 @@ use Rattle.merge.proofs.Merging.{or_start, or_turn}
 use native.Mathlib.Omega.{arith}
 use Rattle.merge.proofs.or_sets.Goals as goal
 
-pub loop-j-init : goal.loop-j-init
-loop-j-init c = or_start _ _
-
 pub loop-j-preserved : goal.loop-j-preserved
 loop-j-preserved c = or_turn c.loop-j.invariant (omega (arith, c.requires, c.loop-j-test.true))

@@ -3,20 +3,8 @@
 use Rattle.merge.proofs.Merging.{first_in, first_ready, run_start, next_in, run_asks, run_ends, run_turn, run_over}
 use Rattle.merge.proofs.run.Goals as goal
 
-pub expand-size-requires : goal.expand-size-requires
-expand-size-requires c = first_ready c.requires
-
-pub kinds-e-requires : goal.kinds-e-requires
-kinds-e-requires c = first_in c.requires
-
 pub loop-next-init : goal.loop-next-init
 loop-next-init c = run_start c.requires c.expand-size.ensures c.kinds-e.ensures
-
-pub take_in-requires : goal.take_in-requires
-take_in-requires c = run_asks c.requires c.loop-next.invariant c.loop-next-test.true
-
-pub kinds-f-requires : goal.kinds-f-requires
-kinds-f-requires c = next_in c.requires c.loop-next.invariant c.loop-next-test.true
 
 pub loop-next-preserved : goal.loop-next-preserved
 loop-next-preserved c =

@@ -5,9 +5,6 @@ use Rattle.merge.proofs.Comparing.{ready, expanded_end, whole}
 use mathlib.Core.Path.{refl}
 use Rattle.merge.proofs.take_in.Goals as goal
 
-pub expand-m-requires : goal.expand-m-requires
-expand-m-requires c = ready c.requires.usable _ _ refl refl
-
 pub slice_bounds-own-end : goal.slice_bounds-own-end
 slice_bounds-own-end c = expanded_end c.requires.usable c.expand-m.ensures refl
 

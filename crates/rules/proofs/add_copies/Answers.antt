@@ -3,12 +3,6 @@
 use Rattle.rules.proofs.Copies.{copies_start, copies_load, copies_asks, copies_turn, copies_many, copies_over}
 use Rattle.rules.proofs.add_copies.Goals as goal
 
-pub loop-j-init : goal.loop-j-init
-loop-j-init c = copies_start c.requires
-
-pub load-n-requires : goal.load-n-requires
-load-n-requires c = copies_load c.requires c.loop-j.invariant c.loop-j-test.true
-
 pub add-count-requires : goal.add-count-requires
 add-count-requires c = copies_asks c.requires c.loop-j.invariant c.loop-j-test.true c.load-n.ensures
 

@@ -7,9 +7,6 @@ use Rattle.rules.proofs.add_edges.Goals as goal
 pub loop-a-init : goal.loop-a-init
 loop-a-init c = edges_start c.requires
 
-pub add_edges_from-count-requires : goal.add_edges_from-count-requires
-add_edges_from-count-requires c = (from_asks c.requires c.loop-a.invariant, c.loop-a-test.true)
-
 pub returns-then-count-gt-MOST : goal.returns-then-count-gt-MOST
 returns-then-count-gt-MOST c = ranging_many c.loop-a.invariant c.loop-a-test.true c.add_edges_from-count.ensures c.if-count-gt-MOST.true
 

@@ -10,9 +10,6 @@ returns-then-matrix-a-eq0 c = from_skipped c.requires.0 _ c.if-matrix-a-eq0.true
 pub loop-b-init : goal.loop-b-init
 loop-b-init c = from_start c.requires.0 _
 
-pub add_edge-count-requires : goal.add_edge-count-requires
-add_edge-count-requires c = edge_asks c.requires.0 c.loop-b.invariant c.requires.1 c.loop-b-test.true
-
 pub returns-then-count-gt-MOST : goal.returns-then-count-gt-MOST
 returns-then-count-gt-MOST c = ranging_many c.loop-b.invariant c.loop-b-test.true c.add_edge-count.ensures c.if-count-gt-MOST.true
 

@@ -3,9 +3,6 @@
 use Rattle.rules.proofs.Rows.{row_start, row_asks, row_turn, row_many, row_over}
 use Rattle.rules.proofs.add_row.Goals as goal
 
-pub loop-j-init : goal.loop-j-init
-loop-j-init c = row_start c.requires
-
 pub add_pair-count-requires : goal.add_pair-count-requires
 add_pair-count-requires c = row_asks c.requires c.loop-j.invariant c.loop-j-test.true
 

@@ -3,18 +3,6 @@
 use Rattle.rules.specs.PairRules.{of_two}
 use Rattle.rules.proofs.op_rule.Goals as goal
 
-pub union_rule-requires : goal.union_rule-requires
-union_rule-requires c = c.requires
-
-pub pair_rule-requires : goal.pair_rule-requires
-pair_rule-requires c = c.requires.two
-
-pub pair_rule-requires-in-BranchRight : goal.pair_rule-requires-in-BranchRight
-pair_rule-requires-in-BranchRight c = c.requires.two
-
-pub pair_rule-requires-in-BranchLeft : goal.pair_rule-requires-in-BranchLeft
-pair_rule-requires-in-BranchLeft c = c.requires.two
-
 pub returns-in-Union : goal.returns-in-Union
 returns-in-Union c = rw c.in-Union.is c.union_rule.ensures
 

@@ -6,9 +6,6 @@ use Rattle.rules.proofs.PairRule.{rule_table, rule_long, rule_start, rule_asks, 
 use Rattle.rules.proofs.RuleOutcome.{few_made, few_not}
 use Rattle.rules.proofs.pair_rule.Goals as goal
 
-pub rows_short-requires : goal.rows_short-requires
-rows_short-requires c = rule_table c.args.o c.requires
-
 pub returns-then-not-rows_short : goal.returns-then-not-rows_short
 returns-then-not-rows_short c = rule_long c.args.o c.requires (sym c.rows_short.ensures ∙ c.if-not-rows_short.true)
 

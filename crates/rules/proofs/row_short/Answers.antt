@@ -3,9 +3,6 @@
 use Rattle.rules.proofs.Rows.{row_left, row_long, row_goes, row_shorter}
 use Rattle.rules.proofs.row_short.Goals as goal
 
-pub loop-j-init : goal.loop-j-init
-loop-j-init c = row_left _ _ _ _ _ _ c.requires.2.ordered
-
 pub returns-then-not-short : goal.returns-then-not-short
 returns-then-not-short c =
     row_long c.requires.0 c.loop-j.invariant c.requires.1 c.requires.2 c.loop-j-test.true c.load-x.ensures c.load-y.ensures c.short.ensures c.if-not-short.true

@@ -3,9 +3,6 @@
 use Rattle.rules.proofs.Rows.{rows_left, rows_long, rows_go, rows_shorter}
 use Rattle.rules.proofs.rows_short.Goals as goal
 
-pub loop-i-init : goal.loop-i-init
-loop-i-init c = rows_left _ _ _ _ _ _ _ c.requires.1.ordered
-
 pub returns-then-not-row_short : goal.returns-then-not-row_short
 returns-then-not-row_short c =
     rows_long c.requires.0 c.loop-i.invariant c.loop-i-test.true c.row_short.ensures c.if-not-row_short.true

@@ -4,9 +4,6 @@ use Rattle.rules.proofs.Repeating.{has_below, none_alike, one_alike}
 use native.Mathlib.Omega.{arith}
 use Rattle.rules.proofs.stands_alike.Goals as goal
 
-pub alike-requires : goal.alike-requires
-alike-requires c = (c.requires.0, has_below c.requires.0 (omega arith))
-
 pub returns-then-alike : goal.returns-then-alike
 returns-then-alike c = one_alike (omega arith) (omega arith) c.alike.ensures c.if-alike.true
 

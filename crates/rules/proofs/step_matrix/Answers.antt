@@ -5,9 +5,6 @@ use Rattle.rules.proofs.Steps.{matrix_none, matrix_more}
 use native.Mathlib.Omega.{arith}
 use Rattle.rules.proofs.step_matrix.Goals as goal
 
-pub loop-a-init : goal.loop-a-init
-loop-a-init c = (omega arith, matrix_none _ _ _ _ c.requires.0)
-
 pub loop-a-preserved : goal.loop-a-preserved
 loop-a-preserved c = (omega arith, rw c.from.ensures (matrix_more c.loop-a.invariant.1 c.step_row.ensures c.loop-a-test.true c.requires.2))
 

@@ -3,9 +3,6 @@
 use Rattle.rules.proofs.Steps.{step_asks, step_told}
 use Rattle.rules.proofs.step_rule.Goals as goal
 
-pub encode-requires : goal.encode-requires
-encode-requires c = c.requires.link
-
 pub add_edges-requires : goal.add_edges-requires
 add_edges-requires c = rw c.encode.ensures (step_asks c.requires c.step_matrix.ensures)
 

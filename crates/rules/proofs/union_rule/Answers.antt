@@ -5,17 +5,11 @@ use Rattle.rules.proofs.Unions.{first_asks, first_many, second_asks, union_told}
 use Rattle.rules.proofs.RuleOutcome.{few_made, few_not}
 use Rattle.rules.proofs.union_rule.Goals as goal
 
-pub add_copies-requires : goal.add_copies-requires
-add_copies-requires c = first_asks c.requires
-
 pub returns-in_err-a : goal.returns-in_err-a
 returns-in_err-a c =
     let p = err_from_is_err_and c.from_residual.result c.from_residual.ensures.1 in
     let m = few_not c.in_err-a.ensures in
     rw (p.1, p.2, m.0) (first_many c.requires c.add_copies.ensures m.1)
-
-pub add_copies-b-requires : goal.add_copies-b-requires
-add_copies-b-requires c = let m = few_made c.in_ok-a.ensures in rw m.0 (second_asks c.requires c.add_copies.ensures m.1)
 
 pub returns : goal.returns
 returns c =

@@ -16,12 +16,6 @@ use Rattle.triples.proofs.Nodes.+same_path.Goals as goal
 pub returns-then-a-b : goal.returns-then-a-b
 returns-then-a-b t c = same_node _ _ c.if-a-b.true
 
-pub load-x-requires : goal.load-x-requires
-load-x-requires t c = omega (arith, c.requires.0.in_use, c.requires.0.in_table)
-
-pub load-y-requires : goal.load-y-requires
-load-y-requires t c = omega (arith, c.requires.1.in_use, c.requires.1.in_table)
-
 pub returns-then-x-y : goal.returns-then-x-y
 returns-then-x-y t c = made_differ c.requires.0 c.requires.1 c.load-x.ensures.is c.load-y.ensures.is c.if-x-y.true
 

@@ -33,9 +33,6 @@ pub record Going (w : Triple → ℕ) (all rest : List Triple) (xs ys : List ℕ
   pub same_length : length ys ≡ length xs
   pub at : (k : ℕ) → max (get_or ys k 0) (largest (to_kind k w) rest) ≡ max (get_or xs k 0) (largest (to_kind k w) all)
 
-pub round_start : (w : Triple → ℕ) (ts : List Triple) (xs : List ℕ) → Going w ts ts xs xs
-round_start w ts xs = record { same_length = refl; at = λ k. refl }
-
 round_over : {w : Triple → ℕ} {all rest : List Triple} {xs ys : List ℕ} → Going w all rest xs ys → rest ≡ [] → Raising w all xs ys
 round_over {w} {all} {rest} {xs} {ys} r e = record { same_length = r.same_length; at = λ k. (let f = r.at k in let g : largest (to_kind k w) rest ≡ 0 = ap (largest (to_kind k w)) e in omega arith) }
 
@@ -136,6 +133,3 @@ module _ {fs : List Triple} where
   rounds_none {n} g z =
       let none : (k : ℕ) → best fs n k ≡ 0 = λ k. omega (arith, z k, g.is k) in
       sym (rounds_short fs (λ m k h. ⊎_elim (λ (l : m ≤ n). g.below m k l) (λ (l : n < m). omega (arith, best_none fs n none m k (omega arith))) (le_or_lt m n)))
-
-  pub rounds_small : {n : ℕ} {xs : List ℕ} → Rounds fs n xs → Small xs
-  rounds_small {n} g k = omega (arith, g.is k, g.below n k (omega arith))

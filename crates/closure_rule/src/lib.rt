@@ -92,6 +92,6 @@ pub fn closure_rule(
     }
     let w = rules::few(grow_walks(words, question, s, f))?;
     let node = kept_node(o, n);
-    let k = rules::add_edges(words, question, &work, kind_graph::KINDS, node, s, w);
+    let k = rules::add_edges(words, question, &work, fields::KINDS, node, s, w);
     rules::few(k)
 }

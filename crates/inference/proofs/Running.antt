@@ -2,14 +2,14 @@
 -- Assumes nothing.
 use mathlib.Core.Path.{◌≡◌, refl, sym, ap, ap₂, ◌∙◌, subst}
 use mathlib.Core.List.{List, [], ◌∷◌, ◌++◌}
-use mathlib.Core.Option.{Option}
+use mathlib.Core.Option.{Option, some}
 use Prim.Native.Nat.{ℕ, suc, ◌+◌, ◌-◌, ◌<◌, ◌≤◌}
 use native.Mathlib.Numerals.{add-one}
 use native.Mathlib.Omega.{arith}
 use lib.ListN.{length, get_or, set, replicate, length-set}
 use lib.Seq.{get_or-set_same, slice_empty}
 use Rattle.theory.specs.PathExpr.{PathExpr, Symbol}
-use Rattle.theory.specs.Postfix.{Stack, go_on, read, top_and, ended}
+use Rattle.theory.specs.Postfix.{Stack, go_on, read, top_and, ended, path_of}
 use Rattle.theory.specs.Sheet.{Sheet}
 use Rattle.theory.specs.Inference.{Triple, triples}
 use Rattle.theory.specs.Narrowing.{Narrowing, unless, refuse, part_fault}
@@ -17,7 +17,7 @@ use Rattle.theory.specs.Result.{refused}
 use Rattle.theory.proofs.Postfix.{single, push_symbols}
 use Rattle.fields.specs.declared.Refusal.{Refusal}
 use Rattle.fields.specs.declared.Refusal.TheVariants.{TooMany, TooLong}
-use Rattle.symbols.specs.Symbols.{symbol_numbered, arity}
+use Rattle.symbols.specs.Symbols.{symbol_numbered, operands}
 use Rattle.fields.specs.Contract.{number_of, place_of}
 use Rattle.question.specs.Form.{question_symbols}
 use Rattle.rows.specs.Kept.{Kept}
@@ -32,11 +32,26 @@ use Rattle.rules.specs.Outcome.{outcome, fault_of, refusal_at, Ruled}
 use Rattle.rules.proofs.RuleOutcome.{outcome_fault}
 use Rattle.inference.specs.declared.Operand.{Operand}
 use Rattle.inference.specs.Turns.{of_symbol, made_of, origin_of}
-use Rattle.inference.specs.Questions.{symbols_of, Asking, Sheeted, Nodes, Infers}
+use Rattle.inference.specs.Questions.{symbols_of, Sheeted, Nodes, Found, Infers}
 use Rattle.inference.proofs.Stacks.{Standing, standing_new, no_operand, Stacked, bottom, above, stacked_kept, stacked_set}
-use Rattle.inference.proofs.Turning.{symbols_from, from_next, of_next, Running, Turn, turn_at}
+use Rattle.inference.proofs.Turning.{symbols_from, from_next, of_next, Asked, all_symbols, Running, Turn, turn_at}
 
-pub running_start : {qs ws t : List ℕ} {count K : ℕ} (h : Asking qs ws count K) → Running qs ws ws t count K h.path (replicate 33 no_operand) 0 0 0
+-- what is inferred from the first `count` symbols; where those are all it is what is inferred
+pub record InfersFirst (qs ws ws' t : List ℕ) (count K : ℕ) (r : Result Span Refusal) : Type 0 where
+  pub kept : Kept 0 4097 ws ws'
+  pub nodes : (x : Span) → r ≡ Ok x → Nodes qs ws' x.start x.end
+  pub found : (S : Sheet) → Sheeted t K S → (q : PathExpr) → path_of (symbols_of qs count) ≡ some q → Found S (ended (symbols_of qs count) []) q qs ws' r
+
+pub inferred : {qs ws ws' t : List ℕ} {K : ℕ} {r : Result Span Refusal} → InfersFirst qs ws ws' t (length qs) K r → Infers qs ws ws' t K r
+inferred {qs} {ws' = ws'} {r = r} i =
+    record {
+      kept = i.kept;
+      nodes = i.nodes;
+      found = λ S a q m.
+          subst (λ (ks : List Symbol). Found S (ended ks []) q qs ws' r) (all_symbols qs) (i.found S a q (ap path_of (all_symbols qs) ∙ m));
+    }
+
+pub running_start : {qs ws t : List ℕ} {count K : ℕ} (h : Asked qs ws count K) → Running qs ws ws t count K h.path (replicate 33 no_operand) 0 0 0
 running_start {qs} {ws} {t} {count} h =
     record {
       kept = kept_refl 0 4097 ws;
@@ -53,9 +68,9 @@ running_start {qs} {ws} {t} {count} h =
       left = λ S r o. refl;
     }
 
-module _ {qs ws₀ ws t : List ℕ} {count K depth used i : ℕ} {xs : List Operand} (h : Asking qs ws₀ count K) (g : Running qs ws₀ ws t count K h.path xs depth used i) where
+module _ {qs ws₀ ws t : List ℕ} {count K depth used i : ℕ} {xs : List Operand} (h : Asked qs ws₀ count K) (g : Running qs ws₀ ws t count K h.path xs depth used i) where
   -- ---- a symbol, which takes n operands
-  module _ (l : i < count) {k : Symbol} (is : k ≡ symbol_numbered (get_or qs i 0) 0) {n : ℕ} (takes : n ≡ arity (get_or qs i 0)) {ws' : List ℕ} {r : Result ℕ Excess}
+  module _ (l : i < count) {k : Symbol} (is : k ≡ symbol_numbered (get_or qs i 0) 0) {n : ℕ} (takes : n ≡ operands k) {ws' : List ℕ} {r : Result ℕ Excess}
       (f : Ruled qs ws ws' used (made_of qs ws t K k i (get_or xs (depth - n) no_operand) (get_or xs (depth - n + 1) no_operand)) r) where
     abbrev b : ℕ
     b = depth - n
@@ -73,7 +88,7 @@ module _ {qs ws₀ ws t : List ℕ} {count K depth used i : ℕ} {xs : List Oper
     ss = symbols_from qs count (i + 1)
 
     next : symbols_from qs count i ≡ k ∷ ss
-    next = from_next qs count i l (omega (arith, h.long, h.few)) ∙ ap (λ (y : Symbol). y ∷ ss) (sym is)
+    next = from_next qs count i l (omega (arith, h.inside)) ∙ ap (λ (y : Symbol). y ∷ ss) (sym is)
 
     abbrev st : Stack
     st = u.top ∷ u.below
@@ -96,7 +111,7 @@ module _ {qs ws₀ ws t : List ℕ} {count K depth used i : ℕ} {xs : List Oper
         fault : part_fault S u.top ≡ fault_of r
         fault = sym (outcome_fault S u.top) ∙ ap (λ (ts : List Triple). fault_of (outcome ts)) (sym (u.is S a)) ∙ ap fault_of (sym f.is)
 
-    refuses : (x : Refusal) → ((o : Narrowing) → unless (fault_of r) i o ≡ refused (number_of x) (place_of x)) → Infers qs ws₀ ws' t count K (Err x)
+    refuses : (x : Refusal) → ((o : Narrowing) → unless (fault_of r) i o ≡ refused (number_of x) (place_of x)) → InfersFirst qs ws₀ ws' t count K (Err x)
     refuses x e =
         record {
           kept = kept_more;
@@ -104,7 +119,7 @@ module _ {qs ws₀ ws t : List ℕ} {count K depth used i : ℕ} {xs : List Oper
           found = λ S a q m o. by_outcome S a o ∙ e (refuse (part_fault S) (i + 1) (ended ss st) o);
         }
 
-    pub running_stops : (x : Excess) → r ≡ Err x → Infers qs ws₀ ws' t count K (Err (refusal_at x i))
+    pub running_stops : (x : Excess) → r ≡ Err x → InfersFirst qs ws₀ ws' t count K (Err (refusal_at x i))
     running_stops Many e = refuses (TooMany i) (λ o. ap (λ (a : Result ℕ Excess). unless (fault_of a) i o) e)
     running_stops Long e = refuses (TooLong i) (λ o. ap (λ (a : Result ℕ Excess). unless (fault_of a) i o) e)
 
@@ -127,7 +142,7 @@ module _ {qs ws₀ ws t : List ℕ} {count K depth used i : ℕ} {xs : List Oper
           so_far =
               push_symbols k g.stack st u.pushes
               ∙ ap₂ (λ (ks : List Symbol) (y : Symbol). ks ++ (y ∷ [])) g.so_far is
-              ∙ sym (of_next qs i (omega (arith, h.long, h.few)));
+              ∙ sym (of_next qs i (omega (arith, h.inside)));
           ahead = sym (ap (λ (ks : List Symbol). read ks g.stack) next ∙ ap (λ (a : Option Stack). go_on a (read ss)) u.pushes) ∙ g.ahead;
           left = λ S c a. sym (by_outcome S c a ∙ ap (λ (p : Result ℕ Excess). unless (fault_of p) i (refuse (part_fault S) (i + 1) (ended ss st) a)) e);
         }
@@ -149,7 +164,7 @@ module _ {qs ws₀ ws t : List ℕ} {count K depth used i : ℕ} {xs : List Oper
     last : Stacked qs ws t K used xs (h.path ∷ []) → Standing qs ws t K used (get_or xs 0 no_operand) h.path
     last (above w e below) = w
 
-    pub running_end : Infers qs ws₀ ws t count K (Ok (get_or xs 0 no_operand).nodes)
+    pub running_end : InfersFirst qs ws₀ ws t count K (Ok (get_or xs 0 no_operand).nodes)
     running_end =
         record {
           kept = g.kept;

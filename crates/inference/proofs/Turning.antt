@@ -9,13 +9,15 @@ use native.Mathlib.Omega.{arith}
 use lib.Dec.{ltb→lt}
 use lib.ListN.{length, get_or, take, drop}
 use lib.Seq.{take-suc, slice-cons}
+use Rattle.std.proofs.lemmas.List.{take_all}
+use native.Mathlib.Nat.{le_refl}
 use Rattle.theory.specs.PathExpr.{Direction, named, PathExpr, step, closure, Symbol, s_step, s_join, s_op, s_closure}
-use Rattle.theory.specs.Postfix.{Stack, two_operands, push, read, ended}
+use Rattle.theory.specs.Postfix.{Stack, two_operands, push, read, ended, path_of}
 use Rattle.theory.specs.Sheet.{Sheet}
 use Rattle.theory.specs.Inference.{Triple, distinct, of_closure, triples}
 use Rattle.theory.specs.Narrowing.{Narrowing, refuse, part_fault}
 use Rattle.theory.proofs.Postfix.{symbols, Step, read_step}
-use Rattle.symbols.specs.Symbols.{symbol_numbered, operands, arity}
+use Rattle.symbols.specs.Symbols.{symbol_numbered, operands}
 use Rattle.symbols.proofs.Numbers.{step_below}
 use Rattle.question.specs.Form.{question_symbols}
 use Rattle.rows.specs.Kept.{Kept}
@@ -24,6 +26,7 @@ use Rattle.rules.specs.Requirements.{Room}
 use Rattle.inference.specs.declared.Operand.{Operand}
 use Rattle.inference.specs.Turns.{of_symbol, made_of, origin_of, TurnAsks}
 use Rattle.inference.specs.Questions.{symbols_of, Asking, Sheeted}
+use Rattle.triples.specs.Paths.{Coded}
 use Rattle.inference.proofs.Codes.{Binary, join_binary, op_binary, step_triples, closure_triples}
 use Rattle.inference.proofs.Originals.{symbols_length, top_back, top_original, top_copied}
 use Rattle.inference.proofs.Stacks.{Standing, no_operand, Stacked, above, one_found, two_found}
@@ -38,6 +41,31 @@ from_next qs count i l h = rw (add-one i) (ap question_symbols (slice-cons i cou
 
 pub of_next : (qs : List ℕ) (i : ℕ) → i < length qs → symbols_of qs (i + 1) ≡ symbols_of qs i ++ (symbol_numbered (get_or qs i 0) 0 ∷ [])
 of_next qs i l = rw (add-one i) (ap question_symbols (take-suc qs i 0 l) ∙ map-append _ (take i qs) (get_or qs i 0 ∷ []))
+
+-- what is asked of the first `count` symbols
+pub record Asked (qs ws : List ℕ) (count K : ℕ) : Type 0 where
+  pub inside : count ≤ length qs
+  pub few : count ≤ 32
+  pub known : (k : ℕ) → k < count → Coded (get_or qs k 0)
+  pub path : PathExpr
+  pub is : path_of (symbols_of qs count) ≡ some path
+  pub room : 4097 ≤ length ws
+  pub kinds : K ≤ 64
+
+pub all_symbols : (qs : List ℕ) → symbols_of qs (length qs) ≡ question_symbols qs
+all_symbols qs = ap question_symbols (take_all (length qs) qs (le_refl (length qs)))
+
+abbrev pub asked : {qs ws : List ℕ} {K : ℕ} → Asking qs ws K → Asked qs ws (length qs) K
+asked {qs} h =
+    record {
+      inside = le_refl (length qs);
+      few = h.few;
+      known = h.known;
+      path = h.path;
+      is = ap path_of (all_symbols qs) ∙ h.is;
+      room = h.room;
+      kinds = h.kinds;
+    }
 
 -- ---- what holds at the loop's head: i symbols are read, and the rest makes the path and has what is left of the refusals
 pub record Running (qs ws₀ ws t : List ℕ) (count K : ℕ) (path : PathExpr) (xs : List Operand) (depth used i : ℕ) : Type 0 where
@@ -66,7 +94,7 @@ pub record Turn (qs ws t : List ℕ) (K : ℕ) (xs : List Operand) (st : Stack) 
   pub asks : TurnAsks qs ws K k used i (get_or xs b no_operand) (get_or xs (b + 1) no_operand)
   pub is : (S : Sheet) → Sheeted t K S → made_of qs ws t K k i (get_or xs b no_operand) (get_or xs (b + 1) no_operand) ≡ triples S top
 
-module _ {qs ws₀ ws t : List ℕ} {count K depth used i : ℕ} {xs : List Operand} (h : Asking qs ws₀ count K) (g : Running qs ws₀ ws t count K h.path xs depth used i) (l : i < count) where
+module _ {qs ws₀ ws t : List ℕ} {count K depth used i : ℕ} {xs : List Operand} (h : Asked qs ws₀ count K) (g : Running qs ws₀ ws t count K h.path xs depth used i) (l : i < count) where
   abbrev c : ℕ
   c = get_or qs i 0
 
@@ -76,7 +104,7 @@ module _ {qs ws₀ ws t : List ℕ} {count K depth used i : ℕ} {xs : List Oper
   one : Step x (symbols_from qs count (i + 1)) g.stack h.path
   one =
       read_step x (symbols_from qs count (i + 1)) g.stack h.path
-      (ap (λ (ss : List Symbol). read ss g.stack) (sym (from_next qs count i l (omega (arith, h.long, h.few)))) ∙ g.ahead)
+      (ap (λ (ss : List Symbol). read ss g.stack) (sym (from_next qs count i l (omega (arith, h.inside)))) ∙ g.ahead)
 
   room : Room qs ws used 0
   room =
@@ -89,7 +117,7 @@ module _ {qs ws₀ ws t : List ℕ} {count K depth used i : ℕ} {xs : List Oper
       }
 
   in_array : i ≤ length qs
-  in_array = omega (arith, h.long, h.few)
+  in_array = omega (arith, h.inside)
 
   abbrev T : Symbol → ℕ → Type 0
   T k b = Turn qs ws t K xs g.stack k depth used i b
@@ -185,13 +213,9 @@ module _ {qs ws₀ ws t : List ℕ} {count K depth used i : ℕ} {xs : List Oper
   turn s_closure s = closure_turn s
 
   -- what the code knows: the symbol, and how many operands it takes
-  module _ {k : Symbol} (is : k ≡ symbol_numbered (get_or qs i 0) 0) {n : ℕ} (takes : n ≡ arity (get_or qs i 0)) where
-    counted : n ≡ operands k
-    unfolding arity
-    counted = takes ∙ ap operands (sym is)
-
+  module _ {k : Symbol} (is : k ≡ symbol_numbered (get_or qs i 0) 0) {n : ℕ} (takes : n ≡ operands k) where
     pub enough : n ≤ depth
-    enough = omega (arith, (turn k (sym is)).takes, counted)
+    enough = omega (arith, (turn k (sym is)).takes, takes)
 
     pub turn_at : Turn qs ws t K xs g.stack k depth used i (depth - n)
-    turn_at = subst (λ (m : ℕ). T k (depth - m)) (sym counted) (turn k (sym is))
+    turn_at = subst (λ (m : ℕ). T k (depth - m)) (sym takes) (turn k (sym is))

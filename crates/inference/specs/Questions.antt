@@ -24,13 +24,12 @@ use Rattle.rules.specs.StepTriples.{Tabled}
 abbrev pub symbols_of : List ℕ → ℕ → List Symbol
 symbols_of qs count = question_symbols (take count qs)
 
--- the codes of a question of `count` symbols, in an array of 32; words for 4,096 nodes and one more; a table of K kinds
-pub record Asking (qs ws : List ℕ) (count K : ℕ) : Type 0 where
-  pub long : length qs ≡ 32
-  pub few : count ≤ 32
-  pub known : (k : ℕ) → k < count → Coded (get_or qs k 0)
+-- the codes of a question's symbols, at most 32; words for 4,096 nodes and one more; a sheet of K kinds
+pub record Asking (qs ws : List ℕ) (K : ℕ) : Type 0 where
+  pub few : length qs ≤ 32
+  pub known : (k : ℕ) → k < length qs → Coded (get_or qs k 0)
   pub path : PathExpr
-  pub is : path_of (symbols_of qs count) ≡ some path
+  pub is : path_of (question_symbols qs) ≡ some path
   pub room : 4097 ≤ length ws
   pub kinds : K ≤ 64
 
@@ -52,7 +51,7 @@ abbrev pub Found : Sheet → List PathExpr → PathExpr → List ℕ → List �
 Found S ps q qs ws (Ok x) = ((o : Narrowing) → refuse (part_fault S) 0 ps o ≡ o) × (triples_in qs ws x ≡ triples S q)
 Found S ps q qs ws (Err f) = (o : Narrowing) → refuse (part_fault S) 0 ps o ≡ refused (number_of f) (place_of f)
 
-pub record Infers (qs ws ws' t : List ℕ) (count K : ℕ) (r : std.Result Span Refusal) : Type 0 where
+pub record Infers (qs ws ws' t : List ℕ) (K : ℕ) (r : std.Result Span Refusal) : Type 0 where
   pub kept : Kept 0 4097 ws ws'
   pub nodes : (x : Span) → r ≡ Ok x → Nodes qs ws' x.start x.end
-  pub found : (S : Sheet) → Sheeted t K S → (q : PathExpr) → path_of (symbols_of qs count) ≡ some q → Found S (ended (symbols_of qs count) []) q qs ws' r
+  pub found : (S : Sheet) → Sheeted t K S → (q : PathExpr) → path_of (question_symbols qs) ≡ some q → Found S (ended (question_symbols qs) []) q qs ws' r

@@ -8,6 +8,7 @@ ghost use Rattle.inference.specs.Questions.{Asking, Infers};
 
 use fields::Refusal;
 use rules::{Excess, PairOperator};
+use sheet::Sheet;
 use symbols::Symbol;
 use triples::Span;
 
@@ -31,20 +32,19 @@ const NONE: Operand = Operand {
 fn rule(
     words: &mut [u64],
     question: &[u8],
-    table: &[u64; sheet::TABLE],
-    kinds: usize,
+    sheet: &Sheet,
     k: Symbol,
     used: usize,
     i: usize,
     x: Operand,
     y: Operand,
 ) -> Result<usize, Excess>
-    requires { TurnAsks question.now words.old kinds (symbol_said k) used i x y }
-    ensures { TurnMakes question.now words.old words.new table.now kinds (symbol_said k) used i x y result }
+    requires { TurnAsks question.now words.old sheet.now.kinds (symbol_said k) used i x y }
+    ensures { TurnMakes question.now words.old words.new sheet.now.table sheet.now.kinds (symbol_said k) used i x y result }
 {
     match k {
         Symbol::Step(direction, link) => {
-            rules::step_rule(words, question, table, kinds, direction, link, used)
+            rules::step_rule(words, question, sheet, direction, link, used)
         }
         Symbol::Join(_) => {
             rules::pair_rule(words, question, PairOperator::Join, used, x.nodes, y.nodes)
@@ -66,28 +66,20 @@ fn origin(k: Symbol, i: usize, x: Operand) -> usize
     }
 }
 
-// The nodes of the triples of a question of `count` symbols, by a sheet's table of `kinds` kinds; or 12 or 13 at the first symbol that has
-// either.
-pub fn infer(
-    words: &mut [u64],
-    question: &[u8],
-    count: usize,
-    table: &[u64; sheet::TABLE],
-    kinds: usize,
-) -> Result<Span, Refusal>
-    requires { Asking question.now words.old count kinds }
-    ensures { Infers question.now words.old words.new table.now count kinds result }
+// The nodes of the triples of a question, which is its symbols' codes, by a sheet; or 12 or 13 at the first symbol that has either.
+pub fn infer(words: &mut [u64], question: &[u8], sheet: &Sheet) -> Result<Span, Refusal>
+    requires { Asking question.now words.old sheet.now.kinds }
+    ensures { Infers question.now words.old words.new sheet.now.table sheet.now.kinds result }
 {
     // One place more than symbols: every symbol looks at a second part.
     let mut parts = [NONE; STACK];
-    let mut depth: usize = 0;
-    let mut used: usize = 0;
-    for i in 0..count {
-        let c = question[i];
+    let mut depth = 0;
+    let mut used = 0;
+    for (i, &c) in question.iter().enumerate() {
         let k = symbols::decode(c, 0);
-        let b = depth - symbols::operands(c) as usize;
+        let b = depth - usize::from(k.operands());
         let x = parts[b];
-        let made = rule(words, question, table, kinds, k, used, i, x, parts[b + 1]);
+        let made = rule(words, question, sheet, k, used, i, x, parts[b + 1]);
         let n = made.map_err(|e| e.at(i))?;
         let nodes = Span {
             start: used,

@@ -17,6 +17,10 @@ use Rattle.theory.specs.PathExpr.{size}
 use Rattle.theory.specs.Inference.{Triple, walks}
 use Rattle.theory.specs.Narrowing.{short?}
 use Rattle.rows.proofs.Words.{le_or_lt}
+use Rattle.std.specs.Bool.{MatchBool}
+use Rattle.std.specs.List.{AllWithin, HoldsAt}
+use Rattle.triples.specs.Tests.{Decides}
+use Rattle.triples.proofs.Comparing.{decides_yes, decides_no}
 use Rattle.triples.specs.declared.Node.{Node}
 use Rattle.triples.specs.Table.{Loaded}
 use Rattle.triples.specs.Paths.{triple_of}
@@ -92,13 +96,14 @@ module _ {qs ws : List ℕ} {s e : ℕ} (h : Part qs ws (span s e)) where
     pub round_next : {w : Triple → ℕ} {v : ℕ} {xs ys zs : List ℕ} → v ≡ w (triple_of qs ws i) → Going w (from s) (from i) xs ys → Raised x.to.0 v ys zs → Going w (from s) (from (i + 1)) xs zs
     round_next q r d = round_turn (from (i + 1)) r (part_next qs ws i e l) to_is q d
 
--- ---- whether each number is at most m
-pub at_most_all : {m : ℕ} (xs : List ℕ) (i : ℕ) → length xs ≤ i → ((k : ℕ) → k < i → get_or xs k 0 ≤ m) → AtMost m xs
-at_most_all xs i l h k =
-    ⊎_elim (λ (o : i ≤ k). let e : get_or xs k 0 ≡ 0 = get_or-eq_default xs 0 (omega arith) in omega arith) (λ (o : k < i). h k o) (le_or_lt i k)
-
-pub at_most_more : {m : ℕ} (xs : List ℕ) (i : ℕ) → ((k : ℕ) → k < i → get_or xs k 0 ≤ m) → get_or xs i 0 ≤ m → (k : ℕ) → k < i + 1 → get_or xs k 0 ≤ m
-at_most_more xs i h o k l = ⊎_elim (λ (e : k ≡ i). rw e o) (λ (n : k < i). h k n) (eq-or-lt_of_le (omega arith))
+-- ---- whether each number is at most m: `all` tells that each is, or that one is not
+pub decides_at_most : (m : ℕ) (r : Bool) (xs : List ℕ) → MatchBool r (AllWithin (λ x. x ≤ m) xs 0 (length xs)) ((k : ℕ) × (k < length xs) × HoldsAt (λ x. m < x) xs k)
+    → Decides (AtMost m xs) r
+decides_at_most m true xs h = decides_yes (λ k. ⊎_elim
+    (λ (o : length xs ≤ k). let e : get_or xs k 0 ≡ 0 = get_or-eq_default xs 0 o in omega arith)
+    (λ (o : k < length xs). h k 0 (omega arith) o)
+    (le_or_lt (length xs) k))
+decides_at_most m false xs w = decides_no (λ h. omega (arith, h w.0, w.2 0))
 
 -- ---- the rounds
 -- after n rounds: the largest walk of n + 1 triples to each kind, and none was over 48 yet

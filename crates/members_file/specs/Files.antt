@@ -14,7 +14,7 @@ use Rattle.narrowed_question.specs.Members.{flat_of, narrowed_file}
 use Rattle.merge.specs.Arranging.{Usable}
 use Rattle.merge.specs.Runs.{nodes_at}
 use Rattle.members_file.specs.declared.Entry.{Entry}
-use Rattle.members_file.specs.declared.Extent.{Extent}
+use Rattle.fields.specs.declared.Size.{Size}
 
 -- the number of a symbol by its code c and its set m: a set that is not empty stands at a join only
 abbrev pub number_by : ℕ → ℕ → Symbol → ℕ
@@ -58,10 +58,10 @@ pub record Measuring (qs ws xs : List ℕ) (used n : ℕ) : Type 0 where
   pub items : (j : ℕ) → j < n → Usable qs ws used (get_or xs j 0)
 
 -- their members, and the bytes of the file
-pub record Measured (qs ws xs : List ℕ) (n : ℕ) (r : Extent) : Type 0 where
-  pub members_are : r.members ≡ length (grouped (nodes_at qs ws xs 0 n))
+pub record Measured (qs ws xs : List ℕ) (n : ℕ) (r : Size) : Type 0 where
+  pub members_are : r.count ≡ length (grouped (nodes_at qs ws xs 0 n))
   pub bytes_are : r.bytes ≡ length (narrowed_file (grouped (nodes_at qs ws xs 0 n)))
-  pub few : r.members ≤ 128
+  pub few : r.count ≤ 128
 
 -- there is room for the file of their members, of which the number is known
 pub record Filing (qs ws xs : List ℕ) (used n members : ℕ) (out : List ℕ) : Type 0 where

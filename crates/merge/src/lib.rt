@@ -5,6 +5,8 @@ ghost use Rattle.std.specs.Prelude.{◌≡◌, ◌<◌, ◌≤◌, length};
 ghost use Rattle.merge.specs.Arranging.{earlier?, Usable, Placing, Placed, Arranging, Arranged};
 ghost use Rattle.merge.specs.Runs.{Singles, Ored, Taking, Taken, Running, Ran};
 
+use triples::Nodes;
+
 // The kinds of a node, as sets.
 #[derive(Clone, Copy)]
 struct Ends {
@@ -22,48 +24,40 @@ pub struct Group {
 }
 
 // Whether the codes of node i come before those of node j.
-fn before(words: &[u64], used: usize, question: &[u8], i: usize, j: usize) -> bool
-    requires { Usable question.now words.now used i × Usable question.now words.now used j }
-    ensures { result ≡ earlier? question.now words.now i j }
+fn before(nodes: Nodes, i: usize, j: usize) -> bool
+    requires { Usable nodes.question.now nodes.words.now nodes.used i × Usable nodes.question.now nodes.words.now nodes.used j }
+    ensures { result ≡ earlier? nodes.entry.question.now nodes.entry.words.now i j }
 {
     let mut a = [0u8; fields::MEMBER_SYMBOLS];
     let mut b = [0u8; fields::MEMBER_SYMBOLS];
     let mut vias = [0u64; fields::MEMBER_SYMBOLS];
-    let n = triples::expand(words, used, question, i, &mut a, &mut vias, 0);
-    let m = triples::expand(words, used, question, j, &mut b, &mut vias, 0);
+    let n = nodes.expand(i, &mut a, &mut vias, 0);
+    let m = nodes.expand(j, &mut b, &mut vias, 0);
     a[..n] < b[..m]
 }
 
-// Puts node t among the sorted nodes at i + 1 to n of the array, which then start at i.
-fn place(
-    words: &[u64],
-    used: usize,
-    question: &[u8],
-    order: &mut [usize],
-    i: usize,
-    n: usize,
-    t: usize,
-)
-    requires { Placing question.now words.now order.old used i n t }
-    ensures { Placed question.now words.now order.old order.new used i n t }
+// Puts node t among the sorted nodes behind i of the array, which then start at i.
+fn place(nodes: Nodes, order: &mut [usize], i: usize, t: usize)
+    requires { Placing nodes.question.now nodes.words.now order.old nodes.used i (length order.old) t }
+    ensures { Placed nodes.entry.question.now nodes.entry.words.now order.old order.new nodes.entry.used i (length order.old) t }
 {
     // k is where t comes to stand, and so outlives the loop
     let mut k = i;
-    while k + 1 < n && before(words, used, question, order[k + 1], t) {
+    while k + 1 < order.len() && before(nodes, order[k + 1], t) {
         order[k] = order[k + 1];
         k += 1;
     }
     order[k] = t;
 }
 
-// Sorts the n nodes from s on by their codes into the first n of the array. Not by std's sorts: the stable one takes heap, the other
+// Fills the array with as many nodes from s on, sorted by their codes. Not by std's sorts: the stable one takes heap, the other
 // leaves the order of equal codes open, which `Arranged` fixes.
-pub fn arrange(words: &[u64], used: usize, question: &[u8], order: &mut [usize], s: usize, n: usize)
-    requires { Arranging question.now words.now order.old used s n }
-    ensures { Arranged question.now words.now order.old order.new used s n 0 }
+pub fn arrange(nodes: Nodes, order: &mut [usize], s: usize)
+    requires { Arranging nodes.question.now nodes.words.now order.old nodes.used s (length order.old) }
+    ensures { Arranged nodes.entry.question.now nodes.entry.words.now order.old order.new nodes.entry.used s (length order.old) 0 }
 {
-    for i in (0..n).rev() {
-        place(words, used, question, order, i, n, s + i);
+    for i in (0..order.len()).rev() {
+        place(nodes, order, i, s + i);
     }
 }
 
@@ -90,21 +84,13 @@ fn or_sets(into: &mut [u64], from: &[u64])
 }
 
 // ORs node i's join sets into the first n of `sets`, if its codes are the first n of `codes`.
-fn take_in(
-    words: &[u64],
-    used: usize,
-    question: &[u8],
-    i: usize,
-    codes: &[u8],
-    sets: &mut [u64],
-    n: usize,
-) -> bool
-    requires { Taking question.now words.now used i codes.now sets.old n }
-    ensures { Taken question.now words.now i codes.now sets.old sets.new n result }
+fn take_in(nodes: Nodes, i: usize, codes: &[u8], sets: &mut [u64], n: usize) -> bool
+    requires { Taking nodes.question.now nodes.words.now nodes.used i codes.now sets.old n }
+    ensures { Taken nodes.entry.question.now nodes.entry.words.now i codes.now sets.old sets.new n result }
 {
     let mut own = [0u8; fields::MEMBER_SYMBOLS];
     let mut vias = [0u64; fields::MEMBER_SYMBOLS];
-    let m = triples::expand(words, used, question, i, &mut own, &mut vias, 0);
+    let m = nodes.expand(i, &mut own, &mut vias, 0);
     if codes[..n] != own[..m] {
         return false;
     }
@@ -112,29 +98,20 @@ fn take_in(
     true
 }
 
-// The member of the run of equal codes that starts at k of the sorted nodes, up to n; its codes and join sets.
-pub fn run(
-    words: &[u64],
-    used: usize,
-    question: &[u8],
-    order: &[usize],
-    n: usize,
-    k: usize,
-    codes: &mut [u8],
-    sets: &mut [u64],
-) -> Group
-    requires { Running question.now words.now order.now used n k codes.old sets.old }
-    ensures { Ran question.now words.now order.now n k codes.new sets.new result }
+// The member of the run of equal codes that starts at k of the sorted nodes; its codes and join sets.
+pub fn run(nodes: Nodes, order: &[usize], k: usize, codes: &mut [u8], sets: &mut [u64]) -> Group
+    requires { Running nodes.question.now nodes.words.now order.now nodes.used (length order.now) k codes.old sets.old }
+    ensures { Ran nodes.entry.question.now nodes.entry.words.now order.now (length order.now) k codes.new sets.new result }
 {
     let i = order[k];
-    let size = triples::expand(words, used, question, i, codes, sets, 0);
-    let e = kinds(words, i);
+    let size = nodes.expand(i, codes, sets, 0);
+    let e = kinds(nodes.words, i);
     let mut from = e.from;
     let mut to = e.to;
     // `next` is handed out, and so outlives the loop
     let mut next = k + 1;
-    while next < n && take_in(words, used, question, order[next], codes, sets, size) {
-        let f = kinds(words, order[next]);
+    while next < order.len() && take_in(nodes, order[next], codes, sets, size) {
+        let f = kinds(nodes.words, order[next]);
         from |= f.from;
         to |= f.to;
         next += 1;

@@ -207,7 +207,8 @@ fn link_passes(v: u64, left: u16, floor: u64, top: u64, records: u64) -> bool
         && v % LABEL_WEIGHT < records
 }
 
-// Passes over valid kinds in a quick loop of their own; whatever else lies there is left to the general loop.
+// Passes over valid kinds in a quick loop of their own; whatever else lies there is left to the general loop. An iterator over pieces of four
+// bytes would be no plainer: whether a kind is due changes with each, so that it would carry the same value from turn to turn.
 fn past_kinds(s: &[u8], start: Reached) -> Reached
     requires { start.at ≤ length s.now }
     ensures { Passed s.now start.progress start.at result.progress result.at }

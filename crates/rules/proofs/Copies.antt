@@ -16,7 +16,7 @@ use Rattle.triples.specs.Paths.{original, triple_of, Two, Founded, Good, Has}
 use Rattle.triples.specs.Parts.{Candidate, Added, span}
 use Rattle.triples.proofs.Words.{node_new}
 use Rattle.triples.proofs.Triples.{triple_two, triple_from, triple_to, triple_kept, path_step, path_kept}
-use Rattle.triples.proofs.Nodes.{founded, step_path, kept_path}
+use Rattle.triples.proofs.NodePaths.{founded, step_path, kept_path}
 use Rattle.triples.proofs.Growing.{part_next, part_over}
 use Rattle.rules.specs.Outcome.{Adds, with_new}
 use Rattle.rules.specs.Requirements.{Room, part, AddCopies}

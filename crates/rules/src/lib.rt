@@ -16,8 +16,9 @@ ghost use Rattle.rules.specs.EdgeTriples.{edge_at, edges_from, edges_of, leaf_pa
 ghost use Rattle.rules.specs.StepTriples.{of_marks, StepRow, StepMatrix, Stepping};
 
 use fields::{Kind, Link, Refusal};
+use sheet::Sheet;
 use symbols::{Direction, Operator, Symbol};
-use triples::{Node, Span};
+use triples::{Node, Nodes, Span};
 
 // Why a rule makes no part.
 #[derive(Clone, Copy, PartialEq, Eq)]
@@ -79,9 +80,9 @@ impl PairOperator {
         ensures { result ≡ fitting self (ends_of x) (ends_of y) }
     {
         match self {
-            PairOperator::Join | PairOperator::BranchRight => x.to.0 == y.from.0,
-            PairOperator::Conjunction => x.from.0 == y.from.0 && x.to.0 == y.to.0,
-            PairOperator::BranchLeft => x.from.0 == y.from.0,
+            PairOperator::Join | PairOperator::BranchRight => x.to == y.from,
+            PairOperator::Conjunction => x.from == y.from && x.to == y.to,
+            PairOperator::BranchLeft => x.from == y.from,
         }
     }
 
@@ -123,13 +124,13 @@ impl PairOperator {
 // ---- sizes: 13
 
 // Whether each path that node i gives with the nodes ys has at most 48 symbols.
-fn row_short(words: &[u64], question: &[u8], o: PairOperator, s: usize, i: usize, ys: Span) -> bool
-    requires { Pairing question.now words.now s × (i < s) × Lies s ys }
-    ensures { result ≡ short? (row_in question.now words.now o i ys) }
+fn row_short(nodes: Nodes, o: PairOperator, i: usize, ys: Span) -> bool
+    requires { Pairing nodes.question.now nodes.words.now nodes.used × (i < nodes.used) × Lies nodes.used ys }
+    ensures { result ≡ short? (row_in nodes.entry.question.now nodes.entry.words.now o i ys) }
 {
-    let x = triples::load(words, i);
+    let x = triples::load(nodes.words, i);
     for j in ys.start..ys.end {
-        let y = triples::load(words, j);
+        let y = triples::load(nodes.words, j);
         if !o.short(x, y) {
             return false;
         }
@@ -138,12 +139,12 @@ fn row_short(words: &[u64], question: &[u8], o: PairOperator, s: usize, i: usize
 }
 
 // The same for each of the nodes xs in place of i.
-fn rows_short(words: &[u64], question: &[u8], o: PairOperator, s: usize, xs: Span, ys: Span) -> bool
-    requires { Pairing question.now words.now s × Lies s xs × Lies s ys }
-    ensures { result ≡ short? (rows_in question.now words.now o xs ys) }
+fn rows_short(nodes: Nodes, o: PairOperator, xs: Span, ys: Span) -> bool
+    requires { Pairing nodes.question.now nodes.words.now nodes.used × Lies nodes.used xs × Lies nodes.used ys }
+    ensures { result ≡ short? (rows_in nodes.entry.question.now nodes.entry.words.now o xs ys) }
 {
     for i in xs.start..xs.end {
-        if !row_short(words, question, o, s, i, ys) {
+        if !row_short(nodes, o, i, ys) {
             return false;
         }
     }
@@ -153,22 +154,22 @@ fn rows_short(words: &[u64], question: &[u8], o: PairOperator, s: usize, xs: Spa
 // ---- rows that repeat
 
 // Whether nodes i and j have the same from kind and the same path.
-fn alike(words: &[u64], used: usize, question: &[u8], i: usize, j: usize) -> bool
-    requires { Has question.now words.now used i × Has question.now words.now used j }
-    ensures { Alike question.now words.now i j result }
+fn alike(nodes: Nodes, i: usize, j: usize) -> bool
+    requires { Has nodes.question.now nodes.words.now nodes.used i × Has nodes.question.now nodes.words.now nodes.used j }
+    ensures { Alike nodes.entry.question.now nodes.entry.words.now i j result }
 {
-    triples::load(words, i).from.0 == triples::load(words, j).from.0
-        && triples::same_path(words, used, question, i, j)
+    triples::load(nodes.words, i).from == triples::load(nodes.words, j).from
+        && nodes.same_path(i, j)
 }
 
 // Whether one of the nodes p to i, i left out, has the from kind and the path of node i. The newest are tried first,
 // since such nodes mostly stand side by side.
-fn stands_alike(words: &[u64], used: usize, question: &[u8], p: usize, i: usize) -> bool
-    requires { Has question.now words.now used i × (p ≤ i) }
-    ensures { StandsAlike question.now words.now p i result }
+fn stands_alike(nodes: Nodes, p: usize, i: usize) -> bool
+    requires { Has nodes.question.now nodes.words.now nodes.used i × (p ≤ i) }
+    ensures { StandsAlike nodes.entry.question.now nodes.entry.words.now p i result }
 {
     for j in (p..i).rev() {
-        if alike(words, used, question, i, j) {
+        if alike(nodes, i, j) {
             return true;
         }
     }
@@ -177,11 +178,11 @@ fn stands_alike(words: &[u64], used: usize, question: &[u8], p: usize, i: usize)
 
 // Whether one of the nodes p to i, i left out, gives the same row as node i. A branch left drops the to kind of its left
 // triple, so nodes that differ only there do.
-fn repeats(words: &[u64], used: usize, question: &[u8], o: PairOperator, p: usize, i: usize) -> bool
-    requires { Has question.now words.now used i × (p ≤ i) }
-    ensures { Repeats question.now words.now o p i result }
+fn repeats(nodes: Nodes, o: PairOperator, p: usize, i: usize) -> bool
+    requires { Has nodes.question.now nodes.words.now nodes.used i × (p ≤ i) }
+    ensures { Repeats nodes.entry.question.now nodes.entry.words.now o p i result }
 {
-    matches!(o, PairOperator::BranchLeft) && stands_alike(words, used, question, p, i)
+    matches!(o, PairOperator::BranchLeft) && stands_alike(nodes, p, i)
 }
 
 // ---- triples: 12
@@ -244,7 +245,12 @@ fn add_new_row(
     requires { AddNewRow question.now words.old o s count p i ys }
     ensures { Adds question.now words.old words.new s count result (row_in question.now words.old o i ys) }
 {
-    if repeats(words, s + count, question, o, p, i) {
+    let nodes = Nodes {
+        words,
+        used: s + count,
+        question,
+    };
+    if repeats(nodes, o, p, i) {
         return count;
     }
     add_row(words, question, o, s, count, i, ys)
@@ -262,7 +268,12 @@ pub fn pair_rule(
     requires { TwoParts question.now words.old s xs ys }
     ensures { Ruled question.now words.old words.new s (distinct (rows_in question.now words.old o xs ys)) result }
 {
-    if !rows_short(words, question, o, s, xs, ys) {
+    let nodes = Nodes {
+        words,
+        used: s,
+        question,
+    };
+    if !rows_short(nodes, o, xs, ys) {
         return Err(Excess::Long);
     }
     let mut count = 0;
@@ -362,7 +373,7 @@ fn add_edges_from(
     words: &mut [u64],
     question: &[u8],
     matrix: &[u64],
-    kinds: usize,
+    kinds: u8,
     node: Node,
     s: usize,
     start: usize,
@@ -376,7 +387,7 @@ fn add_edges_from(
     }
     let mut count = start;
     for b in 0..kinds {
-        count = add_edge(words, question, matrix, node, s, count, a, Kind(b as u8));
+        count = add_edge(words, question, matrix, node, s, count, a, Kind(b));
         if triples::MOST < count {
             return count;
         }
@@ -389,7 +400,7 @@ pub fn add_edges(
     words: &mut [u64],
     question: &[u8],
     matrix: &[u64],
-    kinds: usize,
+    kinds: u8,
     node: Node,
     s: usize,
     start: usize,
@@ -407,7 +418,7 @@ pub fn add_edges(
             node,
             s,
             count,
-            Kind(a as u8),
+            Kind(a),
         );
         if triples::MOST < count {
             return count;
@@ -418,68 +429,55 @@ pub fn add_edges(
 
 // ---- a step
 
-// The kinds to which a reverse step along the link leads from kind a, by a sheet's table.
-fn reverse_row(table: &[u64; sheet::TABLE], kinds: usize, link: Link, a: Kind) -> u64
-    requires { (link.0 < 64) × (kinds ≤ 64) × (a.0 < 64) }
-    ensures { StepRow table.now reverse link.0 a.0 kinds result }
+// The kinds to which a reverse step along the link leads from kind a, by a sheet.
+fn reverse_row(sheet: &Sheet, link: Link, a: Kind) -> u64
+    requires { (link.0 < 64) × (sheet.now.kinds ≤ 64) × (a.0 < 64) }
+    ensures { StepRow sheet.now.table reverse link.0 a.0 sheet.now.kinds result }
 {
     let mut v = 0;
-    for b in 0..kinds {
-        if sheet::permits(table, Kind(b as u8), link, a) {
-            v = bits::with_bit(v, b);
+    for b in 0..sheet.kinds {
+        if sheet.permits(Kind(b), link, a) {
+            v = bits::with_bit(v, usize::from(b));
         }
     }
     v
 }
 
 // The kinds to which a step leads from kind a: a forward step has a word of the table for them.
-fn step_row(
-    table: &[u64; sheet::TABLE],
-    kinds: usize,
-    direction: Direction,
-    link: Link,
-    a: Kind,
-) -> u64
-    requires { (link.0 < 64) × (kinds ≤ 64) × (a.0 < 64) }
-    ensures { StepRow table.now (direction_said direction) link.0 a.0 kinds result }
+fn step_row(sheet: &Sheet, direction: Direction, link: Link, a: Kind) -> u64
+    requires { (link.0 < 64) × (sheet.now.kinds ≤ 64) × (a.0 < 64) }
+    ensures { StepRow sheet.now.table (direction_said direction) link.0 a.0 sheet.now.kinds result }
 {
     match direction {
-        Direction::Forward => table[sheet::word_of(a, link)],
-        Direction::Reverse => reverse_row(table, kinds, link, a),
+        Direction::Forward => sheet.leads_to(a, link),
+        Direction::Reverse => reverse_row(sheet, link, a),
     }
 }
 
 // The matrix becomes that of a step.
-fn step_matrix(
-    matrix: &mut [u64],
-    table: &[u64; sheet::TABLE],
-    kinds: usize,
-    direction: Direction,
-    link: Link,
-)
-    requires { (length matrix.old ≡ 64) × (link.0 < 64) × (kinds ≤ 64) }
-    ensures { StepMatrix table.now (direction_said direction) link.0 kinds kinds matrix.new }
+fn step_matrix(matrix: &mut [u64], sheet: &Sheet, direction: Direction, link: Link)
+    requires { (length matrix.old ≡ 64) × (link.0 < 64) × (sheet.now.kinds ≤ 64) }
+    ensures { StepMatrix sheet.now.table (direction_said direction) link.0 sheet.now.kinds sheet.now.kinds matrix.new }
 {
-    for a in 0..kinds {
-        matrix[a] = step_row(table, kinds, direction, link, Kind(a as u8));
+    for a in 0..sheet.kinds {
+        matrix[usize::from(a)] = step_row(sheet, direction, link, Kind(a));
     }
 }
 
-// The rule of a step, by a sheet's table of `kinds` kinds: its part is made from s on.
+// The rule of a step, by a sheet: its part is made from s on.
 pub fn step_rule(
     words: &mut [u64],
     question: &[u8],
-    table: &[u64; sheet::TABLE],
-    kinds: usize,
+    sheet: &Sheet,
     direction: Direction,
     link: Link,
     s: usize,
 ) -> Result<usize, Excess>
-    requires { Stepping question.now words.old kinds link.0 s }
-    ensures { Ruled question.now words.old words.new s (distinct (of_marks table.now kinds (direction_said direction) link.0)) result }
+    requires { Stepping question.now words.old sheet.now.kinds link.0 s }
+    ensures { Ruled question.now words.old words.new s (distinct (of_marks sheet.now.table sheet.now.kinds (direction_said direction) link.0)) result }
 {
     let mut matrix = [0u64; fields::KINDS as usize];
-    step_matrix(&mut matrix, table, kinds, direction, link);
+    step_matrix(&mut matrix, sheet, direction, link);
     let node = Node {
         made: symbols::encode(Symbol::Step(direction, link)).number,
         left: 0,
@@ -488,5 +486,5 @@ pub fn step_rule(
         from: Kind(0),
         to: Kind(0),
     };
-    few(add_edges(words, question, &matrix, kinds, node, s, 0))
+    few(add_edges(words, question, &matrix, sheet.kinds, node, s, 0))
 }

@@ -2,7 +2,7 @@
 -- Assumes nothing.
 use mathlib.Core.Path.{◌≡◌, refl, sym, ap, ◌∙◌, subst}
 use mathlib.Core.Bool.{Bool, true, false, true≢false, false≢true}
-use mathlib.Core.Logic.{◌↔◌, ◌⊎◌, inl, inr}
+use mathlib.Core.Logic.{◌↔◌}
 use mathlib.Core.List.{List}
 use mathlib.Core.Option
 use Prim.Native.Nat.{ℕ}
@@ -23,7 +23,7 @@ use Rattle.triples.specs.Paths.{original, triple_of, Copied, Has}
 use Rattle.triples.specs.Tests.{Decides}
 use Rattle.triples.proofs.Triples.{triple_from, triple_to}
 use Rattle.triples.proofs.Codes.{last_code}
-use Rattle.triples.proofs.Nodes.{Binary, step_path, kept_path, kept_copied, last_made, left_has, right_has, join_path, join_binary, op_path, op_binary}
+use Rattle.triples.proofs.NodePaths.{Binary, step_path, kept_path, kept_copied, last_made, left_has, right_has, join_path, join_binary, op_path, op_binary}
 
 pub decides_yes : {P : Type 0} → P → Decides P true
 decides_yes p = record { holds = λ e. p; fails = λ e. absurd (true≢false e) }
@@ -165,18 +165,13 @@ module _ (qs ws : List ℕ) (a b : ℕ) {x y : Node} (ex : x ≡ node_at ws a) (
   tos : (x.to.0 ≡ y.to.0) ↔ (s.to ≡ t.to)
   tos = rw (triple_to qs ws a, triple_to qs ws b, ← ex, ← ey) ((λ e. e), (λ e. e))
 
-  from_differ : ¬ (x.from.0 ≡ y.from.0) → false ≡ triple? s t
+  pub from_differ : ¬ (x.from.0 ≡ y.from.0) → false ≡ triple? s t
   unfolding triple?
   from_differ n = rw (ne_eqb s.from t.from (λ e. n (froms.1 e)))
 
-  to_differ : x.from.0 ≡ y.from.0 → ¬ (x.to.0 ≡ y.to.0) → false ≡ triple? s t
+  pub to_differ : x.from.0 ≡ y.from.0 → ¬ (x.to.0 ≡ y.to.0) → false ≡ triple? s t
   unfolding triple?
   to_differ e n = rw (eq-eqb s.from t.from (froms.0 e), ne_eqb s.to t.to (λ f. n (tos.1 f)))
-
-  -- the kinds at both ends were compared, one after the other
-  pub ends_differ : {v : Bool} → (x.from.0 ≡ y.from.0) × ¬ (x.to.0 ≡ y.to.0) ⊎ ¬ (x.from.0 ≡ y.from.0) → v ≡ false → v ≡ triple? s t
-  ends_differ (inl d) f = f ∙ to_differ d.0 d.1
-  ends_differ (inr d) f = f ∙ from_differ d
 
   pub paths_decide : {r : Bool} → x.from.0 ≡ y.from.0 → x.to.0 ≡ y.to.0 → Decides (s.path ≡ t.path) r → r ≡ triple? s t
   unfolding triple?

@@ -17,7 +17,7 @@ use Rattle.theory.specs.JoinSets.{sets_of}
 use Rattle.theory.proofs.JoinSets.{sets_length}
 use Rattle.triples.specs.Paths.{original, triple_of, Has}
 use Rattle.triples.specs.Expansion.{PathWritten, Expanded, Expandable}
-use Rattle.triples.proofs.Nodes.{Binary, known, step_path, kept_path, kept_copied, left_has, right_has, join_path, op_path}
+use Rattle.triples.proofs.NodePaths.{Binary, known, step_path, kept_path, kept_copied, left_has, right_has, join_path, op_path}
 use Rattle.triples.proofs.Writing.{wrote_as, expanded_join, expanded_op, expanded_closure}
 
 pub shl_singleton : (k : ℕ) → k < 64 → (1 * 2 ^ k) % 2 ^ 64 ≡ singleton k

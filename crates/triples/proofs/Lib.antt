@@ -3,7 +3,7 @@ pub mod Words
 -- the triple of a node
 pub mod Triples
 pub mod Codes
-pub mod Nodes
+pub mod NodePaths
 -- a path written out
 pub mod Writing
 pub mod Expanding

@@ -91,40 +91,6 @@ fn copy(question: &[u8], s: usize, n: usize, codes: &mut [u8], vias: &mut [u64],
     at + n
 }
 
-// Writes the codes and the join sets of node i's path from `at` on, and gives the place after them.
-pub fn expand(
-    words: &[u64],
-    used: usize,
-    question: &[u8],
-    i: usize,
-    codes: &mut [u8],
-    vias: &mut [u64],
-    at: usize,
-) -> usize
-    requires { Expandable question.now words.now used i at codes.old vias.old }
-    ensures { Expanded (triple_of question.now words.now i).path at codes.old vias.old codes.new vias.new result }
-{
-    let n = load(words, i);
-    match symbols::decode(n.made, 0) {
-        Symbol::Step(_, _) => mark(codes, vias, at, n.made, 0),
-        Symbol::Join(_) => {
-            let mid = expand(words, used, question, n.left, codes, vias, at);
-            let end = expand(words, used, question, n.right, codes, vias, mid);
-            let k = load(words, n.left).to.0;
-            mark(codes, vias, end, n.made, 1 << k)
-        }
-        Symbol::Op(_) => {
-            let mid = expand(words, used, question, n.left, codes, vias, at);
-            let end = expand(words, used, question, n.right, codes, vias, mid);
-            mark(codes, vias, end, n.made, 0)
-        }
-        Symbol::Closure => {
-            let end = copy(question, n.left, n.right, codes, vias, at);
-            mark(codes, vias, end, n.made, 0)
-        }
-    }
-}
-
 // Whether n symbols of the question from s on equal m symbols from t on.
 fn same_codes(question: &[u8], s: usize, n: usize, t: usize, m: usize) -> bool
     requires { (s + n ≤ length question.now) × (t + m ≤ length question.now) }
@@ -133,59 +99,95 @@ fn same_codes(question: &[u8], s: usize, n: usize, t: usize, m: usize) -> bool
     question[s..s + n] == question[t..t + m]
 }
 
-// Whether nodes a and b have the same path. Paths share their operands, so that most comparisons end where two nodes
-// are one; the last symbols of the right operands come first, since a chain of joins often differs there.
-pub fn same_path(words: &[u64], used: usize, question: &[u8], a: usize, b: usize) -> bool
-    requires { Has question.now words.now used a × Has question.now words.now used b }
-    ensures { Decides ((triple_of question.now words.now a).path ≡ (triple_of question.now words.now b).path) result }
-{
-    if a == b {
-        return true;
-    }
-    let x = load(words, a);
-    let y = load(words, b);
-    if x.made != y.made {
-        return false;
-    }
-    match symbols::decode(x.made, 0) {
-        Symbol::Step(_, _) => true,
-        Symbol::Join(_) => {
-            load(words, x.right).made == load(words, y.right).made
-                && load(words, x.left).to.0 == load(words, y.left).to.0
-                && same_path(words, used, question, x.left, y.left)
-                && same_path(words, used, question, x.right, y.right)
-        }
-        Symbol::Op(_) => {
-            load(words, x.right).made == load(words, y.right).made
-                && same_path(words, used, question, x.left, y.left)
-                && same_path(words, used, question, x.right, y.right)
-        }
-        Symbol::Closure => same_codes(question, x.left, x.right, y.left, y.right),
-    }
+// A table of nodes and the question that its kept chains lie in: the first `used` nodes are in use.
+#[derive(Clone, Copy)]
+pub struct Nodes<'a> {
+    pub words: &'a [u64],
+    pub used: usize,
+    pub question: &'a [u8],
 }
 
-// Whether the triples at nodes a and b are equal.
-pub fn same(words: &[u64], used: usize, question: &[u8], a: usize, b: usize) -> bool
-    requires { Has question.now words.now used a × Has question.now words.now used b }
-    ensures { result ≡ triple? (triple_of question.now words.now a) (triple_of question.now words.now b) }
-{
-    let x = load(words, a);
-    let y = load(words, b);
-    x.from.0 == y.from.0 && x.to.0 == y.to.0 && same_path(words, used, question, a, b)
-}
+impl Nodes<'_> {
+    // Writes the codes and the join sets of node i's path from `at` on, and gives the place after them.
+    pub fn expand(self, i: usize, codes: &mut [u8], vias: &mut [u64], at: usize) -> usize
+        requires { Expandable self.question.now self.words.now self.used i at codes.old vias.old }
+        ensures { Expanded (triple_of self.entry.question.now self.entry.words.now i).path at codes.old vias.old codes.new vias.new result }
+    {
+        let n = load(self.words, i);
+        match symbols::decode(n.made, 0) {
+            Symbol::Step(_, _) => mark(codes, vias, at, n.made, 0),
+            Symbol::Join(_) => {
+                let mid = self.expand(n.left, codes, vias, at);
+                let end = self.expand(n.right, codes, vias, mid);
+                let k = load(self.words, n.left).to.0;
+                mark(codes, vias, end, n.made, 1 << k)
+            }
+            Symbol::Op(_) => {
+                let mid = self.expand(n.left, codes, vias, at);
+                let end = self.expand(n.right, codes, vias, mid);
+                mark(codes, vias, end, n.made, 0)
+            }
+            Symbol::Closure => {
+                let end = copy(self.question, n.left, n.right, codes, vias, at);
+                mark(codes, vias, end, n.made, 0)
+            }
+        }
+    }
 
-// Whether the triple of node u is among those of nodes s to u - 1. The newest come first: under a branch right a triple
-// repeats the one just added.
-fn stands(words: &[u64], question: &[u8], s: usize, u: usize) -> bool
-    requires { Has question.now words.now (u + 1) u × (s ≤ u) }
-    ensures { result ≡ some? (triple? (triple_of question.now words.now u)) (part_of question.now words.now s (u - s)) }
-{
-    for j in (s..u).rev() {
-        if same(words, u + 1, question, u, j) {
+    // Whether nodes a and b have the same path. Paths share their operands, so that most comparisons end where two nodes
+    // are one; the last symbols of the right operands come first, since a chain of joins often differs there.
+    pub fn same_path(self, a: usize, b: usize) -> bool
+        requires { Has self.question.now self.words.now self.used a × Has self.question.now self.words.now self.used b }
+        ensures { Decides ((triple_of self.entry.question.now self.entry.words.now a).path ≡ (triple_of self.entry.question.now self.entry.words.now b).path) result }
+    {
+        if a == b {
             return true;
         }
+        let x = load(self.words, a);
+        let y = load(self.words, b);
+        if x.made != y.made {
+            return false;
+        }
+        match symbols::decode(x.made, 0) {
+            Symbol::Step(_, _) => true,
+            Symbol::Join(_) => {
+                load(self.words, x.right).made == load(self.words, y.right).made
+                    && load(self.words, x.left).to == load(self.words, y.left).to
+                    && self.same_path(x.left, y.left)
+                    && self.same_path(x.right, y.right)
+            }
+            Symbol::Op(_) => {
+                load(self.words, x.right).made == load(self.words, y.right).made
+                    && self.same_path(x.left, y.left)
+                    && self.same_path(x.right, y.right)
+            }
+            Symbol::Closure => same_codes(self.question, x.left, x.right, y.left, y.right),
+        }
     }
-    false
+
+    // Whether the triples at nodes a and b are equal.
+    pub fn same(self, a: usize, b: usize) -> bool
+        requires { Has self.question.now self.words.now self.used a × Has self.question.now self.words.now self.used b }
+        ensures { result ≡ triple? (triple_of self.entry.question.now self.entry.words.now a) (triple_of self.entry.question.now self.entry.words.now b) }
+    {
+        let x = load(self.words, a);
+        let y = load(self.words, b);
+        x.from == y.from && x.to == y.to && self.same_path(a, b)
+    }
+
+    // Whether the triple of node u is among those of nodes s to u - 1. The newest come first: under a branch right a triple
+    // repeats the one just added.
+    fn stands(self, s: usize, u: usize) -> bool
+        requires { Has self.question.now self.words.now self.used u × (s ≤ u) }
+        ensures { result ≡ some? (triple? (triple_of self.entry.question.now self.entry.words.now u)) (part_of self.entry.question.now self.entry.words.now s (u - s)) }
+    {
+        for j in (s..u).rev() {
+            if self.same(u, j) {
+                return true;
+            }
+        }
+        false
+    }
 }
 
 // Puts node n at the end of the part of `count` nodes from s on, unless its triple stands there already; the new count.
@@ -195,7 +197,12 @@ pub fn add(words: &mut [u64], question: &[u8], s: usize, count: usize, n: Node) 
 {
     let u = s + count;
     store(words, u, n);
-    if stands(words, question, s, u) {
+    let nodes = Nodes {
+        words,
+        used: u + 1,
+        question,
+    };
+    if nodes.stands(s, u) {
         return count;
     }
     count + 1

@@ -6,14 +6,14 @@ use native.Mathlib.Omega.{arith}
 use Rattle.kind_graph.proofs.first_round.Goals as goal
 
 pub loop-i-init : goal.loop-i-init
-loop-i-init c = (omega arith, omega arith, round_start size_of _ _)
+loop-i-init c = round_start size_of _ _
 
 pub loop-i-preserved : goal.loop-i-preserved
 loop-i-preserved c =
     let h = c.requires.0 in
     let l = c.loop-i-test.true in
     let x = c.load-x.ensures in
-    (omega arith, omega arith, round_next h l x (size_is h l x) c.loop-i.invariant.2 c.raise.ensures)
+    (round_next h l x (size_is h l x) c.loop-i.invariant c.raise.ensures)
 
 pub returns : goal.returns
-returns c = round_end c.requires.0 c.loop-i-test.false c.loop-i.invariant.2
+returns c = round_end c.requires.0 c.loop-i-test.false c.loop-i.invariant

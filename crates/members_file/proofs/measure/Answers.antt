@@ -11,8 +11,8 @@ loop-k-init c = count_start c.requires refl refl
 pub next_member-m-requires : goal.next_member-m-requires
 next_member-m-requires c = count_asks c.requires c.loop-k.invariant c.loop-k-test.true
 
-pub overflow_add-members : goal.overflow_add-members
-overflow_add-members c = omega (arith, c.loop-k.invariant.few, c.loop-k-test.true, c.requires.small)
+pub overflow_add-count : goal.overflow_add-count
+overflow_add-count c = omega (arith, c.loop-k.invariant.few, c.loop-k-test.true, c.requires.small)
 
 pub overflow_add-bytes : goal.overflow_add-bytes
 overflow_add-bytes c =

@@ -6,8 +6,8 @@ use mathlib.Core.Path.{refl, ◌∙◌}
 use native.Mathlib.Omega.{arith}
 use Rattle.members_file.proofs.put_file.Goals as goal
 
-pub overflow_cast-members : goal.overflow_cast-members
-overflow_cast-members c = omega (arith, c.requires.few)
+pub overflow_cast-count : goal.overflow_cast-count
+overflow_cast-count c = omega (arith, c.requires.few)
 
 pub put_count-at-requires : goal.put_count-at-requires
 put_count-at-requires c = count_room c.requires

@@ -11,10 +11,10 @@ pub overflow_add-s : goal.overflow_add-s
 overflow_add-s c = omega (arith, c.requires.in_use, c.requires.in_table, c.loop-i.invariant.in_n)
 
 pub place-requires : goal.place-requires
-place-requires c = arrange_asks c.requires c.loop-i.invariant c.loop-i-test.true
+place-requires c = rw c.loop-i.invariant.same_length (arrange_asks c.requires c.loop-i.invariant c.loop-i-test.true)
 
 pub loop-i-preserved : goal.loop-i-preserved
-loop-i-preserved c = arrange_turn c.requires c.loop-i.invariant c.loop-i-test.true c.place.ensures
+loop-i-preserved c = arrange_turn c.requires c.loop-i.invariant c.loop-i-test.true (rw c.loop-i.invariant.same_length at c.place.ensures)
 
 pub returns : goal.returns
 returns c = arrange_over c.requires c.loop-i.invariant c.loop-i-test.false

@@ -17,7 +17,7 @@ loop-b-preserved c =
     let p = c.permits.ensures in (
       omega arith,
       elim c.if-permits.branch [
-        | then-permits w ↦ rw (w.v-is, w.with_bit-v.ensures) (row_yes _ l a b p c.loop-b.invariant.1 w.if-permits.true)
+        | then-permits w ↦ rw (w.v-is, w.with_bit-v.ensures, w.from.ensures) (row_yes _ l a b p c.loop-b.invariant.1 w.if-permits.true)
         | else-permits w ↦ rw w.v-is
             (row_no _ l a b p c.loop-b.invariant.1 w.if-permits.false)
       ],

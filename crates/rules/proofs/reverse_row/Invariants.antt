@@ -6,4 +6,4 @@ use Prim.Native.Nat.{◌≤◌}
 use Rattle.rules.proofs.reverse_row.Given as goal
 
 abbrev pub invariant-loop-b : goal.invariant-loop-b
-invariant-loop-b l = (l.b ≤ l.kinds) × Word (marked? l.table reverse l.link.0 l.a.0) l.b l.v
+invariant-loop-b l = (l.b ≤ l.sheet.kinds) × Word (marked? l.sheet.table reverse l.link.0 l.a.0) l.b l.v

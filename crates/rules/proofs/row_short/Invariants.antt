@@ -3,4 +3,4 @@ use Rattle.rules.proofs.Rows.{RowLeft}
 use Rattle.rules.proofs.row_short.Given as goal
 
 abbrev pub invariant-loop-j : goal.invariant-loop-j
-invariant-loop-j l = RowLeft l.question l.words l.o l.i l.fn.ys.start l.fn.ys.end l.j
+invariant-loop-j l = RowLeft l.fn.nodes.question.now l.fn.nodes.words.now l.o l.i l.fn.ys.start l.fn.ys.end l.j

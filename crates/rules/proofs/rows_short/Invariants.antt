@@ -3,4 +3,4 @@ use Rattle.rules.proofs.Rows.{RowsLeft}
 use Rattle.rules.proofs.rows_short.Given as goal
 
 abbrev pub invariant-loop-i : goal.invariant-loop-i
-invariant-loop-i l = RowsLeft l.question l.words l.o l.fn.xs.start l.fn.xs.end l.ys.start l.ys.end l.i
+invariant-loop-i l = RowsLeft l.nodes.question.now l.nodes.words.now l.o l.fn.xs.start l.fn.xs.end l.ys.start l.ys.end l.i

@@ -9,7 +9,7 @@ pub loop-a-init : goal.loop-a-init
 loop-a-init c = (omega arith, matrix_none _ _ _ _ c.requires.0)
 
 pub loop-a-preserved : goal.loop-a-preserved
-loop-a-preserved c = (omega arith, matrix_more c.loop-a.invariant.1 c.step_row.ensures c.loop-a-test.true c.requires.2)
+loop-a-preserved c = (omega arith, rw c.from.ensures (matrix_more c.loop-a.invariant.1 c.step_row.ensures c.loop-a-test.true c.requires.2))
 
 pub returns : goal.returns
-returns c = let e : c.loop-a.a ≡ c.args.kinds = omega arith in rw e at c.loop-a.invariant.1
+returns c = let e : c.loop-a.a ≡ c.args.sheet.now.kinds = omega arith in rw e at c.loop-a.invariant.1

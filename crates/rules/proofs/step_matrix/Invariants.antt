@@ -5,4 +5,4 @@ use Prim.Native.Nat.{◌≤◌}
 use Rattle.rules.proofs.step_matrix.Given as goal
 
 abbrev pub invariant-loop-a : goal.invariant-loop-a
-invariant-loop-a l = (l.a ≤ l.kinds) × StepMatrix l.table (direction_said l.direction) l.link.0 l.kinds l.a l.matrix
+invariant-loop-a l = (l.a ≤ l.sheet.kinds) × StepMatrix l.sheet.table (direction_said l.direction) l.link.0 l.sheet.kinds l.a l.matrix

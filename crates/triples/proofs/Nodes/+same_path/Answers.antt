@@ -1,4 +1,4 @@
--- `triples::same_path` meets its contract: paths are equal where their last symbols, join sets and operands are, and operands stand below their node, so that it ends.
+-- `triples::Nodes::same_path` meets its contract: paths are equal where their last symbols, join sets and operands are, and operands stand below their node, so that it ends.
 -- Assumes nothing.
 use Rattle.symbols.proofs.Numbers.{decoded}
 use Rattle.triples.specs.declared.Node.{Node}
@@ -8,8 +8,8 @@ use mathlib.Core.Path.{sym, ap, ◌∙◌}
 use borrow.Author.Tests.{eqb-true, eqb-false}
 use native.Mathlib.Omega.{arith}
 use Prim.Native.Nat.{ℕ}
-use Rattle.triples.proofs.+same_path.Goals.{then-load, else-load, then-load-2, else-load-2, then-load-3, else-load-3}
-use Rattle.triples.proofs.+same_path.Goals as goal
+use Rattle.triples.proofs.Nodes.+same_path.Goals.{then-load, else-load, then-eq, else-eq, then-load-2, else-load-2}
+use Rattle.triples.proofs.Nodes.+same_path.Goals as goal
 
 -- Tie as tie
 
@@ -43,25 +43,25 @@ returns-in-Closure t c =
 -- a join: the tests in a row have said yes, or one of them has said no
 pub returns-then-same_path : goal.returns-then-same_path
 returns-then-same_path t c =
-    elim c.if-load-2.branch [
-      | then-load-2 w ↦ elim c.if-load.branch [
+    elim c.if-eq.branch [
+      | then-eq w ↦ elim c.if-load.branch [
         | then-load v ↦
             same_joins c.requires.0 c.requires.1 c.load-x.ensures.is c.load-y.ensures.is c.if-x-y.false _ (decoded c.decode.ensures c.in-Join.is)
-            (sym (ap to_kind v.load-then-load.ensures.is) ∙ eqb-true _ _ (sym v.value-is ∙ w.if-load-2.true) ∙ ap to_kind v.load-then-load-2.ensures.is)
+            (sym (ap to_kind v.load-then-load.ensures.is) ∙ eqb-true _ _ (sym v.eq.ensures ∙ sym v.value-is ∙ w.if-eq.true) ∙ ap to_kind v.load-then-load-2.ensures.is)
             (w.same_path.ensures.holds (sym w.value-is ∙ c.if-same_path.true)) c.same_path-then-same_path.ensures
-        | else-load v ↦ absurd (v.if-load.false (eqb-true _ _ (sym v.value-is ∙ w.if-load-2.true)))
+        | else-load v ↦ absurd (v.if-load.false (eqb-true _ _ (sym v.value-is ∙ w.if-eq.true)))
       ]
-      | else-load-2 w ↦ unlike (w.value-is ∙ w.if-load-2.false) c.if-same_path.true
+      | else-eq w ↦ unlike (w.value-is ∙ w.if-eq.false) c.if-same_path.true
     ]
 
 pub returns-else-same_path : goal.returns-else-same_path
 returns-else-same_path t c =
-    rw c.if-same_path.false (elim c.if-load-2.branch [
-      | then-load-2 w ↦ join_lefts_differ c.requires.0 c.requires.1 c.load-x.ensures.is c.load-y.ensures.is c.if-x-y.false _ (decoded c.decode.ensures c.in-Join.is) (w.same_path.ensures.fails (sym w.value-is ∙ c.if-same_path.false))
-      | else-load-2 w ↦ elim c.if-load.branch [
+    rw c.if-same_path.false (elim c.if-eq.branch [
+      | then-eq w ↦ join_lefts_differ c.requires.0 c.requires.1 c.load-x.ensures.is c.load-y.ensures.is c.if-x-y.false _ (decoded c.decode.ensures c.in-Join.is) (w.same_path.ensures.fails (sym w.value-is ∙ c.if-same_path.false))
+      | else-eq w ↦ elim c.if-load.branch [
         | then-load v ↦
             kinds_differ c.requires.0 c.requires.1 c.load-x.ensures.is c.load-y.ensures.is c.if-x-y.false _ (decoded c.decode.ensures c.in-Join.is)
-            (λ e. eqb-false _ _ (sym v.value-is ∙ w.if-load-2.false) (ap to_kind v.load-then-load.ensures.is ∙ e ∙ sym (ap to_kind v.load-then-load-2.ensures.is)))
+            (λ e. eqb-false _ _ (sym v.eq.ensures ∙ sym v.value-is ∙ w.if-eq.false) (ap to_kind v.load-then-load.ensures.is ∙ e ∙ sym (ap to_kind v.load-then-load-2.ensures.is)))
         | else-load v ↦
             join_rights_differ c.requires.0 c.requires.1 c.load-x.ensures.is c.load-y.ensures.is c.if-x-y.false _ (decoded c.decode.ensures c.in-Join.is) (λ e. v.if-load.false (ap made_of c.load.ensures.is ∙ e ∙ sym (ap made_of c.load-in-Join.ensures.is)))
       ]
@@ -70,16 +70,16 @@ returns-else-same_path t c =
 -- another operator: the same without kinds
 pub returns-then-same_path-2 : goal.returns-then-same_path-2
 returns-then-same_path-2 t c =
-    elim c.if-load-3.branch [
-      | then-load-3 w ↦
+    elim c.if-load-2.branch [
+      | then-load-2 w ↦
           same_ops c.requires.0 c.requires.1 c.load-x.ensures.is c.load-y.ensures.is c.if-x-y.false _ (decoded c.decode.ensures c.in-Op.is)
-          (w.same_path-then-load-3.ensures.holds (sym w.value-is ∙ c.if-same_path-2.true)) c.same_path-then-same_path-2.ensures
-      | else-load-3 w ↦ absurd (w.if-load-3.false (eqb-true _ _ (sym w.value-is ∙ c.if-same_path-2.true)))
+          (w.same_path-then-load-2.ensures.holds (sym w.value-is ∙ c.if-same_path-2.true)) c.same_path-then-same_path-2.ensures
+      | else-load-2 w ↦ absurd (w.if-load-2.false (eqb-true _ _ (sym w.value-is ∙ c.if-same_path-2.true)))
     ]
 
 pub returns-else-same_path-2 : goal.returns-else-same_path-2
 returns-else-same_path-2 t c =
-    rw c.if-same_path-2.false (elim c.if-load-3.branch [
-      | then-load-3 w ↦ op_lefts_differ c.requires.0 c.requires.1 c.load-x.ensures.is c.load-y.ensures.is c.if-x-y.false _ (decoded c.decode.ensures c.in-Op.is) (w.same_path-then-load-3.ensures.fails (sym w.value-is ∙ c.if-same_path-2.false))
-      | else-load-3 w ↦ op_rights_differ c.requires.0 c.requires.1 c.load-x.ensures.is c.load-y.ensures.is c.if-x-y.false _ (decoded c.decode.ensures c.in-Op.is) (λ e. w.if-load-3.false (ap made_of c.load-in-Op.ensures.is ∙ e ∙ sym (ap made_of c.load-in-Op-2.ensures.is)))
+    rw c.if-same_path-2.false (elim c.if-load-2.branch [
+      | then-load-2 w ↦ op_lefts_differ c.requires.0 c.requires.1 c.load-x.ensures.is c.load-y.ensures.is c.if-x-y.false _ (decoded c.decode.ensures c.in-Op.is) (w.same_path-then-load-2.ensures.fails (sym w.value-is ∙ c.if-same_path-2.false))
+      | else-load-2 w ↦ op_rights_differ c.requires.0 c.requires.1 c.load-x.ensures.is c.load-y.ensures.is c.if-x-y.false _ (decoded c.decode.ensures c.in-Op.is) (λ e. w.if-load-2.false (ap made_of c.load-in-Op.ensures.is ∙ e ∙ sym (ap made_of c.load-in-Op-2.ensures.is)))
     ])

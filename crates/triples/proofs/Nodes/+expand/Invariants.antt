@@ -1,4 +1,4 @@
-use Rattle.triples.proofs.+expand.Given as goal
+use Rattle.triples.proofs.Nodes.+expand.Given as goal
 
 abbrev pub decreases-expand : goal.decreases-expand
 decreases-expand l = l.i

@@ -1,14 +1,14 @@
--- `triples::expand` meets its contract: a path's symbols are those of its left operand, of its right one and its own, and operands stand below their node, so that it ends.
+-- `triples::Nodes::expand` meets its contract: a path's symbols are those of its left operand, of its right one and its own, and operands stand below their node, so that it ends.
 -- Assumes nothing.
 use Rattle.theory.specs.KindSet.{singleton}
 use Rattle.symbols.proofs.Numbers.{decoded}
 use Rattle.triples.specs.declared.Node.{Node}
-use Rattle.triples.proofs.Nodes.{join_binary, op_binary}
+use Rattle.triples.proofs.NodePaths.{join_binary, op_binary}
 use Rattle.triples.proofs.Expanding.{shl_singleton, step_room, step_done, kept_room, kept_last, kept_done, left_ready, right_ready, last_room, join_done, op_done}
 use mathlib.Core.Path.{ap, ◌∙◌, subst}
 use native.Mathlib.Omega.{arith}
 use Prim.Native.Nat.{ℕ, ◌<◌}
-use Rattle.triples.proofs.+expand.Goals as goal
+use Rattle.triples.proofs.Nodes.+expand.Goals as goal
 
 -- Tie as tie
 

@@ -1,12 +1,12 @@
 -- All members: what holds at the loop's head, and how it goes on.
 -- Assumes nothing.
 use mathlib.Core.Path.{◌≡◌, refl, sym, ap, subst, ◌∙◌}
-use mathlib.Core.Bool.{Bool, ◌||◌, or-false, or_assoc}
+use mathlib.Core.Bool.{Bool, true, ◌||◌, or-false, or_assoc}
 use mathlib.Core.List.{List, [], ◌∷◌}
 use mathlib.Core.Option.{Option, some}
 use Prim.Native.Nat.{ℕ, zero, suc, ◌+◌, ◌-◌, ◌*◌, ◌/◌, ◌<◌, ◌≤◌}
 use native.Mathlib.Omega.{arith}
-use lib.ListN.{length, get_or}
+use lib.ListN.{length, get_or, take, drop}
 use Rattle.theory.specs.Lists.{some?}
 use Rattle.theory.specs.PathExpr.{PathExpr}
 use Rattle.theory.specs.Postfix.{path_of}
@@ -24,7 +24,9 @@ use Rattle.narrowed_question.proofs.Paths.{flat_member}
 use Rattle.rows.specs.Kept.{Kept}
 use Rattle.rows.proofs.Words.{kept_refl, kept_trans, kept_in}
 use Rattle.relation.specs.Pairs.{pair_at}
-use Rattle.evaluation.specs.Ground.{symbols_in, MakePath}
+use Rattle.evaluation.specs.Grounded.{symbols_in, symbols_of, path?}
+use Rattle.evaluation.proofs.Grounds.{is_path}
+use Rattle.evaluation.proofs.Slices.{symbols_part}
 use Rattle.answer.specs.Calls.{with_path, members_of}
 use Rattle.answer.specs.Contract.{Readable}
 use Rattle.answer.specs.Internal.{Adds}
@@ -89,16 +91,20 @@ module _
   few_symbols : get_or q.sizes i 0 ≤ 48
   few_symbols = omega (arith, in_order.0.few, length_given q.numbers q.sets (get_or q.sizes i 0) k)
 
-  -- what its turn asks, and how far it reads
+  -- what its turn asks, and how far it reads: its symbols are a part of the arrays
   module _ (size : ℕ) (e : size ≡ get_or q.sizes i 0) where
-    pub makes_path : MakePath q.numbers q.sets size k
-    makes_path = subst (λ (z : ℕ). MakePath q.numbers q.sets z k) (sym e) path
-
     pub size_few : size ≤ 48
     size_few = omega (arith, e, few_symbols)
 
     pub symbols_end : k + size ≤ 6144
     symbols_end = omega (arith, e, few_symbols, a.used, a.few)
+
+    module _ (room : 6144 ≤ length q.numbers) where
+      part : symbols_of (take size (drop k q.numbers)) (take size (drop k q.sets)) ≡ symbols_in q.numbers q.sets (get_or q.sizes i 0) k
+      part = symbols_part q.numbers q.sets size k (omega (arith, symbols_end, room)) ∙ ap (λ (z : ℕ). symbols_in q.numbers q.sets z k) e
+
+      pub makes_path : path? (path_of (symbols_of (take size (drop k q.numbers)) (take size (drop k q.sets)))) ≡ true
+      makes_path = is_path (ap path_of part ∙ path.1)
 
   module _ {work'' answer'' : List ℕ}
       (m : (p : PathExpr) → path_of (symbols_in q.numbers q.sets (get_or q.sizes i 0) k) ≡ some p
@@ -130,13 +136,13 @@ module _
           ∙ a.pair s t hs ht;
     }
 
-  pub adding_more : {work'' answer'' : List ℕ} (size : ℕ) → size ≡ get_or q.sizes i 0
-      → ((p : PathExpr) → path_of (symbols_in q.numbers q.sets size k) ≡ some p
+  pub adding_more : {work'' answer'' : List ℕ} (size next : ℕ) (e : size ≡ get_or q.sizes i 0) (room : 6144 ≤ length q.numbers) → next ≡ k + get_or q.sizes i 0
+      → ((p : PathExpr) → path_of (symbols_of (take size (drop k q.numbers)) (take size (drop k q.sets))) ≡ some p
       → Adds r n w (λ s t. member_answer r s t (member (get_or q.from i 0) p (get_or q.to i 0))) work' work'' answer' answer'')
-      → Adding q r n w work work'' answer answer'' (i + 1) (k + size)
-  adding_more {work''} {answer''} size e m =
-      subst (λ (z : ℕ). Adding q r n w work work'' answer answer'' (i + 1) (k + z)) (sym e)
-      (on (λ p h. m p (subst (λ (z : ℕ). path_of (symbols_in q.numbers q.sets z k) ≡ some p) (sym e) h)))
+      → Adding q r n w work work'' answer answer'' (i + 1) next
+  adding_more {work''} {answer''} size next e room o m =
+      subst (λ (z : ℕ). Adding q r n w work work'' answer answer'' (i + 1) z) (sym o)
+      (on (λ p h. m p (ap path_of (part size e room) ∙ h)))
 
 pub adding_end : {q : Members} {r : Register} {n w : ℕ} {work work' answer answer' : List ℕ} {i k : ℕ} → Adding q r n w work work' answer answer' i k → q.count ≤ i
     → Adds r n w (narrowed_answer r (members_of (given q))) work work' answer answer'

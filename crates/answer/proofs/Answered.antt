@@ -17,18 +17,19 @@ use Rattle.theory.specs.Merging.{Member}
 use Rattle.theory.specs.Register.{Register, records}
 use Rattle.theory.specs.Evaluation.{evaluate, plain_answer, narrowed_answer, member_answer}
 use Rattle.theory.specs.Words.{row_words, answer_words}
-use Rattle.fields.specs.declared.Outcome as declared·Outcome
-use Rattle.fields.specs.declared.Outcome.TheVariants as outcome
+use Rattle.std.specs.Prelude as std
+use Rattle.std.specs.Prelude.{Ok, Err}
+use Rattle.fields.specs.declared.Failure.{Failure}
 use Rattle.fields.specs.declared.Refusal.TheVariants.{AreaShort}
 use Rattle.fields.specs.declared.Source.TheVariants as source
 use Rattle.fields.specs.Call.{accepts, refuses, output, Gives, Returns, performed}
 use Rattle.fields.proofs.Calls.{performed_15, performed_done}
-use Rattle.fields.specs.Contract.{outcome_said}
+use Rattle.fields.specs.Contract.{failure, outcome_said}
 use Rattle.register.specs.Form.{register_in}
 use Rattle.rows.specs.Kept.{Kept, Wrote}
 use Rattle.rows.specs.Row.{row_bit, Row}
 use Rattle.rows.proofs.Words.{kept_refl, kept_trans, kept_in}
-use Rattle.evaluation.specs.Ground.{Ground}
+use Rattle.evaluation.specs.Grounded.{Grounded}
 use Rattle.evaluation.specs.Stack.{Stored, Evaluated}
 use Rattle.evaluation.proofs.Grounds.{limits}
 use Rattle.evaluation.proofs.Tables.{evaluate_past}
@@ -39,11 +40,11 @@ use Rattle.rows.proofs.Areas.{zero_words}
 use Rattle.answer.proofs.Areas.{stored_words, stored_copied, stored_added}
 
 -- ---- with work words enough
-pub fills_short : {n w : ℕ} {answer : List ℕ} (f : ℕ → ℕ → Bool) (work : List ℕ) → length answer < n * w → Fills n w f (outcome.Refused source.Work (AreaShort (n * w))) work work answer answer
+pub fills_short : {n w : ℕ} {answer : List ℕ} (f : ℕ → ℕ → Bool) (work : List ℕ) → length answer < n * w → Fills n w f (Err (failure source.Work (AreaShort (n * w)))) work work answer answer
 fills_short {n} {w} {answer} f work h = record { outcome = rw (lt-ltb (length answer) (n * w) h); area = rw (lt-ltb (length answer) (n * w) h); kept = kept_refl 0 (28 * (n * w)) work }
 
 fills_full : {n w : ℕ} {work work' answer answer' : List ℕ} (f : ℕ → ℕ → Bool) → row_words n ≡ w → n * w ≤ length answer → Kept 0 (28 * (n * w)) work work' → Kept 0 (n * w) answer answer'
-    → Stored answer' 0 n w f → ((s t : ℕ) → n ≤ t → f s t ≡ false) → ((i : ℕ) → get_or answer' i 0 < 2 ^ 64) → Fills n w f outcome.Accepted work work' answer answer'
+    → Stored answer' 0 n w f → ((s t : ℕ) → n ≤ t → f s t ≡ false) → ((i : ℕ) → get_or answer' i 0 < 2 ^ 64) → Fills n w f (Ok tt) work work' answer answer'
 fills_full {n} {w} {work} {work'} {answer} {answer'} f e h k a st past fits = record {
   outcome = rw (le-ltb (length answer) (n * w) h);
   area =
@@ -53,7 +54,7 @@ fills_full {n} {w} {work} {work'} {answer} {answer'} f e h k a st past fits = re
   kept = kept_in k (omega arith) (omega arith);
 }
 
-module _ {s : List ℕ} {n w : ℕ} (ground : Ground s n w) where
+module _ {s : List ℕ} {n w : ℕ} (ground : Grounded s n w) where
   past : (p : PathExpr) (i t : ℕ) → n ≤ t → look (evaluate (register_in s) p) i t ≡ false
   past p i t h = evaluate_past (register_in s) (limits ground).formed p i t (omega (arith, ground.count))
 
@@ -66,17 +67,19 @@ module _ {s : List ℕ} {n w : ℕ} (ground : Ground s n w) where
       go (m ∷ ms) = rw (past m.path i t h, go ms)
 
   module _ {work work' answer answer' : List ℕ} (room : n * w ≤ length answer) (fits : (i : ℕ) → get_or answer' i 0 < 2 ^ 64) where
-    pub fills_plain : (p : PathExpr) (o : Option PathExpr) → o ≡ some p → Evaluated (register_in s) n w work work' p → Row 0 (n * w) (row_bit work' 0) answer answer'
-        → Fills n w (asked (register_in s) o) outcome.Accepted work work' answer answer'
+    pub fills_plain : (p : PathExpr) (o : Option PathExpr) (need : ℕ) → need ≡ n * w → o ≡ some p → Evaluated (register_in s) n w work work' p → Row 0 need (row_bit work' 0) answer answer'
+        → Fills n w (asked (register_in s) o) (Ok tt) work work' answer answer'
     unfolding plain_answer
-    fills_plain p o e ev c =
-        subst (λ (x : Option PathExpr). Fills n w (asked (register_in s) x) outcome.Accepted work work' answer answer') (sym e)
+    fills_plain p o need q e ev copied =
+        let c = subst (λ (k : ℕ). Row 0 k (row_bit work' 0) answer answer') q copied in
+        subst (λ (x : Option PathExpr). Fills n w (asked (register_in s) x) (Ok tt) work work' answer answer') (sym e)
         (fills_full (asked (register_in s) (some p)) ground.wide room (kept_in ev.kept (omega arith) (omega arith))
         (kept_in c.kept (omega arith) (omega arith)) (stored_copied c ev.pairs) (past p) fits)
 
-    pub fills_narrowed : {answer₁ : List ℕ} (ms : List Member) → Wrote 0 (n * w) (λ j. 0) answer answer₁ → Adds (register_in s) n w (narrowed_answer (register_in s) ms) work work' answer₁ answer'
-        → Fills n w (narrowed_answer (register_in s) ms) outcome.Accepted work work' answer answer'
-    fills_narrowed ms c a =
+    pub fills_narrowed : {answer₁ : List ℕ} (ms : List Member) (need : ℕ) → need ≡ n * w → Wrote 0 need (λ j. 0) answer answer₁ → Adds (register_in s) n w (narrowed_answer (register_in s) ms) work work' answer₁ answer'
+        → Fills n w (narrowed_answer (register_in s) ms) (Ok tt) work work' answer answer'
+    fills_narrowed {answer₁} ms need q cleared a =
+        let c = subst (λ (k : ℕ). Wrote 0 k (λ j. 0) answer answer₁) q cleared in
         fills_full (narrowed_answer (register_in s) ms) ground.wide room a.kept
         (kept_trans c.kept a.pairs.kept (omega arith) (omega arith) (omega arith) (omega arith)) (stored_added (narrowed_answer (register_in s) ms) c a.pairs) (no_member ms) fits
 
@@ -91,10 +94,10 @@ module _ (r : Register) (f : ℕ → ℕ → Bool) (work answer : List ℕ) wher
   short h = performed_15 (answer_task r f) work answer refl h
 
   abbrev Rest : ℕ → ℕ → Type 0
-  Rest n w = (o : declared·Outcome.Outcome) (work₁ work₂ answer₁ : List ℕ) → 28 * (n * w) ≤ length work → Fills n w f o work work₁ answer answer₁
-      → Wrote 0 (28 * (n * w)) (λ j. 0) work₁ work₂ → Returns (performed (answer_task r f) work answer) (outcome_said o) work₂ answer₁
+  Rest n w = (o : std.Result (Unit {0}) Failure) (work₁ work₂ answer₁ : List ℕ) (need : ℕ) → need ≡ 28 * (n * w) → need ≤ length work → Fills n w f o work work₁ answer answer₁
+      → Wrote 0 need (λ j. 0) work₁ work₂ → Returns (performed (answer_task r f) work answer) (outcome_said o) work₂ answer₁
 
-  filled : (o : declared·Outcome.Outcome) {work₁ answer₁ : List ℕ} → Fills (records r) (row_words (records r)) f o work work₁ answer answer₁ → Gives (answered r f answer) (outcome_said o) answer₁
+  filled : (o : std.Result (Unit {0}) Failure) {work₁ answer₁ : List ℕ} → Fills (records r) (row_words (records r)) f o work work₁ answer answer₁ → Gives (answered r f answer) (outcome_said o) answer₁
   unfolding answered
   filled o {answer₁ = answer₁} g = record { is = by_room (ltb (length answer) (answer_need r)) g.outcome g.area }
     where
@@ -105,7 +108,9 @@ module _ (r : Register) (f : ℕ → ℕ → Bool) (work answer : List ℕ) wher
 
   rest : Rest (records r) (row_words (records r))
   unfolding answer_task
-  rest o work₁ work₂ answer₁ h g c = performed_done (answer_task r f) work answer h (filled o g) (zero_words (work_need r) g.kept c h)
+  rest o work₁ work₂ answer₁ need e h g c =
+      let l = rw e at h in
+      performed_done (answer_task r f) work answer l (filled o g) (zero_words (work_need r) g.kept (subst (λ (k : ℕ). Wrote 0 k (λ j. 0) work₁ work₂) e c) l)
 
   module _ {n w : ℕ} (count : records r ≡ n) (wide : w ≡ row_words n) where
     pub answers_15 : Short n w

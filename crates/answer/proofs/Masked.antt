@@ -16,14 +16,14 @@ use Rattle.rows.proofs.Words.{le_or_lt}
 use Rattle.rows.proofs.Masks.{mask_at}
 use Rattle.relation.specs.Pairs.{pair_at, Made}
 use Rattle.relation.proofs.Making.{made_is}
-use Rattle.evaluation.specs.Ground.{Ground}
+use Rattle.evaluation.specs.Grounded.{Grounded}
 use Rattle.evaluation.proofs.Grounds.{limits, rows_hold}
 use Rattle.evaluation.proofs.Tables.{evaluate_past}
 use Rattle.kind_rows.specs.Kinds.{KindRows, in_set}
 use Rattle.kind_rows.proofs.Tables.{set_has}
-use Rattle.chains.specs.Route.{routed, Leads}
+use Rattle.chains.specs.Routed.{routed, Leads}
 
-pub added : {s : List ℕ} {n w : ℕ} {kinds answer answer' : List ℕ} (ground : Ground s n w) (xs bases masks : List ℕ) (m from to : ℕ) (p : PathExpr) → KindRows (register_in s) n w kinds
+pub added : {s : List ℕ} {n w : ℕ} {kinds answer answer' : List ℕ} (ground : Grounded s n w) (xs bases masks : List ℕ) (m from to : ℕ) (p : PathExpr) → KindRows (register_in s) n w kinds
     → Leads (register_in s) xs bases masks n w m p
     → Made 0 n w (λ i t. pair_at answer 0 w i t || (routed xs bases masks n w m i t && (in_set kinds w from i && in_set kinds w to t))) answer answer'
     → Made 0 n w (λ i t. pair_at answer 0 w i t || member_answer (register_in s) i t (member from p to)) answer answer'

@@ -1,18 +1,16 @@
 -- A question whose file is accepted may be inferred.
 -- Assumes nothing.
-use mathlib.Core.Path.{◌≡◌, refl, ap, ◌∙◌}
+use mathlib.Core.Path.{◌≡◌, refl}
 use mathlib.Core.List.{List}
-use Prim.Native.Nat.{ℕ, ◌-◌, ◌<◌, ◌≤◌}
+use Prim.Native.Nat.{ℕ, ◌-◌, ◌≤◌}
 use native.Mathlib.Omega.{arith}
-use lib.ListN.{length, get_or, take, replicate, get_or-append}
+use lib.ListN.{length, get_or, take, replicate}
 use lib.Seq.{take_at}
-use Rattle.theory.specs.Postfix.{path_of}
 use Rattle.theory.specs.Result.{got}
 use Rattle.fields.specs.Padded.{padded}
 use Rattle.fields.specs.Reading.{read}
-use Rattle.fields.proofs.Padded.{pad_length}
 use Rattle.symbols.proofs.Numbers.{code_number}
-use Rattle.question.specs.Form.{question_form, question_symbols}
+use Rattle.question.specs.Form.{question_form}
 use Rattle.question.proofs.Paths.{accepted_question}
 use Rattle.inference.specs.Questions.{Asking}
 

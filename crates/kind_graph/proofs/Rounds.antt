@@ -4,15 +4,12 @@ use mathlib.Core.Path.{◌≡◌, refl, sym, ap, ap₂, ◌∙◌}
 use mathlib.Core.Bool.{Bool, true, false, cond, true≢false}
 use mathlib.Core.Logic.{⊎_elim}
 use mathlib.Core.List.{List, [], ◌∷◌}
-use Prim.Native.Nat.{ℕ, zero, suc, ◌+◌, ◌-◌, ◌<◌, ◌≤◌, max}
-use native.Mathlib.Decide.{ℕ_discrete}
+use Prim.Native.Nat.{ℕ, ◌+◌, ◌-◌, ◌<◌, ◌≤◌, max}
 use native.Mathlib.Nat.{eq-or-lt_of_le}
 use native.Mathlib.Numerals.{add-one}
 use native.Mathlib.Omega.{arith}
 use lib.Dec.{eqb}
-use lib.ListN.{length, get_or, set, length-set, replicate, get_or-eq_default}
-use lib.Seq.{get_or-set_same, get_or-set_other}
-use borrow.Author.Tests.{eq-eqb, ne_eqb}
+use lib.ListN.{length, get_or, replicate, get_or-eq_default}
 use Rattle.theory.specs.PathExpr.{size}
 use Rattle.theory.specs.Inference.{Triple, walks}
 use Rattle.theory.specs.Narrowing.{short?}
@@ -30,25 +27,6 @@ use Rattle.triples.proofs.Growing.{part_next, part_over}
 use Rattle.fields.proofs.Padded.{zero_at}
 use Rattle.kind_graph.specs.Sizes.{Part, largest, to_kind, extended, size_of, weight, Raised, Raising, AtMost, Small}
 use Rattle.kind_graph.proofs.LongestWalks.{best, best_none, rounds_short, round_long}
-
--- ---- one number
-pub raised_not : {xs : List ℕ} {k v : ℕ} → v ≤ get_or xs k 0 → Raised k v xs xs
-raised_not {xs} {k} {v} h = record { same_length = refl; at = λ j. go j (ℕ_discrete k j) }
-  where
-    go : (j : ℕ) → Dec (k ≡ j) → get_or xs j 0 ≡ max (get_or xs j 0) (cond (eqb k j) v 0)
-    go j (yes e) = rw (eq-eqb k j e) (let f = ap (λ (i : ℕ). get_or xs i 0) e in omega arith)
-    go j (no n) = rw (ne_eqb k j n) (omega arith)
-
-pub raised_set : {xs : List ℕ} {k v : ℕ} → k < length xs → get_or xs k 0 < v → Raised k v xs (set xs k v)
-raised_set {xs} {k} {v} l h = record { same_length = length-set xs k v; at = λ j. go j (ℕ_discrete k j) }
-  where
-    go : (j : ℕ) → Dec (k ≡ j) → get_or (set xs k v) j 0 ≡ max (get_or xs j 0) (cond (eqb k j) v 0)
-    go j (yes e) = rw (eq-eqb k j e, ← e, get_or-set_same xs k v 0 l) (omega arith)
-    go j (no n) = rw (ne_eqb k j n, get_or-set_other xs k j v 0 (λ e. n (sym e))) (omega arith)
-
-pub extended_more : (m s : ℕ) → ¬ (m ≡ 0) → m + s + 1 ≡ extended m s
-extended_more zero s n = absurd (n refl)
-extended_more (suc m) s n = omega arith
 
 -- ---- a round: what stands, raised by the rest of the part, is the start raised by all of it
 pub record Going (w : Triple → ℕ) (all rest : List Triple) (xs ys : List ℕ) : Type 0 where

@@ -100,7 +100,7 @@ module _ {qs ws xs : List ℕ} {used n : ℕ} (h : Measuring qs ws xs used n) wh
           sets_room = e.sets_room;
         }
 
-    pub count_over : n ≤ k → Measured qs ws xs n (record { members = members; bytes = bytes })
+    pub count_over : n ≤ k → Measured qs ws xs n (record { count = members; bytes = bytes })
     count_over l =
         let a : length (grouped (nodes_at qs ws xs k n)) ≡ 0 = rw (segment_end xs k n l) in
         let b : length (bytes_left qs ws xs k n) ≡ 0 = rw (segment_end xs k n l) in

@@ -42,13 +42,7 @@ fn number_symbols(codes: &mut [u8], sets: &[u64], n: usize) -> usize
 }
 
 // The member whose run starts at k; its symbols in the two arrays.
-fn next_member(
-    nodes: Nodes,
-    order: &[usize],
-    k: usize,
-    codes: &mut [u8],
-    sets: &mut [u64],
-) -> Entry
+fn next_member(nodes: Nodes, order: &[usize], k: usize, codes: &mut [u8], sets: &mut [u64]) -> Entry
     requires { Running nodes.question.now nodes.words.now order.now nodes.used (length order.now) k codes.old sets.old }
     ensures { Next nodes.entry.question.now nodes.entry.words.now order.now (length order.now) k codes.new sets.new result }
 {

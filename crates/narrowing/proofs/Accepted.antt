@@ -9,7 +9,8 @@ use Rattle.theory.specs.Merging.{Member}
 use Rattle.theory.specs.Narrowing.{Narrowing, narrow_symbols}
 use Rattle.fields.specs.declared.Source.TheVariants as source
 use Rattle.theory.specs.Result.{got}
-use Rattle.fields.specs.Call.{Outcome, accepts, refuses, performed, Size}
+use Rattle.fields.specs.declared.Size.{Size}
+use Rattle.fields.specs.Call.{Outcome, accepts, refuses, performed}
 use Rattle.fields.proofs.Calls.{not_accepted, about_accepted, performed_rest, performed_accepted, two_read}
 use Rattle.fields.specs.Reading.{read}
 use Rattle.fields.proofs.Filing as fields·Filing

@@ -17,7 +17,8 @@ use Rattle.theory.proofs.Demand3.{narrow_path}
 use Rattle.fields.specs.declared.Source.{Source}
 use Rattle.fields.specs.declared.Source.TheVariants as source
 use Rattle.theory.specs.Result.{Result, got, refused}
-use Rattle.fields.specs.Call.{Outcome, accepts, refuses, performed, Size, file_in}
+use Rattle.fields.specs.declared.Size.{Size}
+use Rattle.fields.specs.Call.{Outcome, accepts, refuses, performed, file_in}
 use Rattle.fields.proofs.Calls.{not_accepted}
 use Rattle.fields.specs.Reading.{read}
 use Rattle.fields.specs.Contract.{source_number}

@@ -1,134 +1,105 @@
 -- From the nodes of a question's triples to the size of its members' file, and to the file.
 -- Assumes nothing.
-use mathlib.Core.Path.{◌≡◌, refl, sym, ap, subst, ◌∙◌}
-use mathlib.Core.List.{List}
+use mathlib.Core.Path.{◌≡◌, sym, ap, ◌∙◌}
+use mathlib.Core.List.{List, ◌++◌}
 use Prim.Native.Nat.{ℕ, ◌-◌, ◌<◌, ◌≤◌}
 use native.Mathlib.Omega.{arith}
-use lib.ListN.{length}
-use lib.Seq.{sets}
+use lib.ListN.{length, take, length-append}
+use lib.Seq.{sets, take_at, length-take-le}
+use Rattle.std.specs.Prelude.{Ok, Err}
 use Rattle.theory.specs.Merging.{Member, members}
 use Rattle.algorithms.specs.Sorting.{grouped}
-use Rattle.fields.specs.declared.Refusal.{Refusal}
 use Rattle.fields.specs.declared.Refusal.TheVariants.{AreaShort}
-use Rattle.fields.specs.declared.Source.{Source}
-use Rattle.fields.specs.declared.Source.TheVariants as source
-use Rattle.fields.specs.declared.Written.TheVariants as written
-use Rattle.fields.specs.Call.{Outcome, accepts, refuses, output, Gives, Size, size}
-use Rattle.fields.specs.Contract.{number_of, place_of, written_said}
+use Rattle.fields.specs.declared.Size.{Size}
 use Rattle.fields.proofs.Filing as fields·Filing
-use Rattle.fields.proofs.Calls.{not_accepted}
 use Rattle.narrowed_question.specs.Members.{narrowed_file}
 use Rattle.rules.specs.Requirements.{part}
+use Rattle.triples.specs.declared.Span.{Span}
 use Rattle.merge.specs.Arranging.{Arranging, Arranged}
 use Rattle.merge.specs.Runs.{nodes_at}
+use Rattle.triples.specs.Parts.{part_of}
 use Rattle.merge.proofs.Sorting.{members_arranged}
-use Rattle.members_file.specs.declared.Extent.{Extent}
 use Rattle.members_file.specs.Files.{Measuring, Measured, Filing, Filed}
 use Rattle.members_file.proofs.Counting.{arranged_nodes}
 use Rattle.narrowing.specs.declared.Counted.{Counted}
-use Rattle.narrowing.specs.Call.{sized, file_size, file_of, in_area}
-use Rattle.narrowing.specs.Internal.{Listed, Sorted, Counts, Known, Puts}
+use Rattle.narrowing.specs.Call.{file_of}
+use Rattle.narrowing.specs.Internal.{Listed, Counts, Known, Puts}
 
 -- ---- the members of a part
-module _ {qs ws : List ℕ} {s e : ℕ} (h : Listed qs ws s e) where
-  pub arranging : (xs : List ℕ) → length xs ≡ 128 → Arranging qs ws xs e s (e - s)
+module _ {qs ws : List ℕ} {x : Span} (h : Listed qs ws x) where
+  pub arranging : (xs : List ℕ) → length xs ≡ x.end - x.start → Arranging qs ws xs x.end x.start (length xs)
   arranging xs l =
       record {
-        fits = omega (arith, h.few);
-        small = omega (arith, h.few);
-        in_use = omega (arith, h.ordered);
+        fits = omega arith;
+        small = omega (arith, l, h.few);
+        in_use = omega (arith, l, h.ordered);
         in_table = h.in_table;
         sound = h.sound;
-        suits = h.suits;
+        suits = rw l h.suits;
       }
 
-  module _ {xs ys : List ℕ} (l : length xs ≡ 128) (a : Arranged qs ws xs ys e s (e - s) 0) where
-    pub measuring : Measuring qs ws ys e (e - s)
-    measuring = arranged_nodes (arranging xs l) a
+  abbrev many : ℕ
+  many = x.end - x.start
 
-    pub counted : {x : Extent} → Measured qs ws ys (e - s) x
-        → Counts qs ws (accepts (members (part qs ws s e))) (record { outcome = written.File x.members x.bytes; order = ys; triples = e - s; nodes = e })
-    counted m =
-        let same : grouped (nodes_at qs ws ys 0 (e - s)) ≡ members (part qs ws s e) = sym (members_arranged (arranging xs l) a) in
+  -- the front of an array of 128
+  pub front : (xs : List ℕ) → length xs ≡ 128 → length (take many xs) ≡ many
+  front xs l = length-take-le many xs (omega (arith, l, h.few))
+
+  module _ {xs ys : List ℕ} (l : length xs ≡ many) (a : Arranged qs ws xs ys x.end x.start (length xs) 0) (zs : List ℕ) where
+    first : take many (ys ++ zs) ≡ ys
+    first = take_at ys zs many (a.same_length ∙ l)
+
+    all : Measuring qs ws ys x.end (length ys)
+    all = rw (← a.same_length) at (arranged_nodes (arranging xs l) a)
+
+    pub measuring : Measuring qs ws (take many (ys ++ zs)) x.end (length (take many (ys ++ zs)))
+    measuring = rw first all
+
+    members_are : grouped (nodes_at qs ws ys 0 (length ys)) ≡ members (part qs ws x.start x.end)
+    members_are = ap (λ (n : ℕ). grouped (nodes_at qs ws ys 0 n)) a.same_length ∙ sym (members_arranged (arranging xs l) a) ∙ ap (λ (n : ℕ). members (part_of qs ws x.start n)) l
+
+    pub counted : {z : Size} → Measured qs ws (take many (ys ++ zs)) (length (take many (ys ++ zs))) z
+        → Counts qs ws (members (part qs ws x.start x.end)) (record { size = z; order = ys ++ zs; triples = many; nodes = x.end })
+    counted {z} m =
+        let e : grouped (nodes_at qs ws (take many (ys ++ zs)) 0 (length (take many (ys ++ zs)))) ≡ members (part qs ws x.start x.end) = rw first members_are in
         record {
-          outcome = rw (m.members_are, m.bytes_are, same);
-          sorted = λ ms d.
-              let z : members (part qs ws s e) ≡ ms = cc in
-              record { nodes = measuring; members_are = same ∙ z; few = omega (arith, m.members_are, m.few, ap length (same ∙ z)) };
+          size = rw (m.members_are, m.bytes_are, e);
+          nodes = measuring;
+          members_are = e;
+          few = omega (arith, m.members_are, m.few, ap length e);
+          room = omega (arith, length-append ys zs, a.same_length, l);
         }
 
--- ---- a refusal
-pub uncounted : {qs ws : List ℕ} {c : Counted} {x : Source} (r : Refusal) {due : Outcome (List Member)}
-    → c.outcome ≡ written.Refused x r → due ≡ refuses x (number_of r) (place_of r) → Counts qs ws due c
-uncounted r e d =
-    record {
-      outcome = ap written_said e ∙ sym (ap sized d);
-      sorted = λ ms f. let z : ◌≡◌ {A = ℕ} 0 1 = cc in absurd (omega arith);
-    }
+-- ---- the file of the members
+module _ {qs ws : List ℕ} {ms : List Member} {c : Counted} (g : Counts qs ws ms c) where
+  is_members : c.size.count ≡ length ms
+  is_members = ap (λ (z : Size). z.count) g.size
 
--- ---- the file of members that are due
--- where one is told, members are due
-members_due : (due : Outcome (List Member)) (z : Size) → accepts z ≡ sized due → (ms : List Member) × (due ≡ accepts ms) × (z ≡ file_size ms)
-members_due (accepts ms) z f = (ms, refl, cc)
-members_due (refuses y n p) z f = not_accepted y n p z (sym f)
+  is_bytes : c.size.bytes ≡ length (narrowed_file ms)
+  is_bytes = ap (λ (z : Size). z.bytes) g.size
 
-module _ (ms : List Member) (m b : ℕ) (z : size m b ≡ file_size ms) (file : List ℕ) where
-  is_members : m ≡ length ms
-  is_members = ap (λ (x : Size). x.count) z
-
-  is_bytes : b ≡ length (narrowed_file ms)
-  is_bytes = ap (λ (x : Size). x.bytes) z
-
-  file_short : length file < b → Gives (file_of ms file) (refuses source.Work 14 b) file
-  unfolding file_of
-  file_short l = fields·Filing.file_short (length ms) (narrowed_file ms) file is_bytes l
-
-  file_put : {file' : List ℕ} {n : ℕ} → b ≤ length file → n ≡ length (narrowed_file ms) → file' ≡ sets file 0 (narrowed_file ms)
-      → Gives (file_of ms file) (accepts (size m n)) file'
-  unfolding file_of
-  file_put l e f = fields·Filing.file_put (length ms) (narrowed_file ms) file is_bytes l is_members e f
-
--- ---- what was counted, put into the area
 module _ {qs ws : List ℕ} {c : Counted} where
-  pub put_refused : (x : Source) (r : Refusal) → c.outcome ≡ written.Refused x r → {file : List ℕ} → Puts qs ws c file file (written.Refused x r)
-  put_refused x r e {file} = record { files = λ due g. by_due due (sym (ap written_said e) ∙ g.outcome) }
-    where
-      by_due : (due : Outcome (List Member)) → written_said (written.Refused x r) ≡ sized due → Gives (in_area due file) (refuses x (number_of r) (place_of r)) file
-      by_due (refuses y n p) f =
-          let e : ◌≡◌ {A = Outcome Size} (refuses x (number_of r) (place_of r)) (refuses y n p) = f in
-          record { is = ap (λ (o : Outcome Size). output o file) e }
-      by_due (accepts ms) f = not_accepted x (number_of r) (place_of r) (file_size ms) f
+  pub put_short : {file : List ℕ} → length file < c.size.bytes → Puts qs ws c file file (Err (AreaShort c.size.bytes))
+  unfolding file_of
+  put_short {file} l = record { files = λ ms g. fields·Filing.file_short (length ms) (narrowed_file ms) file (is_bytes g) l }
 
-  module _ (m b : ℕ) (e : c.outcome ≡ written.File m b) where
-    module _ {due : Outcome (List Member)} (g : Counts qs ws due c) where
-      abbrev all : (ms : List Member) × (due ≡ accepts ms) × (size m b ≡ file_size ms)
-      all = members_due due (size m b) (sym (ap written_said e) ∙ g.outcome)
+  pub filing : Known qs ws c → {file : List ℕ} → c.size.bytes ≤ length file → Filing qs ws (take c.triples c.order) c.nodes (length (take c.triples c.order)) c.size.count file
+  filing k {file} l =
+      let g = k.counts in
+      let same = g.members_are in
+      record {
+        nodes = g.nodes;
+        counted = is_members g ∙ sym (ap length same);
+        few = omega (arith, is_members g, g.few);
+        room = omega (arith, is_bytes g, ap (λ (x : List Member). length (narrowed_file x)) same);
+      }
 
-      sorted : Sorted qs ws c all.0
-      sorted = g.sorted all.0 all.1
-
-      in_file : (file : List ℕ) {file' : List ℕ} {o : Outcome Size} → Gives (file_of all.0 file) o file' → Gives (in_area due file) o file'
-      in_file file {file'} {o} f = subst (λ (d : Outcome (List Member)). Gives (in_area d file) o file') (sym all.1) f
-
-    pub put_short : {file : List ℕ} → length file < b → Puts qs ws c file file (written.Refused source.Work (AreaShort b))
-    put_short {file} l = record { files = λ due g. in_file g file (file_short (all g).0 m b (all g).2 file l) }
-
-    pub filing : Known qs ws c → {file : List ℕ} → b ≤ length file → Filing qs ws c.order c.nodes c.triples m file
-    filing k {file} l =
-        let g = k.counts in
-        let ms = (all g).0 in
-        let same = (sorted g).members_are in
-        record {
-          nodes = (sorted g).nodes;
-          counted = is_members ms m b (all g).2 file ∙ sym (ap length same);
-          few = omega (arith, is_members ms m b (all g).2 file, (sorted g).few);
-          room = omega (arith, is_bytes ms m b (all g).2 file, ap (λ (x : List Member). length (narrowed_file x)) same);
-        }
-
-    pub put_filed : {file file' : List ℕ} {n : ℕ} → b ≤ length file → Filed qs ws c.order c.triples file file' n → Puts qs ws c file file' (written.File m n)
-    put_filed {file} l f =
-        record {
-          files = λ due g.
-              let same : narrowed_file (grouped (nodes_at qs ws c.order 0 c.triples)) ≡ narrowed_file (all g).0 = ap narrowed_file (sorted g).members_are in
-              in_file g file (file_put (all g).0 m b (all g).2 file l (f.bytes_are ∙ ap length same) (f.area ∙ ap (sets file 0) same));
-        }
+  pub put_filed : {file file' : List ℕ} {n : ℕ} → c.size.bytes ≤ length file → Filed qs ws (take c.triples c.order) (length (take c.triples c.order)) file file' n
+      → Puts qs ws c file file' (Ok (record { count = c.size.count; bytes = n }))
+  unfolding file_of
+  put_filed {file} l f =
+      record {
+        files = λ ms g.
+            let same : narrowed_file (grouped (nodes_at qs ws (take c.triples c.order) 0 (length (take c.triples c.order)))) ≡ narrowed_file ms = ap narrowed_file g.members_are in
+            fields·Filing.file_put (length ms) (narrowed_file ms) file (is_bytes g) l (is_members g) (f.bytes_are ∙ ap length same) (f.area ∙ ap (sets file 0) same);
+      }

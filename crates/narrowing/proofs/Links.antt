@@ -1,86 +1,57 @@
 -- Refusal 11: the first symbol whose link the sheet does not name.
 -- Assumes nothing.
-use mathlib.Core.Path.{◌≡◌, refl, sym, ap, ◌∙◌}
-use mathlib.Core.Bool.{Bool, true, false, cond}
-use mathlib.Core.List.{List, ◌∷◌}
-use mathlib.Core.Logic.{⊎_elim}
-use Prim.Native.Nat.{ℕ, suc, ◌+◌, ◌<◌, ◌≤◌}
-use native.Mathlib.Numerals.{add-one}
+use mathlib.Core.Path.{◌≡◌, refl, ap, ◌∙◌}
+use mathlib.Core.Bool.{true, false}
+use mathlib.Core.List.{List, [], ◌∷◌}
+use Prim.Native.Nat.{ℕ, zero, suc, ◌+◌, ◌<◌}
 use native.Mathlib.Omega.{arith}
-use lib.Dec.{leb, ltb}
-use lib.ListN.{length, get_or, take, drop, drop_of_length-le}
-use lib.Seq.{drop-cons, get_or-take, length-take-le}
-use borrow.Author.Tests.{lt-ltb, le-ltb, le-leb, lt-leb}
-use Rattle.theory.specs.PathExpr.{Direction, named, Via, Op, s_step, s_join, s_op, s_closure}
+use lib.ListN.{length}
+use Rattle.std.specs.Prelude.{Option, Some, None}
+use Rattle.std.specs.Option.{MatchOption}
+use Rattle.std.specs.List.{AllWithin, HoldsAt}
 use Rattle.theory.specs.Narrowing.{Narrowing, refuse, unless, link_fault}
+use Rattle.theory.specs.Result.{refused}
 use Rattle.symbols.specs.Symbols.{symbol_numbered}
 use Rattle.question.specs.Form.{question_symbols}
-use Rattle.rows.proofs.Words.{le_or_lt}
 use Rattle.narrowing.specs.Contract.{FirstUnnamed}
 use Rattle.narrowing.specs.Internal.{TellsUnnamed}
 
--- ---- one symbol
-same_test : (E l : ℕ) → ◌≡◌ {A = ℕ} (cond (ltb l E) 0 11) (cond (leb E l) 11 0)
-same_test E l = ⊎_elim (λ (h : E ≤ l). rw (le-ltb l E h, le-leb E l h)) (λ (h : l < E). rw (lt-ltb l E h, lt-leb E l h)) (le_or_lt E l)
+module _ (E : ℕ) where
+  -- the link of the code has no name, or it has one or there is none
+  abbrev pub Lacks : ℕ → Type 0
+  Lacks c = TellsUnnamed E c true
 
-module _ (E : ℕ) {c : ℕ} where
-  pub unnamed_step : {d : Direction} {l : ℕ} → symbol_numbered c 0 ≡ s_step d (named l) → TellsUnnamed E c (leb E l)
-  unnamed_step {l = l} e = record { is = ap (link_fault E) e ∙ same_test E l }
+  abbrev pub Has : ℕ → Type 0
+  Has c = TellsUnnamed E c false
 
-  pub unnamed_join : {v : Via} → symbol_numbered c 0 ≡ s_join v → TellsUnnamed E c false
-  unnamed_join e = record { is = ap (link_fault E) e }
+  passed : (c i : ℕ) (o : Narrowing) → Has c → unless (link_fault E (symbol_numbered c 0)) i o ≡ o
+  passed c i o h = rw h.is
 
-  pub unnamed_op : {o : Op} → symbol_numbered c 0 ≡ s_op o → TellsUnnamed E c false
-  unnamed_op e = record { is = ap (link_fault E) e }
+  none : (cs : List ℕ) (i : ℕ) (o : Narrowing) → AllWithin Has cs 0 (length cs) → refuse (link_fault E) i (question_symbols cs) o ≡ o
+  none [] i o h = refl
+  none (c ∷ cs) i o h =
+      passed c i (refuse (link_fault E) (suc i) (question_symbols cs) o) (h 0 0 (omega arith) (omega arith))
+      ∙ none cs (suc i) o (λ k d l m. h (suc k) d (omega arith) (omega arith))
 
-  pub unnamed_closure : symbol_numbered c 0 ≡ s_closure → TellsUnnamed E c false
-  unnamed_closure e = record { is = ap (link_fault E) e }
+  first : (cs : List ℕ) (i k : ℕ) (o : Narrowing) → k < length cs → HoldsAt Lacks cs k → AllWithin Has cs 0 k
+      → refuse (link_fault E) i (question_symbols cs) o ≡ refused 11 (i + k)
+  first [] i k o l u h = absurd (omega arith)
+  first (c ∷ cs) i zero o l u h = let e : i ≡ i + 0 = omega arith in rw (u 0).is (ap (refused 11) e)
+  first (c ∷ cs) i (suc k) o l u h =
+      let e : suc i + k ≡ i + suc k = omega arith in
+      passed c i (refuse (link_fault E) (suc i) (question_symbols cs) o) (h 0 0 (omega arith) (omega arith))
+      ∙ first cs (suc i) k o (omega arith) u (λ j d m n. h (suc j) d (omega arith) (omega arith))
+      ∙ ap (refused 11) e
 
--- ---- the search: what is left finds what the whole finds
-pub record Searching (E : ℕ) (codes : List ℕ) (count i : ℕ) : Type 0 where
-  pub within : i ≤ count
-  pub left : (o : Narrowing) → refuse (link_fault E) i (question_symbols (drop i (take count codes))) o ≡ refuse (link_fault E) 0 (question_symbols (take count codes)) o
-
-pub search_start : (E : ℕ) (codes : List ℕ) (count : ℕ) → Searching E codes count 0
-search_start E codes count = record { within = omega arith; left = λ o. refl }
-
-module _ (E : ℕ) (codes : List ℕ) (count : ℕ) (room : count ≤ length codes) where
-  abbrev cs : List ℕ
-  cs = take count codes
-
-  many : length cs ≡ count
-  many = length-take-le count codes room
-
-  module _ {i : ℕ} (g : Searching E codes count i) where
-    pub search_over : count ≤ i → FirstUnnamed E cs count
-    search_over h =
-        record {
-          within = omega (arith, many);
-          here = λ l o. absurd (omega (arith, many));
-          nowhere = λ e o. sym (g.left o) ∙ ap (λ (l : List ℕ). refuse (link_fault E) i (question_symbols l) o) (drop_of_length-le cs {i = i} (omega (arith, many)));
-        }
-
-    module _ (h : i < count) {c : ℕ} (e : c ≡ get_or codes i 0) {r : Bool} (u : TellsUnnamed E c r) where
-      next : drop i cs ≡ c ∷ drop (suc i) cs
-      next = drop-cons cs i 0 (omega (arith, many)) ∙ ap (λ (x : ℕ). x ∷ drop (suc i) cs) (get_or-take count codes i 0 h ∙ sym e)
-
-      turn : (o : Narrowing) → unless (cond r 11 0) i (refuse (link_fault E) (suc i) (question_symbols (drop (suc i) cs)) o) ≡ refuse (link_fault E) 0 (question_symbols cs) o
-      turn o =
-          ap (λ (n : ℕ). unless n i (refuse (link_fault E) (suc i) (question_symbols (drop (suc i) cs)) o)) (sym u.is)
-          ∙ ap (λ (l : List ℕ). refuse (link_fault E) i (question_symbols l) o) (sym next)
-          ∙ g.left o
-
-      pub search_found : r ≡ true → FirstUnnamed E cs i
-      search_found t =
-          record {
-            within = omega (arith, many);
-            here = λ l o. sym (turn o) ∙ ap (λ (b : Bool). unless (cond b 11 0) i (refuse (link_fault E) (suc i) (question_symbols (drop (suc i) cs)) o)) t;
-            nowhere = λ z o. absurd (omega (arith, many));
-          }
-
-      pub search_on : r ≡ false → Searching E codes count (i + 1)
-      search_on t =
-          record {
-            within = omega arith;
-            left = rw add-one (λ o. ap (λ (b : Bool). unless (cond b 11 0) i (refuse (link_fault E) (suc i) (question_symbols (drop (suc i) cs)) o)) (sym t) ∙ turn o);
-          }
+  pub searched : (cs : List ℕ) (r : Option ℕ) → MatchOption r (AllWithin Has cs 0 (length cs)) (λ i. (i < length cs) × HoldsAt Lacks cs i × AllWithin Has cs 0 i)
+      → FirstUnnamed E cs r
+  searched cs None h = record {
+    within = λ i e. let z : ◌≡◌ {A = ℕ} 0 1 = cc in absurd (omega arith);
+    here = λ i e o. let z : ◌≡◌ {A = ℕ} 0 1 = cc in absurd (omega arith);
+    nowhere = λ e o. none cs 0 o h;
+  }
+  searched cs (Some k) h = record {
+    within = λ i e. let z : k ≡ i = cc in rw (← z) h.0;
+    here = λ i e o. let y : k ≡ i = cc in let z : 0 + k ≡ i = omega (arith, y) in first cs 0 k o h.0 h.1 h.2 ∙ ap (refused 11) z;
+    nowhere = λ e o. let z : ◌≡◌ {A = ℕ} 0 1 = cc in absurd (omega arith);
+  }

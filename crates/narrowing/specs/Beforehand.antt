@@ -4,7 +4,8 @@
 use Rattle.std.specs.Prelude.{◌≡◌, List, ℕ, ◌<◌, ◌≤◌, length}
 use Rattle.fields.specs.declared.Source.{Source}
 use Rattle.fields.specs.declared.Source.TheVariants as source
-use Rattle.fields.specs.Call.{accepts, refuses, Size}
+use Rattle.fields.specs.declared.Size.{Size}
+use Rattle.fields.specs.Call.{accepts, refuses}
 use Rattle.narrowing.specs.Call.{narrow_call, size_call}
 
 pub record Foretells (sheet question work : List ℕ) : Type 0 where

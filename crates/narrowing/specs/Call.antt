@@ -6,7 +6,8 @@ use Rattle.std.specs.Prelude.{List, ℕ, length}
 use Rattle.theory.specs.Merging.{Member}
 use Rattle.theory.specs.Narrowing.{Narrowing, narrow_symbols}
 use Rattle.fields.specs.declared.Source.TheVariants as source
-use Rattle.fields.specs.Call.{Outcome, accepts, about, and_then, file, Output, output, Task, task, Returned, returned, call, simple_call, Size, size, file_in}
+use Rattle.fields.specs.Call.{Outcome, accepts, about, and_then, file, Output, output, Task, task, Returned, returned, call, simple_call, size, file_in}
+use Rattle.fields.specs.declared.Size.{Size}
 use Rattle.sheet.specs.Form.{sheet_form}
 use Rattle.question.specs.Form.{question_form, question_symbols}
 use Rattle.narrowed_question.specs.Members.{narrowed_file}

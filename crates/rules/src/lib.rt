@@ -410,16 +410,7 @@ pub fn add_edges(
 {
     let mut count = start;
     for a in 0..kinds {
-        count = add_edges_from(
-            words,
-            question,
-            matrix,
-            kinds,
-            node,
-            s,
-            count,
-            Kind(a),
-        );
+        count = add_edges_from(words, question, matrix, kinds, node, s, count, Kind(a));
         if triples::MOST < count {
             return count;
         }

@@ -1,7 +1,6 @@
 -- `kind_graph::edges` meets its contract: the pairs set so far, with the triples of the nodes from i on, are the edges of the whole part.
 -- Assumes nothing.
 use Rattle.kind_graph.proofs.Linking.{link_start, edges_next, edges_end}
-use native.Mathlib.Omega.{arith}
 use Rattle.kind_graph.proofs.edges.Goals as goal
 
 pub loop-i-init : goal.loop-i-init

@@ -1,12 +1,7 @@
 -- `kind_graph::first_round` meets its contract: the numbers so far, raised by the nodes from i on, are the start raised by the whole part; a node's size is that of its path.
 -- Assumes nothing.
-use Rattle.kind_graph.proofs.Rounds.{round_start, round_next, round_end, size_is}
-use Rattle.kind_graph.specs.Sizes.{size_of}
-use native.Mathlib.Omega.{arith}
+use Rattle.kind_graph.proofs.Rounds.{round_next, round_end, size_is}
 use Rattle.kind_graph.proofs.first_round.Goals as goal
-
-pub loop-i-init : goal.loop-i-init
-loop-i-init c = round_start size_of _ _
 
 pub loop-i-preserved : goal.loop-i-preserved
 loop-i-preserved c =

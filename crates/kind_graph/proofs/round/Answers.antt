@@ -1,14 +1,7 @@
 -- `kind_graph::round` meets its contract: the numbers so far, raised by the nodes from i on, are the start raised by all; a node weighs as the largest walk to it, joined with it.
 -- Assumes nothing.
-use Rattle.kind_graph.proofs.Rounds.{round_start, round_next, round_end, weight_is}
-use native.Mathlib.Omega.{arith}
+use Rattle.kind_graph.proofs.Rounds.{round_next, round_end, weight_is}
 use Rattle.kind_graph.proofs.round.Goals as goal
-
-pub loop-i-init : goal.loop-i-init
-loop-i-init c = round_start _ _ _
-
-pub extend-requires : goal.extend-requires
-extend-requires c = (c.requires.3 _, c.load-x.ensures.size_small)
 
 pub loop-i-preserved : goal.loop-i-preserved
 loop-i-preserved c =

@@ -2,17 +2,14 @@
 -- Assumes nothing.
 use Prim.Native.Nat.{ℕ}
 use lib.ListN.{length-replicate}
-use Rattle.narrowing.proofs.Filing.{arranging, measuring, counted}
+use Rattle.narrowing.proofs.Filing.{arranging, front, measuring, counted}
 use Rattle.narrowing.proofs.count_members.Goals as goal
 
-pub overflow_sub-n : goal.overflow_sub-n
-overflow_sub-n c = c.requires.ordered
-
 pub arrange-requires : goal.arrange-requires
-arrange-requires c = arranging c.requires _ (length-replicate {A = ℕ} 128 0)
+arrange-requires c = arranging c.requires _ (front c.requires _ (length-replicate {A = ℕ} 128 0))
 
-pub measure-x-requires : goal.measure-x-requires
-measure-x-requires c = measuring c.requires (length-replicate {A = ℕ} 128 0) c.arrange.ensures
+pub measure-size-requires : goal.measure-size-requires
+measure-size-requires c = measuring c.requires (front c.requires _ (length-replicate {A = ℕ} 128 0)) c.arrange.ensures _
 
 pub returns : goal.returns
-returns c = counted c.requires (length-replicate {A = ℕ} 128 0) c.arrange.ensures c.measure-x.ensures
+returns c = counted c.requires (front c.requires _ (length-replicate {A = ℕ} 128 0)) c.arrange.ensures _ c.measure-size.ensures

@@ -1,5 +1,6 @@
 -- `narrowing::count_named` meets its contract: inference gives the refusal that is due, 12 or 13, or nodes that are the question's triples, whose members are counted.
 -- Assumes nothing.
+use Rattle.std.proofs.lemmas.Result.{err_from_is_err_and}
 use Rattle.narrowing.proofs.Inferring.{asking, part_refused, listed, part_counted}
 use Rattle.narrowing.proofs.count_named.Goals as goal
 
@@ -7,17 +8,12 @@ pub infer-requires : goal.infer-requires
 infer-requires c = asking c.requires.0 c.requires.1
 
 pub count_members-requires : goal.count_members-requires
-count_members-requires c =
-    listed c.requires.0 c.requires.1
-    c.infer.ensures _ _ c.in-Triples.is
+count_members-requires c = listed c.requires.0 c.requires.1 c.infer.ensures _ c.in_ok-span.was
 
-pub returns-in-Refused : goal.returns-in-Refused
-returns-in-Refused c =
-    part_refused c.requires.0 c.requires.1
-    c.infer.ensures _ c.in-Refused.is c.uncounted.ensures
+pub returns-in_err-span : goal.returns-in_err-span
+returns-in_err-span c =
+    let p = err_from_is_err_and c.from_residual.result c.from_residual.ensures.1 in
+    rw (p.1, p.2) (part_refused c.requires.0 c.requires.1 c.infer.ensures _ c.in_err-span.was)
 
-pub returns-in-Triples : goal.returns-in-Triples
-returns-in-Triples c =
-    part_counted c.requires.0
-    c.requires.1 c.infer.ensures _ _
-    c.in-Triples.is c.count_members.ensures
+pub returns : goal.returns
+returns c = part_counted c.requires.0 c.requires.1 c.infer.ensures _ c.in_ok-span.was c.count_members.ensures

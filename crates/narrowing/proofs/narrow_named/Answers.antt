@@ -1,10 +1,16 @@
 -- `narrowing::narrow_named` meets its contract: what `count_named` found to be due, members or a refusal, is what `put_members` puts into the area.
 -- Assumes nothing.
-use Rattle.narrowing.proofs.Inferring.{named_known, named_filed}
+use Rattle.std.proofs.lemmas.Result.{err_from_is_err_and}
+use Rattle.narrowing.proofs.Inferring.{area_refused, area_filed}
 use Rattle.narrowing.proofs.narrow_named.Goals as goal
 
 pub put_members-requires : goal.put_members-requires
-put_members-requires c = named_known c.requires.0 c.count_named-counted.ensures
+put_members-requires c = c.count_named.ensures.known _ c.in_ok-counted.was
+
+pub returns-in_err-counted : goal.returns-in_err-counted
+returns-in_err-counted c =
+    let p = err_from_is_err_and c.from_residual.result c.from_residual.ensures.1 in
+    rw (p.1, p.2) (record { kept = c.count_named.ensures.kept; files = area_refused c.count_named.ensures c.in_err-counted.was })
 
 pub returns : goal.returns
-returns c = named_filed c.count_named-counted.ensures c.put_members.ensures
+returns c = record { kept = c.count_named.ensures.kept; files = area_filed c.count_named.ensures c.in_ok-counted.was c.put_members.ensures }

@@ -1,20 +1,13 @@
--- `narrowing::put_members` meets its contract: a refusal changes no byte, and the bytes counted are the length of the file, so that 14 is told just where it has no room.
+-- `narrowing::put_members` meets its contract: the bytes counted are the length of the file, so that 14 is told just where it has no room.
 -- Assumes nothing.
-use Rattle.narrowing.proofs.Filing.{put_refused, put_short, filing, put_filed}
+use Rattle.narrowing.proofs.Filing.{put_short, filing, put_filed}
 use Rattle.narrowing.proofs.put_members.Goals as goal
 
-pub returns-then-file-bytes : goal.returns-then-file-bytes
-returns-then-file-bytes c = put_short _ _ c.in-File.is c.if-file-bytes.true
+pub returns-then-file-size : goal.returns-then-file-size
+returns-then-file-size c = put_short c.if-file-size.true
 
-pub put_file-put-requires : goal.put_file-put-requires
-put_file-put-requires c =
-    filing _ _ c.in-File.is c.requires
-    c.if-file-bytes.false
+pub put_file-bytes-requires : goal.put_file-bytes-requires
+put_file-bytes-requires c = filing c.requires c.if-file-size.false
 
-pub returns-in-Refused : goal.returns-in-Refused
-returns-in-Refused c = put_refused _ _ c.in-Refused.is
-
-pub returns-else-file-bytes : goal.returns-else-file-bytes
-returns-else-file-bytes c =
-    put_filed _ _ c.in-File.is c.if-file-bytes.false
-    c.put_file-put.ensures
+pub returns : goal.returns
+returns c = put_filed c.if-file-size.false c.put_file-bytes.ensures

@@ -22,9 +22,11 @@ use Rattle.theory.proofs.Narrowing.{not_refused}
 use Rattle.theory.proofs.Demand3.{narrow_path}
 use Rattle.theory.proofs.Answers.{answer_words_equal}
 use Rattle.fields.specs.declared.Source.TheVariants as source
-use Rattle.fields.specs.declared.Written.{Written}
+use Rattle.std.specs.Prelude as std
+use Rattle.fields.specs.declared.Failure.{Failure}
 use Rattle.theory.specs.Result.{got, refused}
-use Rattle.fields.specs.Call.{accepts, returned, Returns, zeroed, performed, Size}
+use Rattle.fields.specs.declared.Size.{Size}
+use Rattle.fields.specs.Call.{accepts, returned, Returns, zeroed, performed}
 use Rattle.fields.specs.Contract.{written_said}
 use Rattle.fields.specs.Reading.{read}
 use Rattle.sheet.specs.Form.{sheet_form}
@@ -158,7 +160,7 @@ module _ {s q g work answer answer' area area' : List ℕ} {z : Size} (a : Accep
   plainly = let (p, k) = accepted_question q a.narrowing.codes a.narrowing.question_reads in is_plain p k
 
 -- where the code accepts, the answer is the plain one
-pub plain_by : (s q g work answer area : List ℕ) {work' answer' area' : List ℕ} {o : Written} → Returns (job_call s q g work answer area) (written_said o) work' (results answer' area')
+pub plain_by : (s q g work answer area : List ℕ) {work' answer' area' : List ℕ} {o : std.Result Size Failure} → Returns (job_call s q g work answer area) (written_said o) work' (results answer' area')
     → AnswersPlain (plain_call q g work answer) o answer'
 plain_by s q g work answer area j = record {
   accepted = λ z e. (plainly (accepted s q g work answer area z (sym (ap (λ x. x.outcome) j.is) ∙ e))).0;

@@ -1,7 +1,8 @@
 -- The larger of the two needs.
 -- Assumes nothing.
-use mathlib.Core.Path.{◌≡◌, sym, refl}
+use mathlib.Core.Path.{◌≡◌, refl}
 use mathlib.Core.Bool.{Bool, true, false, cond}
+use Rattle.std.specs.Prelude.{max}
 use Prim.Native.Nat.{ℕ, ◌<◌, ◌≤◌}
 use native.Mathlib.Omega.{arith}
 use lib.Dec.{ltb}
@@ -28,10 +29,10 @@ module _ (a b : ℕ) where
       by_test false e = let l = ltb-false a b e in rw e (omega arith, omega arith)
 
 -- as the code finds it
-pub need_of_answer : (n : ℕ) → 8192 < n → n ≡ larger narrow_need n
+pub need_is : (n : ℕ) {m : ℕ} → m ≡ max 8192 n → m ≡ larger narrow_need n
 unfolding narrow_need
-need_of_answer n l = sym (larger_right 8192 n l)
-
-pub need_of_narrowing : (n : ℕ) → n ≤ 8192 → 8192 ≡ larger narrow_need n
-unfolding narrow_need
-need_of_narrowing n l = sym (larger_left 8192 n l)
+need_is n {m} e = by_test (ltb 8192 n) refl
+  where
+    by_test : (t : Bool) → ltb 8192 n ≡ t → m ≡ larger 8192 n
+    by_test true h = let l = ltb-true 8192 n h in rw (larger_right 8192 n l) (omega (arith, e, l))
+    by_test false h = let l = ltb-false 8192 n h in rw (larger_left 8192 n l) (omega (arith, e, l))

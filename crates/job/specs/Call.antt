@@ -13,7 +13,8 @@ use Rattle.theory.specs.Narrowing.{Narrowing, link_fault, refuse, parted}
 use Rattle.theory.specs.Evaluation.{narrowed_answer}
 use Rattle.theory.specs.Words.{answer_words}
 use Rattle.fields.specs.declared.Source.TheVariants as source
-use Rattle.fields.specs.Call.{Outcome, accepts, refuses, about, and_then, file, Output, output, Task, task, Returned, call, simple_call, Size}
+use Rattle.fields.specs.declared.Size.{Size}
+use Rattle.fields.specs.Call.{Outcome, accepts, refuses, about, and_then, file, Output, output, Task, task, Returned, call, simple_call}
 use Rattle.sheet.specs.Form.{sheet_form}
 use Rattle.question.specs.Form.{question_form, question_symbols}
 use Rattle.register.specs.Form.{register_form}

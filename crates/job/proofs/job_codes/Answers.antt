@@ -1,43 +1,38 @@
 -- `job::job_codes` meets its contract: the tests come in the order 11, 16, 12 or 13, 14; past them the file has the members that narrowing gives, and `answer_file` their pairs.
 -- Assumes nothing.
-use Rattle.job.proofs.Results.{codes_unnamed, codes_breached, codes_refused, file_members, codes_filed}
 use mathlib.Core.Path.{sym}
-use native.Mathlib.Omega.{arith}
+use lib.Seq.{length-take-le}
+use Rattle.std.proofs.lemmas.Result.{err_from_is_err_and}
+use Rattle.job.proofs.Results.{codes_unnamed, codes_breached, codes_refused, file_within, file_members, codes_filed}
 use Rattle.job.proofs.job_codes.Goals as goal
 
-pub first_unnamed-i-requires : goal.first_unnamed-i-requires
-first_unnamed-i-requires c = c.requires.0.ready.within
+pub returns-in-Some : goal.returns-in-Some
+returns-in-Some c = codes_unnamed c.requires.asked c.args.ground.now c.first_unnamed.ensures _ c.in-Some.is
 
-pub returns-then-i-count : goal.returns-then-i-count
-returns-then-i-count c = let r = c.requires in codes_unnamed r.0 r.1 c.first_unnamed-i.ensures c.if-i-count.true
+pub returns-in-Some-first_breach : goal.returns-in-Some-first_breach
+returns-in-Some-first_breach c =
+    codes_breached c.requires.asked c.args.ground.now c.first_unnamed.ensures c.in_default.is _ c.first_breach.ensures _ c.in-Some-first_breach.is
 
-pub first_breach-requires : goal.first_breach-requires
-first_breach-requires c = let r = c.requires in (r.1.accepted, sym r.1.count)
+pub returns-in_err-size : goal.returns-in_err-size
+returns-in_err-size c =
+    let p = err_from_is_err_and c.from_residual.result c.from_residual.ensures.1 in
+    rw (p.1, p.2)
+    (codes_refused c.requires.asked c.args.ground.now c.first_unnamed.ensures c.in_default.is _ c.first_breach.ensures c.in_default-first_breach.is c.narrow_named.ensures c.in_err-size.was)
 
-pub narrow_named-requires : goal.narrow_named-requires
-narrow_named-requires c = let r = c.requires in (r.0.ready, r.2.narrowing)
+pub slice_bounds-answer_file-end : goal.slice_bounds-answer_file-end
+slice_bounds-answer_file-end c =
+    file_within c.requires.asked c.args.ground.now c.first_unnamed.ensures c.in_default.is _ c.first_breach.ensures c.in_default-first_breach.is c.narrow_named.ensures c.in_ok-size.was
 
-pub answer_file-requires : goal.answer_file-requires
-answer_file-requires c =
-    let r = c.requires in (
-      file_members r.0 r.1 c.first_unnamed-i.ensures c.if-i-count.false _ c.first_breach.ensures c.in-Nowhere.is c.narrow_named.ensures _ _ c.in-File.is,
-      r.1,
-      omega (arith, r.2.answering, c.narrow_named.ensures.kept.len),
-      r.3,
-    )
+pub slice_bounds-answer_file-end-2 : goal.slice_bounds-answer_file-end-2
+slice_bounds-answer_file-end-2 c =
+    sym (length-take-le _ _
+    (file_within c.requires.asked c.args.ground.now c.first_unnamed.ensures c.in_default.is _ c.first_breach.ensures c.in_default-first_breach.is c.narrow_named.ensures c.in_ok-size.was))
 
-pub returns-in-At : goal.returns-in-At
-returns-in-At c =
-    let r = c.requires in
-    codes_breached r.0 r.1 c.first_unnamed-i.ensures c.if-i-count.false _ c.first_breach.ensures _ c.in-At.is
+pub answer_file-requires-clause-written : goal.answer_file-requires-clause-written
+answer_file-requires-clause-written c =
+    file_members c.requires.asked c.args.ground.now c.first_unnamed.ensures c.in_default.is _ c.first_breach.ensures c.in_default-first_breach.is c.narrow_named.ensures c.in_ok-size.was
 
-pub returns-in-Refused : goal.returns-in-Refused
-returns-in-Refused c =
-    let r = c.requires in
-    codes_refused r.0 r.1 c.first_unnamed-i.ensures c.if-i-count.false _ c.first_breach.ensures c.in-Nowhere.is c.narrow_named.ensures _ _ c.in-Refused.is
-
-pub returns-in-File : goal.returns-in-File
-returns-in-File c =
-    let r = c.requires in
-    codes_filed r.0 r.1 c.first_unnamed-i.ensures c.if-i-count.false _ c.first_breach.ensures c.in-Nowhere.is c.narrow_named.ensures _ _ c.in-File.is r.3
-    c.answer_file.ensures
+pub returns : goal.returns
+returns c =
+    codes_filed c.requires.asked c.args.ground.now c.first_unnamed.ensures c.in_default.is _ c.first_breach.ensures c.in_default-first_breach.is c.narrow_named.ensures c.in_ok-size.was
+    c.requires.room c.answer_file.ensures

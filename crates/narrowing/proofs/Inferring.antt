@@ -57,7 +57,12 @@ module _ {qs ws t : List ℕ} {K : ℕ} (h : Narrowable qs t K) (n : narrow_need
     found w S g q e = subst (λ (x : std.Result Span Refusal). Found S parts_asked q qs ws' x) w (i.found S g q e)
 
     pub part_refused : (f : Refusal) → r ≡ Err f → CountsNamed qs ws ws' t K (Err f)
-    part_refused f w = record { kept = kept; known = λ c e. let z : ◌≡◌ {A = ℕ} 0 1 = cc in absurd (omega arith); counts = λ S g. parted_is S ∙ found w S g h.path h.is (got (members (triples S h.path))) }
+    part_refused f w =
+        record {
+          kept = kept;
+          known = λ c e. let z : ◌≡◌ {A = ℕ} 0 1 = cc in absurd (omega arith);
+          counts = λ S g. parted_is S ∙ found w S g h.path h.is (got (members (triples S h.path)));
+        }
 
     module _ (x : Span) (w : r ≡ Ok x) where
       suits : (u : Triple) → In u (part qs ws' x.start x.end) → Suits u
@@ -98,7 +103,11 @@ links_first S E ss e = ap (λ (n : ℕ). refuse (link_fault n) 0 ss (parted S ss
 module _ {qs t : List ℕ} {K E : ℕ} {r : Option ℕ} (f : FirstUnnamed E qs r) where
   pub symbols_unnamed : {ws : List ℕ} (i : ℕ) → r ≡ Some i → CountsSymbols qs ws ws t K E (Err (UnnamedLink i))
   symbols_unnamed {ws} i e =
-      record { kept = kept_refl 0 narrow_need ws; known = λ c w. let z : ◌≡◌ {A = ℕ} 0 1 = cc in absurd (omega arith); counts = λ S g. links_first S E (question_symbols qs) g.named ∙ f.here i e (parted S (question_symbols qs)) }
+      record {
+        kept = kept_refl 0 narrow_need ws;
+        known = λ c w. let z : ◌≡◌ {A = ℕ} 0 1 = cc in absurd (omega arith);
+        counts = λ S g. links_first S E (question_symbols qs) g.named ∙ f.here i e (parted S (question_symbols qs));
+      }
 
   pub symbols_named : r ≡ None → {ws ws' : List ℕ} {c : std.Result Counted Refusal} → CountsNamed qs ws ws' t K c → CountsSymbols qs ws ws' t K E c
   symbols_named e {ws' = ws'} {c} g =

@@ -55,7 +55,8 @@ module _ {a : std.Result declared·Sheet.Sheet Refusal} (q work : List ℕ) {b :
         refused = λ g u s h. let w : f ≡ g = cc in rw (← w, x) (rw (refused_sheet s a h f.refusal y));
       }
 
-  module _ {x : Bor declared·Sheet.Sheet} (e : b ≡ Ok x) {c : std.Result Question Refusal} (i : ReadsQuestion (read question_form q) c) {d : std.Result Question Failure} (j : d ≡ about_of source.Question c) where
+  module _ {x : Bor declared·Sheet.Sheet} (e : b ≡ Ok x) {c : std.Result Question Refusal} (i : ReadsQuestion (read question_form q) c)
+      {d : std.Result Question Failure} (j : d ≡ about_of source.Question c) where
     pub question_refused : {f : Failure} → d ≡ Err f → Ready a q work (Err f)
     unfolding members_call
     question_refused {f} k =
@@ -70,7 +71,8 @@ module _ {a : std.Result declared·Sheet.Sheet Refusal} (q work : List ℕ) {b :
 
     module _ {y : Question} (k : d ≡ Ok y) where
       module _ (s : List ℕ) (h : ReadsSheet (read sheet_form s) a) where
-        is_performed : (S : Sheet) → read sheet_form s ≡ got S → (cs : List ℕ) → read question_form q ≡ got cs → members_call s q work ≡ performed (members_task (narrow_symbols S (question_symbols cs))) work tt
+        is_performed : (S : Sheet) → read sheet_form s ≡ got S → (cs : List ℕ) → read question_form q ≡ got cs
+            → members_call s q work ≡ performed (members_task (narrow_symbols S (question_symbols cs))) work tt
         unfolding members_call
         is_performed S u cs v = rw (u, v)
 

@@ -14,7 +14,7 @@ use Rattle.theory.proofs.Members.{narrow_fits}
 use Rattle.theory.proofs.Demand3.{demand3, narrow_path}
 use Rattle.theory.proofs.NoIdle.{no_idle}
 use Rattle.theory.specs.Result.{Result, got}
-use Rattle.fields.specs.Call.{Size}
+use Rattle.fields.specs.declared.Size.{Size}
 use Rattle.fields.specs.Reading.{read}
 use Rattle.sheet.specs.Form.{sheet_form}
 use Rattle.sheet.proofs.Ranges.{accepted_sheet}

@@ -7,11 +7,11 @@ use native.Mathlib.Omega.{arith}
 use Rattle.fields.specs.declared.Refusal.{Refusal}
 use Rattle.fields.specs.declared.Refusal.TheVariants.{Truncated, Unexpected, OutOfRange, NotAscending, WrongEnd, Operands, UnnamedLink, TooMany, TooLong, AreaShort, WorkShort, Breach}
 use Rattle.fields.specs.declared.Source.{Source}
-use Rattle.fields.specs.declared.Outcome as declared·Outcome
-use Rattle.fields.specs.declared.Outcome.TheVariants as outcome
-use Rattle.fields.specs.declared.Written as declared·Written
-use Rattle.fields.specs.declared.Written.TheVariants as written
-use Rattle.fields.specs.Call.{Outcome, refuses, Output, Gives, Returned, Returns, size}
+use Rattle.std.specs.Prelude as std
+use Rattle.std.specs.Prelude.{Ok, Err}
+use Rattle.fields.specs.declared.Failure.{Failure}
+use Rattle.fields.specs.declared.Size.{Size}
+use Rattle.fields.specs.Call.{Outcome, refuses, Output, Gives, Returned, Returns}
 use Rattle.fields.specs.Contract.{number_of, place_of, source_number, outcome_said, written_said}
 use Rattle.paths.specs.OutcomeNumbers.{Told, tells, no_more, of_size, Tells, TellsOutput, TellsCall}
 
@@ -38,22 +38,20 @@ untold : (r : Refusal) {t : Told} {p f : ℕ} → t ≡ tells (number_of r) p f 
 untold r e z = numbered r (sym (ap (λ x. x.number) e) ∙ z)
 
 -- ---- of each outcome
-pub tells_accepted : {o : declared·Outcome.Outcome} → o ≡ outcome.Accepted → Tells no_more (outcome_said o) (tells 0 0 0)
-tells_accepted e = rw e (record { is = refl; only = λ z. (tt, refl) })
+pub tells_written : {o : std.Result Size Failure} {z : Size} → o ≡ Ok z → Tells of_size (written_said o) (tells 0 z.count z.bytes)
+tells_written {z = z} e = rw e (record { is = refl; only = λ x. (z, refl) })
 
-pub tells_written : {o : declared·Written.Written} {m b : ℕ} → o ≡ written.File m b → Tells of_size (written_said o) (tells 0 m b)
-tells_written {m = m} {b} e = rw e (record { is = refl; only = λ z. (size m b, refl) })
-
-tells_refusal : {A : Type 0} (f : A → Told) (s : Source) (r : Refusal) {t : Told} → t ≡ tells (number_of r) (place_of r) (source_number s) → Tells f (refuses s (number_of r) (place_of r)) t
-tells_refusal f s r e = record { is = e; only = λ z. absurd (untold r e z) }
-
-pub tells_refused : {o : declared·Outcome.Outcome} {s : Source} {r : Refusal} {t : Told} → o ≡ outcome.Refused s r → t ≡ tells (number_of r) (place_of r) (source_number s)
-    → Tells no_more (outcome_said o) t
-tells_refused {s = s} {r} e f = rw e (tells_refusal no_more s r f)
-
-pub tells_unwritten : {o : declared·Written.Written} {s : Source} {r : Refusal} {t : Told} → o ≡ written.Refused s r → t ≡ tells (number_of r) (place_of r) (source_number s)
+pub tells_unwritten : {o : std.Result Size Failure} {f : Failure} {t : Told} → o ≡ Err f → t ≡ tells (number_of f.refusal) (place_of f.refusal) (source_number f.source)
     → Tells of_size (written_said o) t
-tells_unwritten {s = s} {r} e f = rw e (tells_refusal of_size s r f)
+tells_unwritten {f = f} e w = rw e (record { is = w; only = λ z. absurd (untold f.refusal w z) })
+
+-- where nothing more is told, two zeros stand for the size
+pub tells_nothing : {o : std.Result (Unit {0}) Failure} {t : Told} → o ≡ Ok tt → Tells of_size (written_said (Ok (record { count = 0; bytes = 0 }))) t → Tells no_more (outcome_said o) t
+tells_nothing e h = rw e (record { is = h.is; only = λ z. (tt, refl) })
+
+pub tells_refused : {o : std.Result (Unit {0}) Failure} {f : Failure} {t : Told} → o ≡ Err f → t ≡ tells (number_of f.refusal) (place_of f.refusal) (source_number f.source)
+    → Tells no_more (outcome_said o) t
+tells_refused {f = f} e w = rw e (record { is = w; only = λ z. absurd (untold f.refusal w z) })
 
 -- ---- of a call, by what it returns
 module _ {A R : Type 0} {f : A → Told} {o : Outcome A} {t : Told} (h : Tells f o t) where

@@ -11,7 +11,8 @@ use Rattle.theory.specs.Sheet.{Sheet, conforms?}
 use Rattle.theory.specs.Demand3.{Demand3}
 use Rattle.theory.specs.NoIdle.{NoIdle}
 use Rattle.theory.specs.Result.{got}
-use Rattle.fields.specs.Call.{accepts, Size}
+use Rattle.fields.specs.declared.Size.{Size}
+use Rattle.fields.specs.Call.{accepts}
 use Rattle.fields.specs.Reading.{read}
 use Rattle.sheet.specs.Form.{sheet_form}
 use Rattle.question.specs.Form.{question_form, question_symbols}

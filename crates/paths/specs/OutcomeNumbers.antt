@@ -1,15 +1,23 @@
 -- What a caller is told: how a file is judged; in C, the outcome of a call in three numbers, and the areas that were lent.
 -- SPECIFICATION, The calls; Refusals: number and place.
 -- Assumes nothing.
-use Rattle.std.specs.Prelude.{◌≡◌, List, ℕ}
+use Rattle.std.specs.Prelude as std
+use Rattle.std.specs.Prelude.{◌≡◌, List, ℕ, Ok, Err}
 use Rattle.theory.specs.Result.{Result}
+use Rattle.fields.specs.declared.Refusal.{Refusal}
 use Rattle.fields.specs.declared.Source.{Source}
-use Rattle.fields.specs.Call.{Outcome, accepts, refuses, about, and_then, Output, Returned, Size}
-use Rattle.fields.specs.Contract.{source_number}
+use Rattle.fields.specs.declared.Size.{Size}
+use Rattle.fields.specs.Call.{Outcome, accepts, refuses, about, and_then, Output, Returned}
+use Rattle.fields.specs.Contract.{number_of, place_of, source_number}
 
 -- how a file is judged: accepted, or refused by number and place
 abbrev pub judged : {A : Type 0} → Source → Result A → Outcome (Unit {0})
 judged s a = and_then (about s a) (λ _. accepts tt)
+
+-- the same by what its reader gives
+abbrev pub judged_by : {A : Type 0} → Source → std.Result A Refusal → Outcome (Unit {0})
+judged_by s (Ok x) = accepts tt
+judged_by s (Err r) = refuses s (number_of r) (place_of r)
 
 -- ---- in C
 -- the result of the C function, and what it leaves at its last two pointers

@@ -2,7 +2,7 @@
 -- SPECIFICATION, Shortening: the same pairs on every register; narrowing is judged by the rules over the shortened question.
 -- Assumes nothing.
 use Rattle.std.specs.Prelude.{◌≡◌, List, ℕ}
-use Rattle.fields.specs.Call.{Size}
+use Rattle.fields.specs.declared.Size.{Size}
 use Rattle.answer.specs.Calls.{plain_call}
 use Rattle.paths.specs.Agreement.{NarrowTook, file_written, Agrees}
 

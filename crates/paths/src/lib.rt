@@ -16,100 +16,88 @@ ghost use Rattle.narrowing.specs.Call.{narrow_call, size_call};
 ghost use Rattle.answer.specs.Calls.{plain_call, narrowed_call};
 ghost use Rattle.job.specs.Call.{results, job_call};
 ghost use Rattle.shortening.specs.Call.{shorten_call};
-ghost use Rattle.paths.specs.OutcomeNumbers.{judged, tells, no_more, of_size, Tells, TellsOutput, TellsCall, TellsPlain};
+ghost use Rattle.paths.specs.OutcomeNumbers.{judged, judged_by, tells, no_more, of_size, Tells, TellsOutput, TellsCall, TellsPlain};
 
-use fields::{Outcome, Refusal, Source, Written};
+use fields::{Failure, Refusal, Size, Source};
 use narrowed_question::Members;
 
 // What a call that is accepted returns; every refusal has a number of its own.
 const ACCEPTED: u64 = 0;
 
 // Tells a refusal: leaves its place and the number of what it is about, returns its own number.
-fn tell_refusal(s: Source, r: Refusal, first: &mut u64, second: &mut u64) -> u64
-    ensures { tells result first.new second.new ≡ tells (number_of r) (place_of r) (source_number s) }
+fn tell_failure(f: Failure, first: &mut u64, second: &mut u64) -> u64
+    ensures { tells result first.new second.new ≡ tells (number_of f.refusal) (place_of f.refusal) (source_number f.source) }
 {
-    *first = fields::place_of(r) as u64;
-    *second = bits::wide(fields::source_number(s));
-    bits::wide(fields::number_of(r))
+    *first = f.refusal.place() as u64;
+    *second = u64::from(u8::from(f.source));
+    u64::from(f.refusal.number())
 }
 
-fn tell(o: Outcome, first: &mut u64, second: &mut u64) -> u64
-    ensures { Tells no_more (outcome_said o) (tells result first.new second.new) }
-{
-    match o {
-        Outcome::Accepted => {
-            *first = 0;
-            *second = 0;
-            ACCEPTED
-        }
-        Outcome::Refused(s, r) => tell_refusal(s, r, first, second),
-    }
-}
-
-fn tell_file(o: Written, first: &mut u64, second: &mut u64) -> u64
+fn tell_file(o: Result<Size, Failure>, first: &mut u64, second: &mut u64) -> u64
     ensures { Tells of_size (written_said o) (tells result first.new second.new) }
 {
     match o {
-        Written::File(count, bytes) => {
-            *first = count as u64;
-            *second = bytes as u64;
+        Ok(size) => {
+            *first = size.count as u64;
+            *second = size.bytes as u64;
             ACCEPTED
         }
-        Written::Refused(s, r) => tell_refusal(s, r, first, second),
+        Err(f) => tell_failure(f, first, second),
+    }
+}
+
+fn tell(o: Result<(), Failure>, first: &mut u64, second: &mut u64) -> u64
+    ensures { Tells no_more (outcome_said o) (tells result first.new second.new) }
+{
+    match o {
+        Ok(()) => tell_file(Ok(Size { count: 0, bytes: 0 }), first, second),
+        Err(f) => tell_failure(f, first, second),
     }
 }
 
 // ---- how each file is judged, and the writer
 
+// By what its reader gives.
+fn judge<T>(source: Source, read: &Result<T, Refusal>) -> Result<(), Failure>
+    ensures { outcome_said result ≡ judged_by source read.now }
+{
+    match read {
+        Ok(_) => Ok(()),
+        Err(r) => Err(r.about(source)),
+    }
+}
+
 // Whether the bytes are the file of a sheet.
-pub fn judge_sheet(file: &[u8]) -> Outcome
+pub fn judge_sheet(file: &[u8]) -> Result<(), Failure>
     ensures { outcome_said result ≡ judged source.Sheet (read sheet_form file.now) }
 {
-    let s = sheet::read(file);
-    let outcome = s.outcome;
-    match outcome {
-        sheet::Outcome::Refused(r) => Outcome::Refused(Source::Sheet, r),
-        sheet::Outcome::Accepted(_, _) => Outcome::Accepted,
-    }
+    judge(Source::Sheet, &sheet::read(file))
 }
 
 // Of a question.
-pub fn judge_question(file: &[u8]) -> Outcome
+pub fn judge_question(file: &[u8]) -> Result<(), Failure>
     ensures { outcome_said result ≡ judged source.Question (read question_form file.now) }
 {
-    let q = question::read(file);
-    let outcome = q.outcome;
-    match outcome {
-        question::Outcome::Refused(r) => Outcome::Refused(Source::Question, r),
-        question::Outcome::Accepted(_) => Outcome::Accepted,
-    }
+    judge(Source::Question, &question::read(file))
 }
 
 // Of a narrowed question.
-pub fn judge_narrowed(file: &[u8]) -> Outcome
+pub fn judge_narrowed(file: &[u8]) -> Result<(), Failure>
     ensures { outcome_said result ≡ judged source.Narrowed (read narrowed_form file.now) }
 {
-    let q = narrowed_question::read(file);
-    let outcome = q.outcome;
-    match outcome {
-        narrowed_question::Outcome::Refused(r) => Outcome::Refused(Source::Narrowed, r),
-        narrowed_question::Outcome::Accepted(_) => Outcome::Accepted,
-    }
+    judge(Source::Narrowed, &narrowed_question::read(file))
 }
 
 // Of a register.
-pub fn judge_register(file: &[u8]) -> Outcome
+pub fn judge_register(file: &[u8]) -> Result<(), Failure>
     ensures { outcome_said result ≡ judged source.Register (read register_form file.now) }
 {
-    match register::read(file) {
-        register::Outcome::Refused(r) => Outcome::Refused(Source::Register, r),
-        register::Outcome::Accepted(_, _) => Outcome::Accepted,
-    }
+    judge(Source::Register, &register::read(file))
 }
 
 // Writes members of any contents as a narrowed question's file.
-pub fn write(members: Members, area: &mut [u8]) -> narrowed_writer::Written
-    ensures { Writes members area.old result area.new }
+pub fn write(members: &Members, area: &mut [u8]) -> Result<usize, Refusal>
+    ensures { Writes members.now area.old result area.new }
 {
     narrowed_writer::write(members, area)
 }

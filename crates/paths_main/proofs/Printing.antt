@@ -15,15 +15,16 @@ use Rattle.theory.specs.Words.{row_words, answer_words}
 use Rattle.theory.specs.Evaluation.{narrowed_answer}
 use Rattle.fields.specs.declared.Source.{Source}
 use Rattle.fields.specs.declared.Refusal.{Refusal}
-use Rattle.fields.specs.declared.Written.{Written}
-use Rattle.fields.specs.declared.Written.TheVariants as written
+use Rattle.std.specs.Prelude as std
+use Rattle.std.specs.Prelude.{Ok, Err}
+use Rattle.fields.specs.declared.Failure.{Failure}
+use Rattle.fields.specs.declared.Size.{Size}
 use Rattle.theory.specs.Result.{got, refused}
-use Rattle.fields.specs.Call.{Outcome, accepts, Returns, Size, size}
+use Rattle.fields.specs.Call.{Outcome, accepts, Returns}
 use Rattle.fields.specs.Reading.{read}
-use Rattle.fields.specs.Contract.{number_of, place_of, written_said}
-use Rattle.register.specs.declared.Outcome as register·Outcome
-use Rattle.register.specs.declared.Outcome.TheVariants as register·outcome
-use Rattle.register.specs.Contract.{outcome_said, sized}
+use Rattle.fields.specs.Contract.{number_of, place_of, read_said, written_said}
+use Rattle.register.specs.declared.Register as declared·Register
+use Rattle.register.specs.Contract.{RegisterSizes, sizes, sized}
 use Rattle.register.proofs.ReaderOutcome.{refused_file, accepted_records}
 use Rattle.register.specs.Form.{register_form, register_in, value_of}
 use Rattle.relation.specs.Pairs.{pair_at}
@@ -71,24 +72,24 @@ pub job_register : (s q g : List ℕ) (z : Size) (e : (job_of s q g).outcome ≡
 unfolding register_in
 job_register s q g z e = ap value_of (accepted_job s q g z e).register_reads
 
-module _ (s q g : List ℕ) {o : Written} {work answer area : List ℕ} (j : Returns (job_of s q g) (written_said o) work (results answer area)) where
-  printed_refused : (f : Source) (r : Refusal) → o ≡ written.Refused f r → printed s q g ≡ refusal_text f (number_of r) (place_of r)
+module _ (s q g : List ℕ) {o : std.Result Size Failure} {work answer area : List ℕ} (j : Returns (job_of s q g) (written_said o) work (results answer area)) where
+  printed_refused : (f : Failure) → o ≡ Err f → printed s q g ≡ refusal_text f.source (number_of f.refusal) (place_of f.refusal)
   unfolding printed
-  printed_refused f r e = rw (← j.is, e)
+  printed_refused f e = rw (← j.is, e)
 
-  module _ (m b : ℕ) (e : o ≡ written.File m b) where
-    printed_accepted : printed s q g ≡ answer_of m answer (register_in g)
+  module _ (z : Size) (e : o ≡ Ok z) where
+    printed_accepted : printed s q g ≡ answer_of z.count answer (register_in g)
     unfolding printed
     printed_accepted = rw (← j.is, e)
 
-    abbrev told : (job_of s q g).outcome ≡ accepts (size m b)
+    abbrev told : (job_of s q g).outcome ≡ accepts z
     told = sym (ap (λ x. x.outcome) j.is) ∙ ap written_said e
 
-    abbrev job : job·Accepted.Accepted s q g (zeros 8192) (zeros 256) (job_of s q g).areas.answer (zeros 65536) (job_of s q g).areas.area (size m b)
-    job = accepted_job s q g (size m b) told
+    abbrev job : job·Accepted.Accepted s q g (zeros 8192) (zeros 256) (job_of s q g).areas.answer (zeros 65536) (job_of s q g).areas.area z
+    job = accepted_job s q g z told
 
     abbrev is_register : register_in g ≡ job.register
-    is_register = job_register s q g (size m b) told
+    is_register = job_register s q g z told
 
     fits : Printable g answer
     fits = record {
@@ -115,42 +116,47 @@ unfolding job_of
 as_lent s q g ew ea ef j = rw (ew ∙ copies_zeros 8192, ea ∙ copies_zeros 256, ef ∙ copies_zeros 65536) at j
 
 module _ (s q g : List ℕ) {work answer file : List ℕ} (ew : work ≡ copies 0 8192) (ea : answer ≡ copies 0 256) (ef : file ≡ copies 0 65536)
-    {o : Written} {work' answer' file' : List ℕ} (j : Returns (job_call s q g work answer file) (written_said o) work' (results answer' file')) where
-  pub job_fits : (m b : ℕ) → o ≡ written.File m b → Printable g answer'
-  job_fits m b e = fits s q g (as_lent s q g ew ea ef j) m b e
+    {o : std.Result Size Failure} {work' answer' file' : List ℕ} (j : Returns (job_call s q g work answer file) (written_said o) work' (results answer' file')) where
+  pub job_fits : (z : Size) → o ≡ Ok z → Printable g answer'
+  job_fits z e = fits s q g (as_lent s q g ew ea ef j) z e
 
   module _ {out out' : List ℕ} {n : ℕ} (room : 131128 ≤ length out) where
-    pub prints_refused : (f : Source) (r : Refusal) → o ≡ written.Refused f r → BytesWritten out out' 0 n (refusal_text f (number_of r) (place_of r)) → Prints (printed s q g) n out'
-    prints_refused f r e w = rw (printed_refused s q g (as_lent s q g ew ea ef j) f r e) (prints w (omega (arith, refusal_most f (number_of r) (place_of r))))
+    pub prints_refused : (f : Failure) → o ≡ Err f → BytesWritten out out' 0 n (refusal_text f.source (number_of f.refusal) (place_of f.refusal)) → Prints (printed s q g) n out'
+    prints_refused f e w =
+        rw (printed_refused s q g (as_lent s q g ew ea ef j) f e) (prints w (omega (arith, refusal_most f.source (number_of f.refusal) (place_of f.refusal))))
 
-    pub prints_accepted : (m b : ℕ) → o ≡ written.File m b → BytesWritten out out' 0 n (answer_of m answer' (register_in g)) → Prints (printed s q g) n out'
-    prints_accepted m b e w =
-        rw (printed_accepted s q g (as_lent s q g ew ea ef j) m b e)
-        (prints w (omega (arith, answer_most m (pair_at answer' 0 (row_words (records (register_in g)))) (records (register_in g)) (job_fits m b e).few)))
+    pub prints_accepted : (z : Size) → o ≡ Ok z → BytesWritten out out' 0 n (answer_of z.count answer' (register_in g)) → Prints (printed s q g) n out'
+    prints_accepted z e w =
+        rw (printed_accepted s q g (as_lent s q g ew ea ef j) z e)
+        (prints w (omega (arith, answer_most z.count (pair_at answer' 0 (row_words (records (register_in g)))) (records (register_in g)) (job_fits z e).few)))
 
 pub refusal_room : (f : Source) (n p room : ℕ) → 131128 ≤ room → 0 + length (refusal_text f n p) ≤ room
 refusal_room f n p room h = omega (arith, refusal_most f n p)
 
 -- ---- its number of records
-module _ (g ws : List ℕ) (o : register·Outcome.Outcome) (h : outcome_said o ≡ sized (read register_form g)) (f : Printable g ws) where
-  pub never_refused : (r : Refusal) → o ≡ register·outcome.Refused r → ⊥
+-- what a register's reader says
+abbrev said : declared·Register.Register → RegisterSizes
+said r = sizes r.records r.links
+
+module _ (g ws : List ℕ) (o : std.Result declared·Register.Register Refusal) (h : read_said said o ≡ sized (read register_form g)) (f : Printable g ws) where
+  pub never_refused : (r : Refusal) → o ≡ Err r → ⊥
   never_refused r e =
-      let same : got (register_in g) ≡ refused (number_of r) (place_of r) = sym f.accepted ∙ refused_file g o h r e in
+      let same : got (register_in g) ≡ refused (number_of r) (place_of r) = sym f.accepted ∙ refused_file said g o h r e in
       let z : ◌≡◌ {A = ℕ} 0 1 = cc in
       omega arith
 
-  module _ (n l w : ℕ) (e : o ≡ register·outcome.Accepted n l) (u : w ≡ row_words n) where
-    is_records : n ≡ records (register_in g)
-    is_records = accepted_records g o h n l e
+  module _ (r : declared·Register.Register) (w : ℕ) (e : o ≡ Ok r) (u : w ≡ row_words r.records) where
+    is_records : r.records ≡ records (register_in g)
+    is_records = accepted_records said g o h r e
 
-    pub few_records : n ≤ 128
+    pub few_records : r.records ≤ 128
     few_records = omega (arith, is_records, f.few)
 
-    pub words_room : n * w ≤ length ws
+    pub words_room : r.records * w ≤ length ws
     words_room = rw (u, is_records) f.room
 
-    pub is_answer : (m : ℕ) → answer_text m (pair_at ws 0 w) n ≡ answer_of m ws (register_in g)
+    pub is_answer : (m : ℕ) → answer_text m (pair_at ws 0 w) r.records ≡ answer_of m ws (register_in g)
     is_answer m = rw (u, is_records)
 
-    pub answer_room : (m room : ℕ) → 131128 ≤ room → 0 + length (answer_text m (pair_at ws 0 w) n) ≤ room
-    answer_room m room k = omega (arith, answer_most m (pair_at ws 0 w) n few_records)
+    pub answer_room : (m room : ℕ) → 131128 ≤ room → 0 + length (answer_text m (pair_at ws 0 w) r.records) ≤ room
+    answer_room m room k = omega (arith, answer_most m (pair_at ws 0 w) r.records few_records)

@@ -7,7 +7,8 @@ use Rattle.theory.specs.Words.{row_words}
 use Rattle.relation.specs.Pairs.{pair_at}
 use Rattle.register.specs.Form.{register_in}
 use Rattle.register.specs.LinksAhead.{Accepted}
-use Rattle.fields.specs.Call.{Returned, Size}
+use Rattle.fields.specs.declared.Size.{Size}
+use Rattle.fields.specs.Call.{Returned}
 use Rattle.job.specs.Call.{Results, job_call}
 use Rattle.printing.specs.Text.{answer_text, text_of}
 

@@ -7,7 +7,8 @@ ghost use Rattle.register.specs.Form.{register_in};
 ghost use Rattle.encode.specs.BytesWritten.{BytesWritten};
 ghost use Rattle.paths_main.specs.Output.{copies, printed, Prints, Printable, answer_of};
 
-use fields::{Source, Written};
+use fields::Source;
+use register::Register;
 use std::io::Read;
 use std::rt::Files;
 use std::{fs, io};
@@ -36,15 +37,15 @@ fn put_answer(out: &mut [u8], members: usize, answer: &[u64], register: &[u8]) -
     ensures { BytesWritten out.old out.new 0 result (answer_of members answer.now (register_in register.now)) }
 {
     match register::read(register) {
-        register::Outcome::Refused(r) => printing::put_refusal(out, 0, Source::Register, r),
-        register::Outcome::Accepted(n, _) => printing::put_answer(
+        Ok(Register { records, .. }) => printing::put_answer(
             out,
             0,
             members,
             answer,
-            n,
-            answer::row_words(n),
+            records,
+            answer::row_words(records),
         ),
+        Err(r) => printing::put_refusal(out, 0, Source::Register, r),
     }
 }
 
@@ -57,8 +58,8 @@ fn run(sheet: &[u8], question: &[u8], register: &[u8], out: &mut [u8]) -> usize
     let mut answer: [u64; ANSWER] = filled(0);
     let mut file: [u8; FILE] = filled(0);
     match job::whole_job(sheet, question, register, &mut work, &mut answer, &mut file) {
-        Written::Refused(source, r) => printing::put_refusal(out, 0, source, r),
-        Written::File(members, _) => put_answer(out, members, &answer, register),
+        Ok(size) => put_answer(out, size.count, &answer, register),
+        Err(f) => printing::put_refusal(out, 0, f.source, f.refusal),
     }
 }
 

@@ -8,7 +8,8 @@ use Rattle.theory.specs.Words.{row_words}
 use Rattle.relation.specs.Pairs.{pair_at}
 use Rattle.fields.specs.declared.Source.{Source}
 use Rattle.fields.specs.declared.Source.TheVariants.{Sheet, Question, Narrowed, Register, Work}
-use Rattle.fields.specs.Call.{Outcome, accepts, refuses, Size}
+use Rattle.fields.specs.declared.Size.{Size}
+use Rattle.fields.specs.Call.{Outcome, accepts, refuses}
 
 -- ---- numbers
 -- the last digits of n, at most the given number of them, without a 0 in front

@@ -132,8 +132,8 @@ pub fn put_refusal(out: &mut [u8], at: usize, source: Source, r: Refusal) -> usi
     requires { at + length (refusal_text source (number_of r) (place_of r)) ≤ length out.old }
     ensures { BytesWritten out.old out.new at result (refusal_text source (number_of r) (place_of r)) }
 {
-    let a = put_number(out, at, b"refused ", u64::from(fields::number_of(r)));
+    let a = put_number(out, at, b"refused ", u64::from(r.number()));
     let b = put_text(out, a, source_text(source));
-    let c = put_number(out, b, b" at ", fields::place_of(r) as u64);
+    let c = put_number(out, b, b" at ", r.place() as u64);
     put_text(out, c, b"\n")
 }

@@ -127,7 +127,9 @@ module _ (left : List ℕ) (m : ℕ) (p : PathExpr) (out : List ℕ) (contexts :
   by_stack : {depth : ℕ} {xs : List Pend} → Stacked contexts depth xs → left ++ (m ∷ []) ≡ before xs → after xs (drop start out) ≡ codes (normal_form p)
       → Room (left ++ (m ∷ [])) out contexts depth start → Top depth
   by_stack bottom l w r = absurd (omega (arith, ap length l, length-append left (m ∷ [])))
-  by_stack (upon {d} {xs} x e s) l w r = record { some = omega arith; room = omega (arith, r.room, length-append left (m ∷ [])); next = subst Turned (let z : d ≡ suc d - 1 = omega arith in z) (on_top d x xs e s l w r) }
+  by_stack (upon {d} {xs} x e s) l w r =
+      let z : d ≡ suc d - 1 = omega arith in
+      record { some = omega arith; room = omega (arith, r.room, length-append left (m ∷ [])); next = subst Turned z (on_top d x xs e s l w r) }
 
   pub pass_top : {depth : ℕ} {now : List ℕ} → now ≡ left ++ (m ∷ []) → Pass now p out contexts depth start → Top depth
   pass_top {depth} e h = let g = subst (λ (l : List ℕ). Pass l p out contexts depth start) e h in by_stack g.stacked g.lefts g.whole g.fits
@@ -141,7 +143,8 @@ empty : (l : List ℕ) → length l ≡ 0 → l ≡ []
 empty [] e = refl
 empty (x ∷ l) e = absurd (omega arith)
 
-pub pass_end : {left : List ℕ} {p : PathExpr} {out : List ℕ} {contexts : List Context} {depth start : ℕ} → Pass left p out contexts depth start → length left ≡ 0 → drop start out ≡ codes (normal_form p)
+pub pass_end : {left : List ℕ} {p : PathExpr} {out : List ℕ} {contexts : List Context} {depth start : ℕ} → Pass left p out contexts depth start → length left ≡ 0
+    → drop start out ≡ codes (normal_form p)
 pass_end {left} {p} {out} {contexts} {depth} {start} h l =
     let e = nothing h.pending (sym h.lefts ∙ empty left l) in
     ap (λ (xs : List Pend). after xs (drop start out)) (sym e) ∙ h.whole

@@ -3,7 +3,7 @@
 // Assumed of std's standard input and output: that their calls return, and keep to their buffers.
 #![tactic(auto)]
 
-use fields::Outcome;
+use fields::Failure;
 use std::io;
 use test_report::Files;
 
@@ -25,10 +25,10 @@ const WORK: usize = 11000;
 const ANSWER: usize = 400;
 
 // What a call says: number, file and place of a refusal.
-fn outcome(rt: &impl Print, o: Outcome) -> io::Result<()> {
+fn outcome(rt: &impl Print, o: Result<(), Failure>) -> io::Result<()> {
     match o {
-        Outcome::Accepted => print!(rt; "accepted"),
-        Outcome::Refused(source, r) => test_report::refused(rt, source, r),
+        Ok(()) => print!(rt; "accepted"),
+        Err(f) => test_report::refused(rt, f),
     }
 }
 
@@ -37,7 +37,12 @@ fn run_check(rt: &impl Print, files: Files) -> io::Result<()> {
     println!(rt)
 }
 
-fn call(tag: u8, files: Files, work: &mut [u64], answer: &mut [u64]) -> Outcome {
+fn call(
+    tag: u8,
+    files: Files,
+    work: &mut [u64],
+    answer: &mut [u64],
+) -> Result<(), Failure> {
     if tag == PLAIN {
         answer::plain_answer(files.question, files.register, work, answer)
     } else {

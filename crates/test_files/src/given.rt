@@ -33,40 +33,28 @@ fn long_at(s: &[u8], at: usize) -> u64 {
     }
 }
 
-fn empty_members(count: usize) -> Members {
-    Members {
-        count,
-        sizes: [0; MEMBERS],
-        from: [0; MEMBERS],
-        to: [0; MEMBERS],
-        numbers: [0; SYMBOLS],
-        sets: [0; SYMBOLS],
-    }
-}
-
-fn with_rows(q: Members, s: &[u8], rows: usize) -> Members {
-    let mut r = q;
+fn put_rows(members: &mut Members, s: &[u8], rows: usize) {
     for i in 0..rows.min(MEMBERS) {
-        r.sizes[i] = byte_at(s, ROWS_AT + ROW * i);
-        r.from[i] = long_at(s, FROM_AT + ROW * i);
-        r.to[i] = long_at(s, TO_AT + ROW * i);
+        members.sizes[i] = byte_at(s, ROWS_AT + ROW * i);
+        members.from[i] = long_at(s, FROM_AT + ROW * i);
+        members.to[i] = long_at(s, TO_AT + ROW * i);
     }
-    r
 }
 
-fn with_symbols(q: Members, s: &[u8], from: usize) -> Members
+fn put_symbols(members: &mut Members, s: &[u8], from: usize)
     requires { from < 4294967296 }
 {
-    let mut r = q;
     for i in 0..SYMBOLS {
-        r.numbers[i] = byte_at(s, from + SYMBOL * i);
-        r.sets[i] = long_at(s, from + SYMBOL * i + 1);
+        members.numbers[i] = byte_at(s, from + SYMBOL * i);
+        members.sets[i] = long_at(s, from + SYMBOL * i + 1);
     }
-    r
 }
 
 pub fn given(s: &[u8]) -> Members {
     let rows = test_report::two_at(s, ROW_COUNT_AT);
-    let q = with_rows(empty_members(long_at(s, COUNT_AT) as usize), s, rows);
-    with_symbols(q, s, ROWS_AT + ROW * rows)
+    let mut members = Members::blank();
+    members.count = long_at(s, COUNT_AT) as usize;
+    put_rows(&mut members, s, rows);
+    put_symbols(&mut members, s, ROWS_AT + ROW * rows);
+    members
 }

@@ -3,8 +3,8 @@ use fields::Refusal;
 use std::io;
 
 pub fn refused(rt: &impl Print, r: Refusal) -> io::Result<()> {
-    let number = fields::number_of(r);
-    let place = fields::place_of(r);
+    let number = r.number();
+    let place = r.place();
     print!(rt; "refused {number} {place} ")
 }
 

@@ -7,7 +7,7 @@ mod digest;
 mod given;
 mod line;
 
-use narrowed_writer::Written;
+use narrowed_question::Members;
 use std::io;
 use test_report::{NARROWED, QUESTION, REGISTER, SHEET};
 
@@ -18,57 +18,64 @@ const WRITER: u8 = 5;
 const SPACE: usize = 65536;
 
 fn run_sheet(rt: &impl Print, s: &[u8]) -> io::Result<()> {
-    let r = sheet::read(s);
-    let outcome = r.outcome;
-    match outcome {
-        sheet::Outcome::Accepted(k, e) => {
-            line::read(rt, u64::from(k))?;
-            test_report::number(rt, u64::from(e))?;
+    match &sheet::read(s) {
+        Ok(sheet) => {
+            line::read(rt, u64::from(sheet.kinds))?;
+            test_report::number(rt, u64::from(sheet.links))?;
+            test_report::end(rt, test_report::mix_words(0, &sheet.table))
         }
-        sheet::Outcome::Refused(x) => line::refused(rt, x)?,
+        Err(r) => {
+            line::refused(rt, *r)?;
+            test_report::end(rt, test_report::mix_words(0, &[0; sheet::TABLE]))
+        }
     }
-    test_report::end(rt, test_report::mix_words(0, &r.table))
 }
 
 fn run_question(rt: &impl Print, s: &[u8]) -> io::Result<()> {
-    let r = question::read(s);
-    let outcome = r.outcome;
-    match outcome {
-        question::Outcome::Accepted(n) => line::read(rt, n as u64)?,
-        question::Outcome::Refused(x) => line::refused(rt, x)?,
+    match question::read(s) {
+        Ok(q) => {
+            line::read(rt, q.count as u64)?;
+            test_report::end(rt, test_report::mix_bytes(0, &q.codes))
+        }
+        Err(r) => {
+            line::refused(rt, r)?;
+            test_report::end(rt, test_report::mix_bytes(0, &[0; question::MOST_SYMBOLS]))
+        }
     }
-    test_report::end(rt, test_report::mix_bytes(0, &r.codes))
 }
 
 fn run_register(rt: &impl Print, s: &[u8]) -> io::Result<()> {
     match register::read(s) {
-        register::Outcome::Accepted(n, l) => {
-            line::read(rt, n as u64)?;
-            test_report::number(rt, l as u64)?;
-            test_report::end(rt, digest::mix_links(digest::mix_kinds(0, s, n), s))
+        Ok(register) => {
+            line::read(rt, register.records as u64)?;
+            test_report::number(rt, register.links as u64)?;
+            test_report::end(rt, digest::mix_register(&register))
         }
-        register::Outcome::Refused(x) => {
-            line::refused(rt, x)?;
+        Err(r) => {
+            line::refused(rt, r)?;
             test_report::end(rt, 0)
         }
     }
 }
 
 fn run_narrowed(rt: &impl Print, s: &[u8]) -> io::Result<()> {
-    let r = narrowed_question::read(s);
-    let outcome = r.outcome;
-    match outcome {
-        narrowed_question::Outcome::Accepted(n) => line::read(rt, n as u64)?,
-        narrowed_question::Outcome::Refused(x) => line::refused(rt, x)?,
+    match &narrowed_question::read(s) {
+        Ok(members) => {
+            line::read(rt, members.count as u64)?;
+            test_report::end(rt, digest::mix_members(members))
+        }
+        Err(r) => {
+            line::refused(rt, *r)?;
+            test_report::end(rt, digest::mix_members(&Members::blank()))
+        }
     }
-    test_report::end(rt, digest::mix_members(&r.members))
 }
 
 // The area is no longer than the vector says, so that what lies past a file, and an area left untouched, show in its digest.
 fn write_into(rt: &impl Print, area: &mut [u8], s: &[u8]) -> io::Result<()> {
-    match narrowed_writer::write(given::given(s), area) {
-        Written::Accepted(n) => line::wrote(rt, n as u64)?,
-        Written::Refused(x) => line::refused(rt, x)?,
+    match narrowed_writer::write(&given::given(s), area) {
+        Ok(n) => line::wrote(rt, n as u64)?,
+        Err(r) => line::refused(rt, r)?,
     }
     test_report::end(rt, test_report::mix_bytes(0, area))
 }

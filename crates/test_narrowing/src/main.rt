@@ -3,7 +3,7 @@
 // Assumed of std's standard input and output: that their calls return, and keep to their buffers.
 #![tactic(auto)]
 
-use fields::Written;
+use fields::{Failure, Size};
 use std::io;
 use test_report::Files;
 
@@ -25,10 +25,10 @@ const WORK: usize = 8200;
 const FILE: usize = 70200;
 
 // What the call says: members and bytes of the file; or number, file and place of a refusal.
-fn outcome(rt: &impl Print, o: Written) -> io::Result<()> {
+fn outcome(rt: &impl Print, o: Result<Size, Failure>) -> io::Result<()> {
     match o {
-        Written::File(members, bytes) => print!(rt; "file {members} {bytes}"),
-        Written::Refused(source, r) => test_report::refused(rt, source, r),
+        Ok(Size { count, bytes }) => print!(rt; "file {count} {bytes}"),
+        Err(f) => test_report::refused(rt, f),
     }
 }
 

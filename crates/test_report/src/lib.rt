@@ -4,7 +4,7 @@
 
 ghost use Rattle.std.specs.Prelude.{◌≡◌, ◌<◌, ◌≤◌, length};
 
-use fields::{Raw, Refusal, Source};
+use fields::{Failure, Raw};
 use std::io;
 use std::io::Read;
 
@@ -164,10 +164,10 @@ pub fn end(rt: &impl Print, n: u64) -> io::Result<()> {
 }
 
 // A call's refusal: its number, file and place.
-pub fn refused(rt: &impl Print, source: Source, r: Refusal) -> io::Result<()> {
-    let number = fields::number_of(r);
-    let file = fields::source_number(source);
-    let place = fields::place_of(r);
+pub fn refused(rt: &impl Print, f: Failure) -> io::Result<()> {
+    let number = f.refusal.number();
+    let file = u8::from(f.source);
+    let place = f.refusal.place();
     print!(rt; "refused {number} {file} {place}")
 }
 

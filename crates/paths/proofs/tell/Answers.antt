@@ -1,10 +1,10 @@
--- `paths::tell` meets its contract: acceptance is told by three zeros, a refusal by its own numbers, and no refusal has the number 0.
+-- `paths::tell` meets its contract: where nothing more is told, three zeros tell of acceptance; a refusal is told by its own numbers, none of which is 0.
 -- Assumes nothing.
-use Rattle.paths.proofs.OutcomeNumbers.{tells_accepted, tells_refused}
+use Rattle.paths.proofs.OutcomeNumbers.{tells_nothing, tells_refused}
 use Rattle.paths.proofs.tell.Goals as goal
 
-pub returns-in-Accepted : goal.returns-in-Accepted
-returns-in-Accepted c = tells_accepted c.in-Accepted.is
+pub returns-in-Ok : goal.returns-in-Ok
+returns-in-Ok c = tells_nothing c.in-Ok.is c.tell_file.ensures
 
-pub returns-in-Refused : goal.returns-in-Refused
-returns-in-Refused c = tells_refused c.in-Refused.is c.tell_refusal.ensures
+pub returns-in-Err : goal.returns-in-Err
+returns-in-Err c = tells_refused c.in-Err.is c.tell_failure.ensures

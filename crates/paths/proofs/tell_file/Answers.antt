@@ -3,8 +3,8 @@
 use Rattle.paths.proofs.OutcomeNumbers.{tells_written, tells_unwritten}
 use Rattle.paths.proofs.tell_file.Goals as goal
 
-pub returns-in-File : goal.returns-in-File
-returns-in-File c = tells_written c.in-File.is
+pub returns-in-Ok : goal.returns-in-Ok
+returns-in-Ok c = tells_written c.in-Ok.is
 
-pub returns-in-Refused : goal.returns-in-Refused
-returns-in-Refused c = tells_unwritten c.in-Refused.is c.tell_refusal.ensures
+pub returns-in-Err : goal.returns-in-Err
+returns-in-Err c = tells_unwritten c.in-Err.is c.tell_failure.ensures

@@ -7,23 +7,23 @@ use mathlib.Core.Path.{refl}
 use Rattle.paths_main.proofs.put_answer.Goals as goal
 
 pub put_refusal-requires : goal.put_refusal-requires
-put_refusal-requires c = absurd (never_refused _ _ _ c.read.ensures c.requires.0 _ c.in-Refused.is)
+put_refusal-requires c = absurd (never_refused _ _ _ c.read.ensures.said c.requires.0 _ c.in-Err.is)
 
 pub row_words-requires : goal.row_words-requires
-row_words-requires c = omega (arith, few_records _ _ _ c.read.ensures c.requires.0 _ _ _ c.in-Accepted.is refl)
+row_words-requires c = omega (arith, few_records _ _ _ c.read.ensures.said c.requires.0 _ _ c.in-Ok.is refl)
 
 pub put_answer-requires : goal.put_answer-requires
 put_answer-requires c =
-    let n : c.in-Accepted.n ≤ 128 = few_records _ _ _ c.read.ensures c.requires.0 _ _ _ c.in-Accepted.is c.row_words.ensures in (
+    let n : c.in-Ok.records ≤ 128 = few_records _ _ _ c.read.ensures.said c.requires.0 _ _ c.in-Ok.is c.row_words.ensures in (
       c.row_words.ensures,
       omega arith,
-      words_room _ _ _ c.read.ensures c.requires.0 _ _ _ c.in-Accepted.is c.row_words.ensures,
-      answer_room _ _ _ c.read.ensures c.requires.0 _ _ _ c.in-Accepted.is c.row_words.ensures _ _ c.requires.1,
+      words_room _ _ _ c.read.ensures.said c.requires.0 _ _ c.in-Ok.is c.row_words.ensures,
+      answer_room _ _ _ c.read.ensures.said c.requires.0 _ _ c.in-Ok.is c.row_words.ensures _ _ c.requires.1,
     )
 
-pub returns-in-Refused : goal.returns-in-Refused
-returns-in-Refused c = absurd (never_refused _ _ _ c.read.ensures c.requires.0 _ c.in-Refused.is)
+pub returns-in-Err : goal.returns-in-Err
+returns-in-Err c = absurd (never_refused _ _ _ c.read.ensures.said c.requires.0 _ c.in-Err.is)
 
-pub returns-in-Accepted : goal.returns-in-Accepted
-returns-in-Accepted c =
-    rw (is_answer _ _ _ c.read.ensures c.requires.0 _ _ _ c.in-Accepted.is c.row_words.ensures _) at c.put_answer.ensures
+pub returns-in-Ok : goal.returns-in-Ok
+returns-in-Ok c =
+    rw (is_answer _ _ _ c.read.ensures.said c.requires.0 _ _ c.in-Ok.is c.row_words.ensures _) at c.put_answer.ensures

@@ -8,14 +8,14 @@ put_refusal-requires c = refusal_room _ _ _ _ c.requires
 
 pub put_answer-requires : goal.put_answer-requires
 put_answer-requires c =
-    (job_fits _ _ _ c.filled-work.ensures.all c.filled-answer.ensures.all c.filled-file.ensures.all c.whole_job.ensures.returns _ _ c.in-File.is, c.requires)
+    (job_fits _ _ _ c.filled-work.ensures.all c.filled-answer.ensures.all c.filled-file.ensures.all c.whole_job.ensures.returns _ c.in-Ok.is, c.requires)
 
-pub returns-in-Refused : goal.returns-in-Refused
-returns-in-Refused c =
-    prints_refused _ _ _ c.filled-work.ensures.all c.filled-answer.ensures.all c.filled-file.ensures.all c.whole_job.ensures.returns c.requires _ _ c.in-Refused.is
+pub returns-in-Err : goal.returns-in-Err
+returns-in-Err c =
+    prints_refused _ _ _ c.filled-work.ensures.all c.filled-answer.ensures.all c.filled-file.ensures.all c.whole_job.ensures.returns c.requires _ c.in-Err.is
     c.put_refusal.ensures
 
-pub returns-in-File : goal.returns-in-File
-returns-in-File c =
-    prints_accepted _ _ _ c.filled-work.ensures.all c.filled-answer.ensures.all c.filled-file.ensures.all c.whole_job.ensures.returns c.requires _ _ c.in-File.is
+pub returns-in-Ok : goal.returns-in-Ok
+returns-in-Ok c =
+    prints_accepted _ _ _ c.filled-work.ensures.all c.filled-answer.ensures.all c.filled-file.ensures.all c.whole_job.ensures.returns c.requires _ c.in-Ok.is
     c.put_answer.ensures

@@ -29,7 +29,11 @@ sum-requires-clause-fits c =
     fits_by_from_yields_list (λ s. length (row c.args.words.now c.args.w c.args.n s)) (range_with_len 0 c.args.n) c.map.result _
     (YieldsList-from_map _ (λ s. length (row c.args.words.now c.args.w c.args.n s)) (YieldsList-from_range 0 c.args.n c.args.n (cc) (omega arith)) c.map.ensures.closure
     (λ x r q k. (search (rules, tests), row_told c.args.words.now c.args.w c.args.n x (search (rules, tests)))))
-    (omega (arith, summed_below (row c.args.words.now c.args.w c.args.n) c.args.n, pieces_most (row c.args.words.now c.args.w c.args.n) 1024 0 c.args.n (λ x h. omega (arith, passed_most (pair_at c.args.words.now 0 c.args.w x) c.args.n))))
+    (omega (
+      arith,
+      summed_below (row c.args.words.now c.args.w c.args.n) c.args.n,
+      pieces_most (row c.args.words.now c.args.w c.args.n) 1024 0 c.args.n (λ x h. omega (arith, passed_most (pair_at c.args.words.now 0 c.args.w x) c.args.n)),
+    ))
 
 pub returns : goal.returns
 returns c =

@@ -9,5 +9,5 @@ returns-then-file-n c = rw c.about.ensures (file_short _ _ _ c.measure-n.ensures
 
 pub returns : goal.returns
 returns c =
-    let h = c.put_question-bytes.ensures in
+    let h = c.put.ensures in
     file_put _ _ _ c.measure-n.ensures c.if-file-n.false refl h.1 h.0

@@ -54,7 +54,7 @@ pub record Roomy (g : Ground) (work : List ℕ) : Type 0 where
 abbrev pub due : Sheet → List ℕ → Ground → Narrowing
 due S qs g = narrow_checked S (register_on g) (question_symbols qs)
 
--- 11, 16, 12 or 13, 14 for the file, or the file and its answer; of the work words only those up to the need changed
+-- past 14 for the answer: 11, 16, 12 or 13, 14 for the file, or the file and its answer; of the work words only those up to the need changed
 pub record Completes (qs : List ℕ) (x : declared·Sheet.Sheet) (g : Ground) (work work' answer answer' area area' : List ℕ) (r : std.Result Size Refusal) : Type 0 where
   pub kept : Kept 0 (larger narrow_need (28 * size g)) work work'
   pub gives : (S : Sheet) → TellsSheet x S → Gives (completed (register_on g) (due S qs g) (results answer area)) (work_said r) (results answer' area')

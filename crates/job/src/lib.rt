@@ -8,7 +8,7 @@ ghost use Rattle.fields.specs.Contract.{written_said};
 ghost use Rattle.answer.specs.Calls.{plain_call};
 ghost use Rattle.job.specs.Call.{results, job_call};
 ghost use Rattle.job.specs.Contract.{AnswersPlain};
-ghost use Rattle.job.specs.Internal.{HasMembers, AnswersFile, Asked, Roomy, Completes, JobFills, Settles};
+ghost use Rattle.job.specs.Internal.{HasMembers, AnswersFile, Asked, Roomy, JobFills, Settles};
 
 use evaluation::Ground;
 use fields::{Failure, Refusal, Size, Source};
@@ -28,32 +28,7 @@ fn answer_file(file: &[u8], ground: &Ground<'_>, work: &mut [u64], answer: &mut 
     }
 }
 
-// 11, 16, 12 or 13, 14 for the file, or the file and its answer.
-fn job_codes(
-    symbols: &[u8],
-    sheet: &Sheet,
-    ground: &Ground<'_>,
-    work: &mut [u64],
-    answer: &mut [u64],
-    file: &mut [u8],
-) -> Result<Size, Refusal>
-    requires asked { Asked symbols.now sheet.now }
-    requires roomy { Roomy ground.now work.old }
-    requires room { size ground.now ≤ length answer.old }
-    ensures { Completes symbols.now sheet.now ground.now work.old work.new answer.old answer.new file.old file.new result }
-{
-    if let Some(i) = narrowing::first_unnamed(symbols, sheet.links) {
-        return Err(Refusal::UnnamedLink(i));
-    }
-    if let Some(i) = conformance::first_breach(&ground.register, sheet) {
-        return Err(Refusal::Breach(i));
-    }
-    let size = narrowing::narrow_named(symbols, sheet, work, file)?;
-    answer_file(&file[..size.bytes], ground, work, answer);
-    Ok(size)
-}
-
-// 14 for the answer, or as `job_codes`.
+// 14 for the answer; 11, 16, 12 or 13, 14 for the file; or the file and its answer.
 fn job_words(
     symbols: &[u8],
     sheet: &Sheet,
@@ -70,7 +45,15 @@ fn job_words(
     if answer.len() < need {
         return Err(Refusal::AreaShort(need));
     }
-    job_codes(symbols, sheet, ground, work, answer, file)
+    if let Some(i) = narrowing::first_unnamed(symbols, sheet.links) {
+        return Err(Refusal::UnnamedLink(i));
+    }
+    if let Some(i) = conformance::first_breach(&ground.register, sheet) {
+        return Err(Refusal::Breach(i));
+    }
+    let size = narrowing::narrow_named(symbols, sheet, work, file)?;
+    answer_file(&file[..size.bytes], ground, work, answer);
+    Ok(size)
 }
 
 // 15; or as `job_words`, and then the work words are zero.

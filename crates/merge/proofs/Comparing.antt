@@ -53,6 +53,9 @@ module _ {qs ws : List ℕ} {used i : ℕ} (h : Usable qs ws used i) where
     pub expanded_end : length xs ≡ 48 → r ≤ length xs'
     expanded_end ex = let z = fits in omega (arith, w.ends, w.codes_length)
 
+    pub expanded_sets_end : length ys ≡ 48 → r ≤ length ys'
+    expanded_sets_end ey = let z = fits in omega (arith, w.ends, w.sets_length)
+
     pub expanded_codes : length xs ≡ 48 → segment xs' 0 r ≡ codes (triple_of qs ws i).path
     expanded_codes ex =
         let z : r ≡ length (codes (triple_of qs ws i).path) = omega (arith, w.ends) in

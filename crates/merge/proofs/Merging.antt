@@ -31,7 +31,7 @@ use Rattle.merge.specs.declared.Ends.{Ends}
 use Rattle.merge.specs.Arrays.{segment}
 use Rattle.merge.specs.Arranging.{member_at, Usable}
 use Rattle.merge.specs.Runs.{Singles, Ored, Taking, Differ, Taken, HoldsMember, nodes_at, Running, Ran}
-use Rattle.merge.proofs.Segments.{segment_next, segment_end, length_segment, segment_take, segment_taken}
+use Rattle.merge.proofs.Segments.{segment_next, segment_end, segment_take, segment_taken}
 use Rattle.merge.proofs.Comparing.{ready, expanded_end, expanded_codes, expanded_sets, tells_same, tells_other}
 
 -- ---- sets ORed
@@ -73,45 +73,34 @@ differ a b n = go (trichotomy a b)
     go (inr (inr t)) = inr (to_true (before? b a) t)
 
 -- ---- a node taken in
-module _ {qs ws : List ℕ} {used i : ℕ} {cs ss : List ℕ} {n : ℕ} (h : Taking qs ws used i cs ss n) {xs ys xs' ys' : List ℕ} {m : ℕ}
-    (ex : length xs ≡ 48) (w : Expanded (triple_of qs ws i).path 0 xs ys xs' ys' m) where
-  abbrev own : List ℕ
-  own = codes (triple_of qs ws i).path
+module _ {qs ws : List ℕ} {used i : ℕ} {cs ss : List ℕ} (h : Taking qs ws used i cs ss) {xs ys xs' ys' : List ℕ} {m : ℕ} (ex : length xs ≡ 48)
+    (w : Expanded (triple_of qs ws i).path 0 xs ys xs' ys' m) where
+  own_codes : take m xs' ≡ codes (triple_of qs ws i).path
+  own_codes = sym (segment_take xs' m (expanded_end h.usable w ex)) ∙ expanded_codes h.usable w ex
 
-  own_codes : segment xs' 0 m ≡ own
-  own_codes = expanded_codes h.usable w ex
-
-  room : n ≤ length cs
-  room = omega (arith, h.few, h.codes_room)
-
-  fits : m ≤ length xs'
-  fits = expanded_end h.usable w ex
-
-  module _ {r : Bool} (e : r ≡ not (pointwise eqb (take n cs) (take m xs'))) where
-    pub taken_not : r ≡ true → Taken qs ws i cs ss ss n false
+  module _ {r : Bool} (e : r ≡ not (pointwise eqb cs (take m xs'))) where
+    pub taken_not : r ≡ true → Taken qs ws i cs ss ss false
     taken_not t =
         record {
           same_length = refl;
           equal = λ z. absurd (false≢true z);
           unions = λ z. absurd (false≢true z);
-          differ = λ z.
-              differ (segment cs 0 n) own
-              (λ k. tells_other (take n cs) (take m xs') r e t (sym (segment_take cs n room) ∙ k ∙ sym own_codes ∙ segment_take xs' m fits));
+          differ = λ z. differ cs (codes (triple_of qs ws i).path) (λ k. tells_other cs (take m xs') r e t (k ∙ sym own_codes));
           same = λ z. refl;
         }
 
-    pub taken_in : r ≡ false → length ys ≡ 48 → {ss' : List ℕ} → Ored (take n ys') ss ss' (length (take n ys')) → Taken qs ws i cs ss ss' n true
+    pub taken_in : r ≡ false → length ys ≡ 48 → {ss' : List ℕ} → Ored (take m ys') ss ss' (length (take m ys')) → Taken qs ws i cs ss ss' true
     taken_in f ey {ss'} o =
-        let k : segment cs 0 n ≡ segment xs' 0 m = segment_take cs n room ∙ tells_same (take n cs) (take m xs') r e f ∙ sym (segment_take xs' m fits) in
-        let z : n ≡ m = omega (arith, length_segment cs 0 n, length_segment xs' 0 m, ap length k) in
-        let l : n ≤ length ys' = omega (arith, ey, w.sets_length, h.few) in
-        let q : length (take n ys') ≡ n = length-take-le n ys' l in
-        let s : segment (take n ys') 0 n ≡ sets_of (triple_of qs ws i).path =
-        segment_taken ys' n l ∙ ap (segment ys' 0) z ∙ expanded_sets h.usable w ey in
+        let k : cs ≡ take m xs' = tells_same cs (take m xs') r e f in
+        let l : m ≤ length xs' = expanded_end h.usable w ex in
+        let n : length cs ≡ m = ap length k ∙ length-take-le m xs' l in
+        let l' : m ≤ length ys' = omega (arith, ey, w.sets_length, h.few) in
+        let q : length (take m ys') ≡ m = length-take-le m ys' l' in
+        let s : segment (take m ys') 0 m ≡ sets_of (triple_of qs ws i).path = segment_taken ys' m l' ∙ expanded_sets h.usable w ey in
         record {
           same_length = o.same_length;
           equal = λ t. k ∙ own_codes;
-          unions = λ t. ored_segment (rw q at o) ∙ ap (set_unions (segment ss 0 n)) s;
+          unions = λ t. rw n (ored_segment (rw q at o) ∙ ap (set_unions (segment ss 0 m)) s);
           differ = λ t. absurd (true≢false t);
           same = λ t. absurd (true≢false t);
         }
@@ -202,23 +191,33 @@ module _ {qs ws xs : List ℕ} {used n k : ℕ} {cs₀ ss₀ : List ℕ} (h : Ru
       pub next_in : i < length ws
       next_in = in_words j (omega (arith, g.onward)) l
 
-      pub run_asks : Taking qs ws used i cs ss count
-      run_asks = record { usable = usable; few = g.few; codes_room = g.codes_room; sets_room = g.sets_room }
+      -- the codes of the member so far
+      fits : count ≤ length cs
+      fits = omega (arith, g.few, g.codes_room)
 
-      pub run_ends : {ss' : List ℕ} {r : Bool} → Taken qs ws i cs ss ss' count r → r ≡ false → Ran qs ws xs n k cs ss' (record { size = count; from = from; to = to; next = j })
+      long : length (take count cs) ≡ count
+      long = length-take-le count cs fits
+
+      own : take count cs ≡ codes m.path
+      own = sym (segment_take cs count fits) ∙ g.holds.codes_are
+
+      pub run_asks : Taking qs ws used i (take count cs) ss
+      run_asks = record { usable = usable; few = omega (arith, long, g.few); sets_room = g.sets_room }
+
+      pub run_ends : {ss' : List ℕ} {r : Bool} → Taken qs ws i (take count cs) ss ss' r → r ≡ false → Ran qs ws xs n k cs ss' (record { size = count; from = from; to = to; next = j })
       run_ends t f = stands (t.same f) (rw (nodes_next qs ws xs j n l) (group_ends m v (nodes_at qs ws xs (j + 1) n) unlike))
         where
           d : Differ (codes m.path) (codes v.path)
-          d = subst (λ (x : List ℕ). Differ x (codes v.path)) g.holds.codes_are (t.differ f)
+          d = subst (λ (x : List ℕ). Differ x (codes v.path)) own (t.differ f)
 
           unlike : alike? m v ≡ false
           unlike = ⊎_elim (λ a. ahead_unlike m v a) (λ a. ahead_unlike' v m a) d
 
-      pub run_turn : {ss' : List ℕ} {r : Bool} {e : Ends} → Taken qs ws i cs ss ss' count r → r ≡ true → Singles ws i e
+      pub run_turn : {ss' : List ℕ} {r : Bool} {e : Ends} → Taken qs ws i (take count cs) ss ss' r → r ≡ true → Singles ws i e
           → Gathering qs ws xs n k cs ss' count (bit_or from e.from) (bit_or to e.to) (j + 1)
       unfolding set_union
       run_turn {e = e} t y s =
-          let c : codes m.path ≡ codes v.path = sym g.holds.codes_are ∙ t.equal y in
+          let c : codes m.path ≡ codes v.path = sym own ∙ t.equal y in
           let a : alike? m v ≡ true = codes_alike m v g.holds.linked usable.suits.linked c in
           let q : codes (merged m v).path ≡ codes m.path = codes_merge m.path v.path in
           record {
@@ -227,7 +226,7 @@ module _ {qs ws xs : List ℕ} {used n k : ℕ} {cs₀ ss₀ : List ℕ} (h : Ru
               sized = g.holds.sized ∙ sym (length_codes m.path) ∙ ap length (sym q) ∙ length_codes (merged m v).path;
               few = g.few;
               codes_are = g.holds.codes_are ∙ sym q;
-              sets_are = t.unions y ∙ ap (λ (x : List ℕ). set_unions x (sets_of v.path)) g.holds.sets_are ∙ sym (merged_sets m v g.holds.inferred usable.suits.inferred a);
+              sets_are = (rw long at (t.unions y)) ∙ ap (λ (x : List ℕ). set_unions x (sets_of v.path)) g.holds.sets_are ∙ sym (merged_sets m v g.holds.inferred usable.suits.inferred a);
               from_is = ap₂ bit_or g.holds.from_is (s.from_is ∙ ap singleton (sym (triple_from qs ws i)));
               to_is = ap₂ bit_or g.holds.to_is (s.to_is ∙ ap singleton (sym (triple_to qs ws i)));
               inferred = merge_inferred m.path v.path g.holds.inferred usable.suits.inferred;

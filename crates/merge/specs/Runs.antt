@@ -25,23 +25,22 @@ pub record Ored (fs xs ys : List ℕ) (j : ℕ) : Type 0 where
   pub done : (k : ℕ) → k < j → get_or ys k 0 ≡ set_union (get_or xs k 0) (get_or fs k 0)
   pub rest : (k : ℕ) → j ≤ k → get_or ys k 0 ≡ get_or xs k 0
 
--- ---- a node taken in, if its codes are the first n of an array
-pub record Taking (qs ws : List ℕ) (used i : ℕ) (cs ss : List ℕ) (n : ℕ) : Type 0 where
+-- ---- a node taken in, if it has the codes cs
+pub record Taking (qs ws : List ℕ) (used i : ℕ) (cs ss : List ℕ) : Type 0 where
   pub usable : Usable qs ws used i
-  pub few : n ≤ 48
-  pub codes_room : length cs ≡ 48
+  pub few : length cs ≤ 48
   pub sets_room : length ss ≡ 48
 
 -- one comes before the other
 abbrev pub Differ : List ℕ → List ℕ → Type 0
 Differ a b = (before? a b ≡ true) ⊎ (before? b a ≡ true)
 
--- its sets are ORed into the n ones; or all stays
-pub record Taken (qs ws : List ℕ) (i : ℕ) (cs ss ss' : List ℕ) (n : ℕ) (r : Bool) : Type 0 where
+-- its sets are ORed into the first of ss, one for each code; or all stays
+pub record Taken (qs ws : List ℕ) (i : ℕ) (cs ss ss' : List ℕ) (r : Bool) : Type 0 where
   pub same_length : length ss' ≡ length ss
-  pub equal : r ≡ true → segment cs 0 n ≡ codes (triple_of qs ws i).path
-  pub unions : r ≡ true → segment ss' 0 n ≡ set_unions (segment ss 0 n) (sets_of (triple_of qs ws i).path)
-  pub differ : r ≡ false → Differ (segment cs 0 n) (codes (triple_of qs ws i).path)
+  pub equal : r ≡ true → cs ≡ codes (triple_of qs ws i).path
+  pub unions : r ≡ true → segment ss' 0 (length cs) ≡ set_unions (segment ss 0 (length cs)) (sets_of (triple_of qs ws i).path)
+  pub differ : r ≡ false → Differ cs (codes (triple_of qs ws i).path)
   pub same : r ≡ false → ss' ≡ ss
 
 -- ---- a member in arrays: n codes, n join sets, from set and to set

@@ -83,18 +83,18 @@ fn or_sets(into: &mut [u64], from: &[u64])
     }
 }
 
-// ORs node i's join sets into the first n of `sets`, if its codes are the first n of `codes`.
-fn take_in(nodes: Nodes, i: usize, codes: &[u8], sets: &mut [u64], n: usize) -> bool
-    requires { Taking nodes.question.now nodes.words.now nodes.used i codes.now sets.old n }
-    ensures { Taken nodes.entry.question.now nodes.entry.words.now i codes.now sets.old sets.new n result }
+// ORs node i's join sets into the first of `sets`, if it has these codes.
+fn take_in(nodes: Nodes, i: usize, codes: &[u8], sets: &mut [u64]) -> bool
+    requires { Taking nodes.question.now nodes.words.now nodes.used i codes.now sets.old }
+    ensures { Taken nodes.entry.question.now nodes.entry.words.now i codes.now sets.old sets.new result }
 {
     let mut own = [0u8; fields::MEMBER_SYMBOLS];
     let mut vias = [0u64; fields::MEMBER_SYMBOLS];
     let m = nodes.expand(i, &mut own, &mut vias, 0);
-    if codes[..n] != own[..m] {
+    if codes != &own[..m] {
         return false;
     }
-    or_sets(sets, &vias[..n]);
+    or_sets(sets, &vias[..m]);
     true
 }
 
@@ -110,7 +110,7 @@ pub fn run(nodes: Nodes, order: &[usize], k: usize, codes: &mut [u8], sets: &mut
     let mut to = e.to;
     // `next` is handed out, and so outlives the loop
     let mut next = k + 1;
-    while next < order.len() && take_in(nodes, order[next], codes, sets, size) {
+    while next < order.len() && take_in(nodes, order[next], &codes[..size], sets) {
         let f = kinds(nodes.words, order[next]);
         from |= f.from;
         to |= f.to;

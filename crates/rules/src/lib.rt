@@ -357,7 +357,7 @@ fn add_edge(
     requires { AddEdge question.now words.old matrix.now node s count a.0 b.0 }
     ensures { Adds question.now words.old words.new s count result (edge_at matrix.now (leaf_path question.now node) a.0 b.0) }
 {
-    if !rows::has(matrix, a.0 as usize, b.0 as usize) {
+    if !rows::has(matrix, usize::from(a.0), usize::from(b.0)) {
         return count;
     }
     let n = Node {
@@ -382,7 +382,7 @@ fn add_edges_from(
     requires { AddEdges question.now words.old matrix.now kinds node s start × (a.0 < kinds) }
     ensures { Adds question.now words.old words.new s start result (edges_from matrix.now (leaf_path question.now node) kinds a.0) }
 {
-    if matrix[a.0 as usize] == 0 {
+    if matrix[usize::from(a.0)] == 0 {
         return start;
     }
     let mut count = start;

@@ -2,7 +2,7 @@
 -- Assumes nothing.
 use Rattle.std.proofs.lemmas.Result.{err_from_is_err_and}
 use Rattle.rules.proofs.RuleOutcome.{few_made, few_not}
-use Rattle.closure_rule.proofs.RulePieces.{rule_copies, rule_walks, rule_long, rule_grows, rule_many, rule_keeps, rule_told}
+use Rattle.closure_rule.proofs.RulePieces.{rule_long, rule_grows, rule_many, rule_keeps, rule_told}
 use Rattle.closure_rule.proofs.closure_rule.Goals as goal
 
 pub returns-then-not-walks_short : goal.returns-then-not-walks_short

@@ -1,6 +1,6 @@
 -- `closure_rule::copy_acyclic` meets its contract: the nodes passed whose ends are not cyclic were added once each, and the filter of those from j on is still to come.
 -- Assumes nothing.
-use Rattle.closure_rule.proofs.Acyclic.{acyclic_start, acyclic_load, acyclic_asks, acyclic_skip, acyclic_turn, acyclic_over}
+use Rattle.closure_rule.proofs.Acyclic.{acyclic_start, acyclic_asks, acyclic_skip, acyclic_turn, acyclic_over}
 use Rattle.closure_rule.proofs.copy_acyclic.Goals as goal
 use Rattle.closure_rule.proofs.copy_acyclic.Goals.{then-acyclic, else-acyclic}
 

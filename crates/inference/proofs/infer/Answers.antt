@@ -1,12 +1,11 @@
 -- `inference::infer` meets its contract: each part on the stack has the triples of its path, and the first symbol whose rule is refused is the first that the definition refuses.
 -- Assumes nothing.
-use native.Mathlib.Omega.{arith}
 use mathlib.Core.Path.{◌≡◌, ◌∙◌}
 use Rattle.rules.specs.Outcome.{refusal_at}
 use Rattle.std.proofs.Common.{rules}
 use Rattle.std.proofs.lemmas.Result.{err_from_is_err_and}
 use Rattle.inference.proofs.Told.{mapped_ok, mapped_err}
-use Rattle.inference.proofs.Turning.{asked, enough, turn_at}
+use Rattle.inference.proofs.Turning.{asked, turn_at}
 use Rattle.inference.proofs.Running.{inferred, running_start, running_stops, running_more, running_end}
 use Rattle.inference.proofs.infer.Goals as goal
 

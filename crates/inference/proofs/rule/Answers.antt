@@ -1,8 +1,6 @@
 -- `inference::rule` meets its contract: the symbol says which rule it is, and the triples of that rule over the two parts are those of the symbol.
 -- Assumes nothing.
-use native.Mathlib.Omega.{arith}
 use Rattle.rules.specs.PairRules.{of_two}
-use Rattle.inference.proofs.Codes.{asked}
 use Rattle.inference.proofs.rule.Goals as goal
 
 pub returns-in-Step : goal.returns-in-Step

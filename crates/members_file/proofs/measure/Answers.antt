@@ -1,8 +1,7 @@
 -- `members_file::measure` meets its contract: what is counted, with the members of the nodes from k on, is always the whole file.
 -- Assumes nothing.
-use Rattle.members_file.proofs.Counting.{count_start, count_asks, count_turn, count_over}
+use Rattle.members_file.proofs.Counting.{count_start, count_turn, count_over}
 use mathlib.Core.Path.{refl}
-use native.Mathlib.Omega.{arith}
 use Rattle.members_file.proofs.measure.Goals as goal
 
 pub loop-k-init : goal.loop-k-init

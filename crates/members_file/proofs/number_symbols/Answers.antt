@@ -1,7 +1,6 @@
 -- `members_file::number_symbols` meets its contract: the codes before j have become numbers, and the bytes of the symbols from j on are still to be counted.
 -- Assumes nothing.
-use Rattle.members_file.proofs.Symbols.{going_start, going_turn, going_over}
-use native.Mathlib.Omega.{arith}
+use Rattle.members_file.proofs.Symbols.{going_turn, going_over}
 use Rattle.members_file.proofs.number_symbols.Goals as goal
 
 pub loop-j-preserved : goal.loop-j-preserved

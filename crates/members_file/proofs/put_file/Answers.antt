@@ -1,9 +1,7 @@
 -- `members_file::put_file` meets its contract: what is written, followed by the members of the nodes from k on, is always the whole file, for which there is room.
 -- Assumes nothing.
-use Rattle.encode.proofs.Along.{wrote_length}
-use Rattle.members_file.proofs.Filling.{count_room, fill_start, fill_asks, fill_over, fill_room, fill_turn}
-use mathlib.Core.Path.{refl, ◌∙◌}
-use native.Mathlib.Omega.{arith}
+use Rattle.members_file.proofs.Filling.{count_room, fill_start, fill_over, fill_turn}
+use mathlib.Core.Path.{refl}
 use Rattle.members_file.proofs.put_file.Goals as goal
 
 pub put_count-at-requires : goal.put_count-at-requires

@@ -1,7 +1,6 @@
 -- `merge::arrange` meets its contract: it is an insertion sort from the last node to the first, in which those from s + i on always stand sorted at i to n.
 -- Assumes nothing.
 use Rattle.merge.proofs.Sorting.{arrange_start, arrange_asks, arrange_turn, arrange_over}
-use native.Mathlib.Omega.{arith}
 use Rattle.merge.proofs.arrange.Goals as goal
 
 pub loop-i-init : goal.loop-i-init

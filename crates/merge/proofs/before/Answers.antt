@@ -1,6 +1,6 @@
 -- `merge::before` meets its contract: both nodes expand to the codes of their paths, which std compares as `before?` does.
 -- Assumes nothing.
-use Rattle.merge.proofs.Comparing.{ready, expanded_codes, expanded_end, whole, tells_before}
+use Rattle.merge.proofs.Comparing.{expanded_codes, expanded_end, whole, tells_before}
 use Rattle.merge.proofs.Segments.{segment_take}
 use Rattle.merge.specs.Arranging.{earlier?}
 use Rattle.theory.specs.PathExpr.{before?}

@@ -1,6 +1,6 @@
 -- `merge::or_sets` meets its contract: the sets before j are unions, and those from j on are as they were.
 -- Assumes nothing.
-use Rattle.merge.proofs.Merging.{or_start, or_turn}
+use Rattle.merge.proofs.Merging.{or_turn}
 use native.Mathlib.Omega.{arith}
 use Rattle.merge.proofs.or_sets.Goals as goal
 

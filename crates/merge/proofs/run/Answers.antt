@@ -1,6 +1,6 @@
 -- `merge::run` meets its contract: the arrays hold the merged member of the nodes from k to `next`, and the first node of other codes begins the next member.
 -- Assumes nothing.
-use Rattle.merge.proofs.Merging.{first_in, first_ready, run_start, next_in, run_asks, run_ends, run_turn, run_over}
+use Rattle.merge.proofs.Merging.{run_start, run_ends, run_turn, run_over}
 use Rattle.merge.proofs.run.Goals as goal
 
 pub loop-next-init : goal.loop-next-init

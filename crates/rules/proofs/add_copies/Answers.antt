@@ -1,6 +1,6 @@
 -- `rules::add_copies` meets its contract: a copy has the triple of its node, and the part with the copies still to come is at each turn the list that is due.
 -- Assumes nothing.
-use Rattle.rules.proofs.Copies.{copies_start, copies_load, copies_asks, copies_turn, copies_many, copies_over}
+use Rattle.rules.proofs.Copies.{copies_asks, copies_turn, copies_many, copies_over}
 use Rattle.rules.proofs.add_copies.Goals as goal
 
 pub add-count-requires : goal.add-count-requires

@@ -4,11 +4,11 @@ use Rattle.rules.proofs.Edges.{edge_skipped, edge_candidate, edge_added}
 use Rattle.rules.proofs.add_edge.Goals as goal
 
 pub returns-then-not-has : goal.returns-then-not-has
-returns-then-not-has c = edge_skipped c.requires c.has.ensures c.if-not-has.true
+returns-then-not-has c = edge_skipped c.requires (rw (c.from.ensures, c.from-2.ensures) at c.has.ensures) c.if-not-has.true
 
 pub add-requires : goal.add-requires
 add-requires c = edge_candidate c.requires
 
 pub returns : goal.returns
 returns c =
-    edge_added c.requires c.has.ensures c.if-not-has.false c.add.ensures
+    edge_added c.requires (rw (c.from.ensures, c.from-2.ensures) at c.has.ensures) c.if-not-has.false c.add.ensures

@@ -1,6 +1,6 @@
 -- `rules::add_edges` meets its contract: a turn adds the triples from kind a, and those from the kinds after a are what is left to add.
 -- Assumes nothing.
-use Rattle.rules.proofs.Edges.{edges_start, from_asks}
+use Rattle.rules.proofs.Edges.{edges_start}
 use Rattle.rules.proofs.Ranging.{ranging_turn, ranging_many, ranging_over}
 use Rattle.rules.proofs.add_edges.Goals as goal
 

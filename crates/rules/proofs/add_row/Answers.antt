@@ -1,6 +1,6 @@
 -- `rules::add_row` meets its contract: a turn adds what node i gives with node j, and the rest of the row is what is left; past 128 triples the whole has too many as well.
 -- Assumes nothing.
-use Rattle.rules.proofs.Rows.{row_start, row_asks, row_turn, row_many, row_over}
+use Rattle.rules.proofs.Rows.{row_asks, row_turn, row_many, row_over}
 use Rattle.rules.proofs.add_row.Goals as goal
 
 pub add_pair-count-requires : goal.add_pair-count-requires

@@ -2,7 +2,7 @@
 -- Assumes nothing.
 use mathlib.Core.Path.{sym, ◌∙◌}
 use Rattle.std.proofs.lemmas.Result.{err_from_is_err_and}
-use Rattle.rules.proofs.PairRule.{rule_table, rule_long, rule_start, rule_asks, rule_turn, rule_many, rule_over}
+use Rattle.rules.proofs.PairRule.{rule_long, rule_start, rule_asks, rule_turn, rule_many, rule_over}
 use Rattle.rules.proofs.RuleOutcome.{few_made, few_not}
 use Rattle.rules.proofs.pair_rule.Goals as goal
 

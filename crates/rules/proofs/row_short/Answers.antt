@@ -1,6 +1,6 @@
 -- `rules::row_short` meets its contract: while each pair passed is short, the row is short if the rest of it is; one long pair makes the row long.
 -- Assumes nothing.
-use Rattle.rules.proofs.Rows.{row_left, row_long, row_goes, row_shorter}
+use Rattle.rules.proofs.Rows.{row_long, row_goes, row_shorter}
 use Rattle.rules.proofs.row_short.Goals as goal
 
 pub returns-then-not-short : goal.returns-then-not-short

@@ -1,6 +1,6 @@
 -- `rules::rows_short` meets its contract: while each row passed is short, the whole is short if the rows after it are; one long row makes the whole long.
 -- Assumes nothing.
-use Rattle.rules.proofs.Rows.{rows_left, rows_long, rows_go, rows_shorter}
+use Rattle.rules.proofs.Rows.{rows_long, rows_go, rows_shorter}
 use Rattle.rules.proofs.rows_short.Goals as goal
 
 pub returns-then-not-row_short : goal.returns-then-not-row_short

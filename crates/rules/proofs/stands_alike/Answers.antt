@@ -1,6 +1,6 @@
 -- `rules::stands_alike` meets its contract: a node that is alike is found, and where none is said to be, nothing is claimed.
 -- Assumes nothing.
-use Rattle.rules.proofs.Repeating.{has_below, none_alike, one_alike}
+use Rattle.rules.proofs.Repeating.{none_alike, one_alike}
 use native.Mathlib.Omega.{arith}
 use Rattle.rules.proofs.stands_alike.Goals as goal
 

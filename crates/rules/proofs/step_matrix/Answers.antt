@@ -1,7 +1,7 @@
 -- `rules::step_matrix` meets its contract: the words before a are rows of the step's matrix, and each turn makes one row more.
 -- Assumes nothing.
 use mathlib.Core.Path.{◌≡◌}
-use Rattle.rules.proofs.Steps.{matrix_none, matrix_more}
+use Rattle.rules.proofs.Steps.{matrix_more}
 use native.Mathlib.Omega.{arith}
 use Rattle.rules.proofs.step_matrix.Goals as goal
 

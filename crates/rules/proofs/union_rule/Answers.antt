@@ -1,7 +1,7 @@
 -- `rules::union_rule` meets its contract: the candidates are one part and then the other, and no path of either is over 48 symbols long.
 -- Assumes nothing.
 use Rattle.std.proofs.lemmas.Result.{err_from_is_err_and}
-use Rattle.rules.proofs.Unions.{first_asks, first_many, second_asks, union_told}
+use Rattle.rules.proofs.Unions.{first_many, union_told}
 use Rattle.rules.proofs.RuleOutcome.{few_made, few_not}
 use Rattle.rules.proofs.union_rule.Goals as goal
 

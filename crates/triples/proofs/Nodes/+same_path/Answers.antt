@@ -6,7 +6,6 @@ use Rattle.triples.proofs.Comparing.{same_node, made_differ, same_steps, same_ke
 use Rattle.triples.proofs.Comparing.{kinds_differ, join_lefts_differ, join_rights_differ, same_joins, op_lefts_differ, op_rights_differ, same_ops}
 use mathlib.Core.Path.{sym, ap, ◌∙◌}
 use borrow.Author.Tests.{eqb-true, eqb-false}
-use native.Mathlib.Omega.{arith}
 use Prim.Native.Nat.{ℕ}
 use Rattle.triples.proofs.Nodes.+same_path.Goals.{then-load, else-load, then-eq, else-eq, then-load-2, else-load-2}
 use Rattle.triples.proofs.Nodes.+same_path.Goals as goal

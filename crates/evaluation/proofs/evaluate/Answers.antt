@@ -5,11 +5,8 @@ use Rattle.std.proofs.Common.{rules}
 use Rattle.std.proofs.lemmas.List.{length_push}
 use Rattle.std.proofs.lemmas.Slice.Zip.{zip_turn, zip_end}
 use Rattle.evaluation.proofs.Grounds.{path_is}
-use Rattle.evaluation.proofs.SymbolLoop.{going_start, going_more, going_end, fits}
+use Rattle.evaluation.proofs.SymbolLoop.{going_more, going_end, fits}
 use Rattle.evaluation.proofs.evaluate.Goals as goal
-
-pub loop-number-init : goal.loop-number-init
-loop-number-init c = going_start _ _ _ _ _ _ _
 
 pub apply-b-requires : goal.apply-b-requires
 apply-b-requires c =

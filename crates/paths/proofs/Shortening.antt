@@ -13,7 +13,8 @@ use Rattle.theory.specs.Register.{Register}
 use Rattle.theory.specs.Demand3.{Demand3}
 use Rattle.theory.proofs.Demand3.{same_question}
 use Rattle.theory.specs.Result.{got}
-use Rattle.fields.specs.Call.{Returned, Size}
+use Rattle.fields.specs.declared.Size.{Size}
+use Rattle.fields.specs.Call.{Returned}
 use Rattle.question.specs.Form.{question_symbols}
 use Rattle.answer.specs.Calls.{members_of, plain_call}
 use Rattle.answer.proofs.SamePairs as SamePairs

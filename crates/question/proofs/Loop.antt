@@ -60,7 +60,8 @@ module _ (s : List ℕ) (at count : ℕ) (code : List ℕ) where
   reading_few Head r = omega (arith, r.holds.1)
   reading_few (Within q) r = omega (arith, r.holds.1)
 
-  pub reading_ends : (st : Standing Stack) → Reading s st at count code → field_at (due st) s at ≡ ends → (q : Question) → q.count ≡ count → q.codes ≡ code → ReadsQuestion (read question_form s) (Ok q)
+  pub reading_ends : (st : Standing Stack) → Reading s st at count code → field_at (due st) s at ≡ ends → (q : Question) → q.count ≡ count → q.codes ≡ code
+      → ReadsQuestion (read question_form s) (Ok q)
   reading_ends st r e q n l =
       let a = going_ends question_form s _ _ at r.going e in
       record { outcome = ap got (n ∙ counts st r.xs (ended (due st) s at e).may r.holds) ∙ ap counted (sym a); codes = l ∙ r.filled ∙ ap codes_in (sym a) }

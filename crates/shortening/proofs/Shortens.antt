@@ -16,7 +16,8 @@ use Rattle.theory.proofs.Tests.{and_left, and_right}
 use Rattle.theory.proofs.Simplification.{weight, no_heavier, reaches, irreducible, normal_stays, one_result, twice, never_longer, same_pairs, normal_plain, normal_links}
 use Rattle.fields.specs.declared.Source.TheVariants as source
 use Rattle.theory.specs.Result.{Result, got, refused}
-use Rattle.fields.specs.Call.{accepts, Size, output}
+use Rattle.fields.specs.Call.{accepts, output}
+use Rattle.fields.specs.declared.Size.{Size}
 use Rattle.fields.specs.Call as fields·Call
 use Rattle.fields.specs.Reading.{read}
 use Rattle.fields.specs.Writing.{Bytes, field_bytes}

@@ -7,7 +7,8 @@ use Rattle.theory.specs.PathExpr.{PathExpr, codes}
 use Rattle.theory.specs.Postfix.{path_of}
 use Rattle.theory.specs.Simplification.{normal_form}
 use Rattle.fields.specs.declared.Source.TheVariants as source
-use Rattle.fields.specs.Call.{accepts, and_then, file, Output, simple_call, Size, file_in}
+use Rattle.fields.specs.Call.{accepts, and_then, file, Output, simple_call, file_in}
+use Rattle.fields.specs.declared.Size.{Size}
 use Rattle.question.specs.Form.{question_form, question_symbols}
 use Rattle.question.specs.Writing.{question_bytes}
 

@@ -2,12 +2,10 @@
 -- so what becomes of an operand is known by where it stands.
 -- Nothing that is handed on rests on this: specs/Call.antt has the result.
 -- Assumes nothing.
-use Rattle.std.specs.Prelude.{◌≡◌, List, ℕ, ◌≤◌, T, length, take, drop}
+use Rattle.std.specs.Prelude.{◌≡◌, List, ℕ, ◌≤◌, T, length}
 use Rattle.theory.specs.PathExpr.{any, through, Op, union, conjunction, branch_right, branch_left, PathExpr, Symbol, s_step, s_join, s_op, s_closure, codes, plain?, links?}
 use Rattle.shortening.specs.declared.Context.{Context}
 use Rattle.shortening.specs.declared.Context.TheVariants.{Elsewhere, Closure, Test}
-use Rattle.shortening.specs.declared.Shortened.{Shortened}
-use Rattle.shortening.specs.Call.{shortened_codes}
 
 -- what a symbol becomes: as a test a join is a branch right
 abbrev pub tested_symbol : Symbol → Symbol
@@ -66,19 +64,12 @@ second_context (s_join v) = Elsewhere
 second_context (s_op o) = second_of o
 second_context s_closure = Elsewhere
 
--- the first codes are those of a question's path
-pub record FirstCodes (qs : List ℕ) (count : ℕ) (p : PathExpr) : Type 0 where
-  pub are : codes p ≡ take count qs
-  pub within : count ≤ length qs
-  pub few : count ≤ 32
+-- the codes are those of a question's path
+pub record CodesOf (qs : List ℕ) (p : PathExpr) : Type 0 where
+  pub are : codes p ≡ qs
+  pub few : length qs ≤ 32
   pub plain : T (plain? p)
   pub links : T (links? 64 p)
 
-abbrev pub OfQuestion : List ℕ → ℕ → Type 0
-OfQuestion qs count = (p : PathExpr) × FirstCodes qs count p
-
--- from its start on, the array has the shortened codes
-pub record Leaves (cs : List ℕ) (r : Shortened) : Type 0 where
-  pub start : r.start ≤ 32
-  pub size : length r.codes ≡ 32
-  pub codes : drop r.start r.codes ≡ shortened_codes cs
+abbrev pub OfQuestion : List ℕ → Type 0
+OfQuestion qs = (p : PathExpr) × CodesOf qs p

@@ -9,7 +9,8 @@ use Rattle.theory.specs.Postfix.{path_of}
 use Rattle.theory.specs.Register.{Register, Holds}
 use Rattle.theory.specs.Simplification.{Reduces, Irreducible}
 use Rattle.theory.specs.Result.{got}
-use Rattle.fields.specs.Call.{accepts, Size, output}
+use Rattle.fields.specs.Call.{accepts, output}
+use Rattle.fields.specs.declared.Size.{Size}
 use Rattle.fields.specs.Reading.{read}
 use Rattle.fields.specs.Writing.{Bytes}
 use Rattle.question.specs.Form.{question_form, question_symbols}

@@ -106,7 +106,8 @@ pub struct Numbered {
     pub set: u64,
 }
 
-// The symbol of a number and a set. A number that is no symbol's counts as a closure.
+// The symbol of a number and a set. A number that is no symbol's counts as a closure. This and `encode` stay functions, and no `From`, since
+// docs/PROVING.md names them, and `encode` asks that a step's link has a number.
 #[tactic(auto, unfolding(crate::specs::Symbols::symbol_numbered))]
 pub fn decode(number: u8, set: u64) -> Symbol
     ensures { symbol_said result ≡ symbol_numbered number set }

@@ -5,10 +5,9 @@ use Rattle.fields.proofs.Filing.{file_short, file_put}
 use Rattle.question_writer.proofs.write.Goals as goal
 
 pub returns-then-file-n : goal.returns-then-file-n
-returns-then-file-n c = file_short _ _ _ c.measure-n.ensures c.if-file-n.true
+returns-then-file-n c = rw c.about.ensures (file_short _ _ _ c.measure-n.ensures c.if-file-n.true)
 
 pub returns : goal.returns
 returns c =
-    let a = c in
-    let h = c.put_question-bytes.ensures in
-    file_put _ _ _ a.measure-n.ensures a.if-file-n.false refl h.1 h.0
+    let h = c.put.ensures in
+    file_put _ _ _ c.measure-n.ensures c.if-file-n.false refl h.1 h.0

@@ -1,6 +1,6 @@
 -- The fields that the quick loops pass over.
 -- Assumes nothing.
-use mathlib.Core.Path.{◌≡◌, refl, sym, subst, ap, ◌∙◌}
+use mathlib.Core.Path.{◌≡◌, refl, subst, ap, ◌∙◌}
 use mathlib.Core.Bool.{true, false}
 use mathlib.Core.List.{List, [], ◌∷◌}
 use Prim.Native.Nat.{ℕ, ◌+◌, ◌*◌, ◌-◌, ◌/◌, ◌%◌, ◌≤◌, ◌<◌}
@@ -118,14 +118,6 @@ linked_start s q at floor v z h e n =
     let f : q.floor ≡ floor - 0x3300050000000000 = omega arith in
     let p : q ≡ standing q q.left floor = λ j. record { records = q.records; links = q.links; kindless = z j; left = q.left; floor = f j } in
     record { passed = subst (λ (p : Progress). Passed s q at p at) p here; inside = h; base = omega arith; number = n }
-
--- what was passed over so far, where no kind was due
-pub linked_passed : {s : List ℕ} {q : Progress} {at i left floor v : ℕ} → Linked s q at i left floor v → q.kindless ≡ 0
-    → Passed s q at (record { records = q.records; links = q.links; kindless = q.kindless; left = left; floor = floor - 0x3300050000000000 }) i
-linked_passed {s} {q} {at} {i} {left} {floor} g z =
-    let p : standing q left floor ≡ record { records = q.records; links = q.links; kindless = q.kindless; left = left; floor = floor - 0x3300050000000000 } =
-    λ j. record { records = q.records; links = q.links; kindless = sym z j; left = left; floor = floor - 0x3300050000000000 } in
-    subst (λ (p : Progress). Passed s q at p i) p g.passed
 
 -- a link that passes: there is room for it, and what holds at the loop's head holds after it
 module _ {s : List ℕ} {q : Progress} {at i left floor v records : ℕ} (g : Linked s q at i left floor v) (p : Passes v left floor (0x3300050000000000 + records * 16777216) records) where

@@ -208,6 +208,16 @@ cursor_place : (s : List ℕ) (k : ℕ) → cursor_at s k ≡ length s - 8 * k
 unfolding cursor_at field_size tag_length rows
 cursor_place s k = refl
 
+-- the numbers of its head are those of its kinds and links
+pub head_room : (s : List ℕ) → Accepted s → 7 ≤ length s
+head_room s e = (placed s (register_in s) e).head
+
+pub head_kinds : (s : List ℕ) → Accepted s → word s 3 ≡ length (register_in s).kinds
+head_kinds s e = sym (placed s (register_in s) e).kinds
+
+pub head_links : (s : List ℕ) → Accepted s → word s 5 ≡ length (register_in s).links
+head_links s e = sym (placed s (register_in s) e).links
+
 -- the first link lies after the kinds
 pub start_room : (s : List ℕ) (n : ℕ) → Accepted s → n ≡ length (register_in s).kinds → 7 + 4 * n ≤ length s
 start_room s n e h = omega (arith, whole_length s (register_in s) (placed s (register_in s) e))

@@ -39,7 +39,11 @@ const LABEL_IN: usize = 2;
 
 const TO_IN: usize = 3;
 
-// Where the file has the field of its first kind, and that kind itself.
+// Where the file has its numbers of records and of links, the field of its first kind, and that kind itself.
+const RECORD_COUNT_AT: usize = HEAD + RECORDS_IN;
+
+const LINK_COUNT_AT: usize = HEAD + LINKS_IN;
+
 const KINDS_AT: usize = HEAD + REGISTER_LENGTH as usize;
 
 const FIRST_KIND_AT: usize = KINDS_AT + HEAD + KIND_IN;
@@ -203,7 +207,8 @@ fn link_passes(v: u64, left: u16, floor: u64, top: u64, records: u64) -> bool
         && v % LABEL_WEIGHT < records
 }
 
-// Passes over valid kinds in a quick loop of their own; whatever else lies there is left to the general loop.
+// Passes over valid kinds in a quick loop of their own; whatever else lies there is left to the general loop. An iterator over pieces of four
+// bytes would be no plainer: whether a kind is due changes with each, so that it would carry the same value from turn to turn.
 fn past_kinds(s: &[u8], start: Reached) -> Reached
     requires { start.at ≤ length s.now }
     ensures { Passed s.now start.progress start.at result.progress result.at }
@@ -310,9 +315,9 @@ pub struct Edge {
 // The links still to come of an accepted file: the place of the next one, or the file's end where none is left, and their number.
 #[derive(Drop)]
 pub struct Links<'a> {
-    file: &'a [u8],
-    at: usize,
-    left: usize,
+    pub file: &'a [u8],
+    pub at: usize,
+    pub left: usize,
 }
 
 impl<'a> Model for Links<'a> {
@@ -324,6 +329,18 @@ impl<'a> Model for Links<'a> {
 }
 
 impl<'a> Register<'a> {
+    // The register in a file that was accepted before, with the numbers of its head; `read` is for any other.
+    pub fn from_accepted(file: &'a [u8]) -> Register<'a>
+        requires { Accepted file.now }
+        ensures { result.file.now ≡ file.now }
+    {
+        Register {
+            file,
+            records: usize::from(fields::two(file, RECORD_COUNT_AT)),
+            links: usize::from(fields::two(file, LINK_COUNT_AT)),
+        }
+    }
+
     // The kind of record i.
     pub fn kind_at(&self, i: usize) -> Kind
         requires { i < self.now.records }

@@ -3,14 +3,12 @@
 use Rattle.std.proofs.Common.{Ok}
 use Rattle.std.proofs.lemmas.Result.{err_from_is_err_and}
 use Rattle.register.proofs.Passing.{reading_passed, passed_on}
-use Rattle.register.proofs.Loop.{reading_start, ends_within, reading_ends, reading_accepted, reading_counted, reading_linked}
+use Rattle.register.proofs.Loop.{reading_start, ends_within, reading_accepted, reading_counted, reading_linked}
 use Rattle.register.proofs.Loop.{reading_wrong, reading_ready, reading_refused, reading_next}
 use Rattle.fields.proofs.Fields.{seen_at, Handed, handed}
 use Rattle.register.specs.Form.{due}
-use Rattle.register.specs.Contract.{sizes}
 use Rattle.fields.specs.Contract.{read_said}
 use Rattle.fields.specs.Reading.{ends, field_at}
-use Rattle.theory.specs.Result.{got}
 use mathlib.Core.Path.{◌≡◌, ◌∙◌, ap, sym}
 use native.Mathlib.Omega.{arith}
 use Rattle.register.proofs.read.Goals.{In-Some, In_default}
@@ -65,7 +63,3 @@ invariant_of-result c =
       counted = c.from.ensures ∙ reading_counted _ _ _ r _ c.in-Within.is e;
       linked = c.from-2.ensures ∙ reading_linked _ _ _ r _ c.in-Within.is e;
     }
-
-pub returns-clause-said : goal.returns-clause-said
-returns-clause-said c =
-    (λ i. got (sizes (c.from.ensures i) (c.from-2.ensures i))) ∙ reading_ends _ _ _ c.loop-f.invariant _ c.in-Within.is (at_end (goal.at.returns-clause-said c).In_default)

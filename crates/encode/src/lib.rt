@@ -160,6 +160,7 @@ pub fn put_symbols(
     ensures { BytesWritten out.old out.new at result (symbols_bytes (symbols_given numbers.now sets.now n k)) }
 {
     let mut a = at;
+    // By the index, which both arrays share with their callers' (a zip of two parts is no plainer).
     for i in k..k + usize::from(n) {
         a = put_symbol(out, a, numbers[i], sets[i]);
     }
@@ -192,6 +193,7 @@ pub fn put_members(q: &Members, out: &mut [u8]) -> usize
 {
     let mut a = put_count(out, 0, q.count as u16);
     let mut k = 0;
+    // By the index: a zip of three arrays is no plainer.
     for i in 0..q.count {
         let n = q.sizes[i];
         a = put_member(out, a, &q.numbers, &q.sets, k, n, q.from[i], q.to[i]);

@@ -9,7 +9,7 @@ use native.Mathlib.Omega.{arith}
 use Rattle.theory.specs.Lists.{concat_map}
 use Rattle.symbols.specs.Symbols.{Numbered, order_code}
 use Rattle.fields.specs.Padded.{padded}
-use Rattle.fields.proofs.Padded.{pad_set, pad_length}
+use Rattle.fields.proofs.Padded.{pad_set}
 use Rattle.narrowed_question.specs.Form.{Flat, flat, order_codes, numbers as nums, set_numbers as masks}
 use Rattle.narrowed_question.specs.declared.Members.{Members}
 use Rattle.narrowed_question.specs.Contract.{sizes_of, from_of, to_of, numbers_of, sets_of, Packed, Blank, segment_codes}
@@ -153,11 +153,6 @@ module _ {ms : List Flat} {P : List ℕ} {done prev first used : ℕ} {q : Membe
     split : q.numbers ≡ numbers_of ms ++ (nums xs ++ rest)
     unfolding padded rest
     split = r.numbers_is ∙ append_assoc (numbers_of ms) (nums xs) rest
-
-    pub numbers_long : used ≤ 6144 → length q.numbers ≡ 6144
-    numbers_long h =
-        ap length r.numbers_is
-        ∙ pad_length 6144 (numbers_of ms ++ nums xs) (omega (arith, length-append (numbers_of ms) (nums xs), length-map xs (λ x. x.number), r.used_is, r.first_is))
 
     pub before_codes : segment_codes q.numbers prev first ≡ P
     before_codes =

@@ -27,7 +27,7 @@ use Rattle.narrowed_question.specs.declared.Item as declared·Item
 use Rattle.fields.proofs.Fields.{Handed, seen_at, handed}
 use Rattle.narrowed_question.proofs.Tracks.{Tracks, tracks_start, total, open_list, Shut, tracks_ends, tracks_wrong, tracks_able, tracks_stop}
 use Rattle.narrowed_question.proofs.Tracks.{tracks_go, tracks_open, tracks_more, last_between, last_few, last_members, last_total, last_opened, tracks_order, tracks_done}
-use Rattle.narrowed_question.proofs.ArraysFilled.{Filled, filled_start, refill, filled_open, room, filled_more, filled_done, numbers_long, before_codes, open_codes, filled_packed}
+use Rattle.narrowed_question.proofs.ArraysFilled.{Filled, filled_start, refill, filled_open, room, filled_more, filled_done, before_codes, open_codes, filled_packed}
 
 pub record Reading (s : List ℕ) (st : Standing) (at done prev first used : ℕ) (q : Members) : Type 0 where
   P : List ℕ
@@ -145,9 +145,6 @@ module _ {s : List ℕ} {st : Standing} {at done prev first used : ℕ} {q : Mem
 
       pub last_room : used < 6144
       last_room = room r.filled x few short
-
-      pub last_long : length (symbol_kept q used x).numbers ≡ 6144
-      last_long = numbers_long whole (omega (arith, last_room))
 
       pub last_done : done < 128
       last_done = omega (arith, few, r.filled.done_is)

@@ -207,6 +207,7 @@ pub fn read_into(s: &[u8], members: &mut Members) -> Result<(), Refusal>
             Item::Last(x, place) => {
                 members.keep(used, x);
                 used += 1;
+                // A slice first: of an array behind a reference a part with a start gets no proof yet.
                 let numbers: &[u8] = &members.numbers;
                 if !earlier(&numbers[prev..first], &numbers[first..used]) {
                     return Err(Refusal::NotAscending(place));

@@ -4,8 +4,9 @@ use Prim.Native.Nat.{ℕ, zero, suc, ◌+◌, ◌*◌, ◌-◌, ◌<◌, ◌≤�
 use mathlib.Core.Path.{◌≡◌, refl, ap, ap₂, ◌∙◌, sym, subst}
 use mathlib.Core.Bool.{Bool, true, false, cond, ◌&&◌}
 use mathlib.Core.List.{List, [], ◌∷◌, map}
-use lib.ListN.{length, length-drop, get_or, take, drop}
+use lib.ListN.{length, length-drop, length-take, get_or, take, drop}
 use lib.Seq.{drop-cons, length-take-le}
+use Rattle.std.proofs.lemmas.List.{take_rest, get_or-take}
 use lib.Dec.{leb}
 use native.Mathlib.Omega.{arith}
 use borrow.Author.Tests.{leb-true, lt-leb, le-leb}
@@ -28,48 +29,35 @@ use Rattle.encode.specs.Size.{symbol_size}
 use Rattle.encode.proofs.Parts.{size_few}
 use Rattle.narrowed_writer.specs.Verdict.{offered, path_verdict, member_verdict, members_verdict, verdict}
 
--- the first of some elements from k on
-take_more : (l : List ℕ) (k n : ℕ) → 0 < n → k + n ≤ length l → take n (drop k l) ≡ get_or l k 0 ∷ take (n - 1) (drop (k + 1) l)
-take_more l k zero p h = absurd (omega arith)
-take_more l k (suc n) p h =
-    let i : suc k ≡ k + 1 = omega arith in
-    let j : n ≡ suc n - 1 = omega arith in
-    ap (take (suc n)) (drop-cons l k 0 (omega arith)) ∙ ap₂ (λ (a b : ℕ). get_or l k 0 ∷ take b (drop a l)) i j
-
 pub offered_got : (q : Stack) (at c : ℕ) (q' : Stack) → offered q at c ≡ got q' → (q'.left ≡ q.left - 1) × (q'.depth ≤ q.depth + 1)
 unfolding offered
 offered_got q at c q' e =
     let h = push_got q at (at + symbol_size c) (arity c) q' (cond_then (symbol? c) (not_got 3 at q') e).1 in
     (h.0, omega (arith, h.1))
 
--- the path of n symbols from the k-th on, at its i-th
-pub record AtSymbol (l : List ℕ) (k n at : ℕ) (q : Stack) (i place : ℕ) : Type 0 where
-  pub rest : path_verdict q place (take q.left (drop i l)) ≡ path_verdict (record { left = n; depth = 0 }) at (take n (drop k l))
-  pub left : i + q.left ≡ k + n
-  pub depth : q.depth + k ≤ i
-  pub bound : place + 11 * k ≤ at + 11 * i
+-- a path's symbols, at the i-th
+pub record AtSymbol (cs : List ℕ) (at : ℕ) (q : Stack) (i place : ℕ) : Type 0 where
+  pub rest : path_verdict q place (drop i cs) ≡ path_verdict (record { left = length cs; depth = 0 }) at cs
+  pub left : i + q.left ≡ length cs
+  pub depth : q.depth ≤ i
+  pub bound : place ≤ at + 11 * i
 
-pub path_start : (l : List ℕ) (k n at : ℕ) → AtSymbol l k n at (record { left = n; depth = 0 }) k at
-path_start l k n at = record { rest = refl; left = refl; depth = omega arith; bound = omega arith }
+module _ {cs : List ℕ} {at : ℕ} {q : Stack} {i place : ℕ} (r : AtSymbol cs at q i place) where
+  abbrev whole : Result ℕ
+  whole = path_verdict (record { left = length cs; depth = 0 }) at cs
 
-module _ {l : List ℕ} {k n at : ℕ} {q : Stack} {i place : ℕ} (r : AtSymbol l k n at q i place) where
-  pub path_ends : q.left ≡ 0 → got place ≡ path_verdict (record { left = n; depth = 0 }) at (take n (drop k l))
-  path_ends e = ap (λ (m : ℕ). path_verdict q place (take m (drop i l))) (sym e) ∙ r.rest
+  module _ (h : i < length cs) where
+    step : onward (λ q'. path_verdict q' (place + symbol_size (get_or cs i 0)) (drop (i + 1) cs)) (offered q place (get_or cs i 0)) ≡ whole
+    step =
+        let j : i + 1 ≡ suc i = omega arith in
+        ap (λ (k : ℕ). path_verdict q place (get_or cs i 0 ∷ drop k cs)) j ∙ ap (path_verdict q place) (sym (drop-cons cs i 0 h)) ∙ r.rest
 
-  module _ (h : 0 < q.left) (f : k + n ≤ length l) where
-    step : onward (λ q'. path_verdict q' (place + symbol_size (get_or l i 0)) (take (q.left - 1) (drop (i + 1) l))) (offered q place (get_or l i 0))
-        ≡ path_verdict (record { left = n; depth = 0 }) at (take n (drop k l))
-    step = ap (path_verdict q place) (sym (take_more l i q.left h (omega (arith, r.left)))) ∙ r.rest
-
-    pub path_refused : (m p : ℕ) → offered q place (get_or l i 0) ≡ refused m p → refused m p ≡ path_verdict (record { left = n; depth = 0 }) at (take n (drop k l))
-    path_refused m p e = ap (onward (λ q'. path_verdict q' (place + symbol_size (get_or l i 0)) (take (q.left - 1) (drop (i + 1) l)))) (sym e) ∙ step
-
-    pub path_more : (q' : Stack) (z : ℕ) → z ≡ symbol_size (get_or l i 0) → z ≤ 11 → offered q place (get_or l i 0) ≡ got q' → AtSymbol l k n at q' (i + 1) (place + z)
+    pub path_more : (q' : Stack) (z : ℕ) → z ≡ symbol_size (get_or cs i 0) → z ≤ 11 → offered q place (get_or cs i 0) ≡ got q' → AtSymbol cs at q' (i + 1) (place + z)
     path_more q' z w b e =
-        let g = offered_got q place (get_or l i 0) q' e in
+        let g = offered_got q place (get_or cs i 0) q' e in
         record {
-          rest = ap₂ (λ (m y : ℕ). path_verdict q' (place + y) (take m (drop (i + 1) l))) g.0 w
-              ∙ ap (onward (λ q''. path_verdict q'' (place + symbol_size (get_or l i 0)) (take (q.left - 1) (drop (i + 1) l)))) (sym e) ∙ step;
+          rest = ap (λ (y : ℕ). path_verdict q' (place + y) (drop (i + 1) cs)) w
+              ∙ ap (onward (λ q''. path_verdict q'' (place + symbol_size (get_or cs i 0)) (drop (i + 1) cs))) (sym e) ∙ step;
           left = omega (arith, g.0, r.left);
           depth = omega (arith, g.1, r.depth);
           bound = omega (arith, r.bound);
@@ -137,10 +125,14 @@ member_start q h = record {
 }
 
 module _ {q : Members} {i at prev first : ℕ} (r : AtMember q i at prev first) where
-  pub members_end : q.count ≤ i → got at ≡ verdict (given q)
-  members_end h =
-      let z : 0 ≡ q.count - i = omega arith in
-      ap (λ (m : ℕ). members_verdict (segment_codes q.numbers prev first) at (members_given q m i first)) z ∙ r.rest
+  -- the member as the code has it: an element of the sizes that count, and of the numbers those that are left
+  pub judged : {v : Result ℕ} → i < length (take q.count q.sizes)
+      → v ≡ member_verdict at (get_or (take q.count q.sizes) i 0) (take (get_or (take q.count q.sizes) i 0) (take (length q.numbers - first) (drop first q.numbers)))
+      → (i < q.count) × (member_verdict at (get_or q.sizes i 0) (take (get_or q.sizes i 0) (drop first q.numbers)) ≡ v) × (get_or (take q.count q.sizes) i 0 ≡ get_or q.sizes i 0)
+  judged h e =
+      let k : i < q.count = omega (arith, length-take q.count q.sizes) in
+      let s = get_or-take q.count q.sizes i 0 k in
+      (k, sym (e ∙ ap₂ (λ (n : ℕ) (l : List ℕ). member_verdict at n (take n l)) s (take_rest q.numbers first)), s)
 
   module _ (h : i < q.count) (long : length q.numbers ≡ 6144) where
     abbrev size : ℕ

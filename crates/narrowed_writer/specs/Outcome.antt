@@ -1,6 +1,7 @@
 -- What the writer makes of the members that it is given.
 -- SPECIFICATION, The calls: what the writer is given is judged as the file that it would make, before 14.
 -- Assumes nothing.
+use Rattle.std.specs.Prelude as std
 use Rattle.std.specs.Prelude.{◌≡◌, cond, List, ℕ, leb, length}
 use Rattle.std.proofs.lemmas.List.Edits.{sets}
 use Rattle.theory.specs.Result.{Result, got, refused}
@@ -9,9 +10,8 @@ use Rattle.narrowed_question.specs.declared.Members.{Members}
 use Rattle.narrowed_question.specs.Form.{Flat, narrowed_form}
 use Rattle.narrowed_question.specs.Writing.{encode}
 use Rattle.narrowed_question.specs.ArrayMembers.{given}
-use Rattle.fields.specs.Contract.{refusal_said}
-use Rattle.narrowed_writer.specs.declared.Written.{Written}
-use Rattle.narrowed_writer.specs.declared.Written.TheVariants as written_as
+use Rattle.fields.specs.declared.Refusal.{Refusal}
+use Rattle.fields.specs.Contract.{read_said}
 
 -- ---- the outcome: the file's refusal; else 14 with the bytes needed; else the number of bytes
 abbrev pub written : Result (List Flat) → List ℕ → ℕ → Result ℕ
@@ -31,10 +31,6 @@ unfoldable pub judgement : Members → Result (List Flat)
 judgement q = read narrowed_form (file_of q)
 
 -- ---- what the code says
-abbrev pub written_said : Written → Result ℕ
-written_said (written_as.Accepted n) = got n
-written_said (written_as.Refused r) = refusal_said r
-
-pub record Writes (q : Members) (before : List ℕ) (r : Written) (after : List ℕ) : Type 0 where
-  pub outcome : written_said r ≡ written (judgement q) (file_of q) (length before)
+pub record Writes (q : Members) (before : List ℕ) (r : std.Result ℕ Refusal) (after : List ℕ) : Type 0 where
+  pub outcome : read_said (λ n. n) r ≡ written (judgement q) (file_of q) (length before)
   pub area : after ≡ area_after (judgement q) (file_of q) before

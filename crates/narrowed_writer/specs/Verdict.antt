@@ -6,12 +6,9 @@ use Rattle.theory.specs.PathExpr.{before?}
 use Rattle.symbols.specs.declared.Stack.{Stack}
 use Rattle.fields.specs.Table.{field_size}
 use Rattle.theory.specs.Result.{Result, got, refused, onward}
-use Rattle.fields.specs.Contract.{refusal_said}
 use Rattle.symbols.specs.Symbols.{symbol?, arity, push}
 use Rattle.narrowed_question.specs.Form.{Flat, order_codes, numbers}
-use Rattle.narrowed_writer.specs.declared.Place.{Place}
 use Rattle.encode.specs.Size.{symbol_size}
-use Rattle.narrowed_writer.specs.declared.Place.TheVariants as place
 
 -- a symbol of that number at a place: refusals 3 and 6
 unfoldable pub offered : Stack → ℕ → ℕ → Result Stack
@@ -34,7 +31,3 @@ members_verdict prev at (m ∷ ms) =
 
 unfoldable pub verdict : List Flat → Result ℕ
 verdict ms = cond (leb (length ms) 128) (members_verdict [] (field_size 0x41) ms) (refused 3 0)
-
-abbrev pub place_said : Place → Result ℕ
-place_said (place.At n) = got n
-place_said (place.Refused r) = refusal_said r

@@ -1,8 +1,9 @@
 -- `narrowed_writer::judge` meets its contract: the verdict on the members from the i-th on, given the one before and the place, is that on all members.
 -- Assumes nothing.
-use mathlib.Core.Path.{refl, ◌∙◌, ap, sym}
-use Rattle.narrowed_writer.specs.Verdict.{place_said}
-use Rattle.narrowed_writer.proofs.Judging.{many_refused, member_start, members_end, member_refused, member_size, member_order, member_more}
+use mathlib.Core.Path.{◌≡◌, ◌∙◌, sym}
+use lib.ListN.{length}
+use Rattle.std.proofs.lemmas.Result.{err_from_is_err_and}
+use Rattle.narrowed_writer.proofs.Judging.{many_refused, member_start, judged, member_refused, member_size, member_order, member_more}
 use borrow.Author.Rules.{rules}
 use native.Mathlib.Omega.{arith}
 use Rattle.narrowed_writer.proofs.judge.Goals as goal
@@ -10,42 +11,34 @@ use Rattle.narrowed_writer.proofs.judge.Goals as goal
 pub returns-then-q-gt-MEMBERS : goal.returns-then-q-gt-MEMBERS
 returns-then-q-gt-MEMBERS c = many_refused _ c.if-q-gt-MEMBERS.true
 
-pub loop-i-init : goal.loop-i-init
-loop-i-init c = (member_start _ (omega (arith, c.if-q-gt-MEMBERS.false)), search rules, search rules, refl, refl)
+pub loop-n-init : goal.loop-n-init
+loop-n-init c = member_start _ (omega (arith, c.if-q-gt-MEMBERS.false))
 
-pub returns-in-Refused : goal.returns-in-Refused
-returns-in-Refused c =
-    member_refused c.loop-i.invariant.0 c.loop-i-test.true c.loop-i.invariant.1 _ _ (sym c.judge_member.ensures ∙ ap place_said c.in-Refused.is)
+pub returns-in_err-next : goal.returns-in_err-next
+returns-in_err-next c =
+    let j = judged c.loop-n.invariant c.loop-n-test.true c.in_err-next.ensures in
+    let long : length c.args.q.now.numbers ≡ 6144 = search rules in
+    let p = err_from_is_err_and c.from_residual.result c.from_residual.ensures.1 in
+    rw (p.1, p.2) (member_refused c.loop-n.invariant j.0 long _ _ j.1)
 
-pub overflow_cast-end : goal.overflow_cast-end
-overflow_cast-end c =
-    let h = member_size c.loop-i.invariant.0 c.loop-i-test.true c.loop-i.invariant.1 _ (sym c.judge_member.ensures ∙ ap place_said c.in-At.is) in
-    omega arith
+pub slice_bounds-earlier-end-in-loop-n : goal.slice_bounds-earlier-end-in-loop-n
+slice_bounds-earlier-end-in-loop-n c =
+    let j = judged c.loop-n.invariant c.loop-n-test.true c.in_ok-next.ensures in
+    let long : length c.args.q.now.numbers ≡ 6144 = search rules in
+    let few = member_size c.loop-n.invariant j.0 long _ j.1 in
+    let r = c.loop-n.invariant in
+    omega (arith, few, j.0, j.2, c.from.ensures, r.used, r.few)
 
-pub overflow_add-end : goal.overflow_add-end
-overflow_add-end c =
-    let h = member_size c.loop-i.invariant.0 c.loop-i-test.true c.loop-i.invariant.1 _ (sym c.judge_member.ensures ∙ ap place_said c.in-At.is) in
-    let r = c.loop-i.invariant.0 in
-    omega (arith, r.used, r.few, c.loop-i-test.true)
+pub returns-then-not-earlier : goal.returns-then-not-earlier
+returns-then-not-earlier c =
+    let j = judged c.loop-n.invariant c.loop-n-test.true c.in_ok-next.ensures in
+    let long : length c.args.q.now.numbers ≡ 6144 = search rules in
+    let b = rw (c.from.ensures ∙ j.2) at (sym c.earlier.ensures ∙ c.if-not-earlier.true) in
+    member_order c.loop-n.invariant j.0 long _ j.1 b
 
-pub earlier-requires : goal.earlier-requires
-earlier-requires c =
-    let h = member_size c.loop-i.invariant.0 c.loop-i-test.true c.loop-i.invariant.1 _ (sym c.judge_member.ensures ∙ ap place_said c.in-At.is) in
-    let r = c.loop-i.invariant.0 in
-    (r.ordered, (omega arith, omega (arith, r.used, r.few, c.loop-i-test.true, c.loop-i.invariant.1)))
-
-pub loop-i-preserved : goal.loop-i-preserved
-loop-i-preserved c = (
-  member_more c.loop-i.invariant.0 c.loop-i-test.true c.loop-i.invariant.1 _ (sym c.judge_member.ensures ∙ ap place_said c.in-At.is) (sym c.earlier.ensures ∙ c.if-earlier.true),
-  c.loop-i.invariant.1,
-  c.loop-i.invariant.2,
-  c.loop-i.invariant.3,
-  c.loop-i.invariant.4,
-)
-
-pub returns-else-earlier : goal.returns-else-earlier
-returns-else-earlier c =
-    member_order c.loop-i.invariant.0 c.loop-i-test.true c.loop-i.invariant.1 _ (sym c.judge_member.ensures ∙ ap place_said c.in-At.is) (sym c.earlier.ensures ∙ c.if-earlier.false)
-
-pub returns : goal.returns
-returns c = members_end c.loop-i.invariant.0 c.loop-i-test.false
+pub loop-n-preserved : goal.loop-n-preserved
+loop-n-preserved c =
+    let j = judged c.loop-n.invariant c.loop-n-test.true c.in_ok-next.ensures in
+    let long : length c.args.q.now.numbers ≡ 6144 = search rules in
+    let b = rw (c.from.ensures ∙ j.2) at (sym c.earlier.ensures ∙ c.if-not-earlier.false) in
+    rw (c.from.ensures ∙ j.2) (member_more c.loop-n.invariant j.0 long _ j.1 b)

@@ -1,7 +1,7 @@
 -- The graph of a part's kinds: triple by triple, closed, and the walks that meet a cyclic kind.
 -- Assumes nothing.
 use mathlib.Core.Path.{◌≡◌, refl, sym, ap, ap₂, ◌∙◌}
-use mathlib.Core.Bool.{Bool, true, false, ◌&&◌, ◌||◌, not, and-false, or-false, or_assoc}
+use mathlib.Core.Bool.{Bool, true, false, ◌&&◌, ◌||◌, and-false, or-false, or_assoc}
 use mathlib.Core.Logic.{inl, inr}
 use mathlib.Core.List.{List, [], ◌∷◌}
 use Prim.Native.Nat.{ℕ, ◌+◌, ◌-◌, ◌*◌, ◌/◌, ◌%◌, ◌<◌, ◌≤◌}
@@ -27,7 +27,7 @@ use Rattle.triples.specs.Table.{Loaded}
 use Rattle.triples.specs.Parts.{part_of}
 use Rattle.triples.proofs.Triples.{triple_from, triple_to}
 use Rattle.triples.proofs.Growing.{part_next, part_over}
-use Rattle.kind_graph.specs.Kinds.{Edges, KindGraph, TellsAcyclic}
+use Rattle.kind_graph.specs.Kinds.{Edges, KindGraph}
 
 eqb_sym : (a b : ℕ) → eqb a b ≡ eqb b a
 eqb_sym a b = go (ℕ_discrete a b)
@@ -149,10 +149,3 @@ module _ {ts : List Triple} {xs ys zs us ms ns : List ℕ} (h : Edges ts xs) (cl
             ∙ some_same (λ z. pair_at zs 0 1 a z && (pair_at zs 64 1 z b && row_bit ns 0 z)) (λ z. cyclic? (reach 64 ts) z && (leads? (reach 64 ts) a z && leads? (reach 64 ts) z b)) 64
             (λ z hz. joined_at a b z ha hb hz);
       }
-
--- ---- tests
-pub tells_cyclic : (xs : List ℕ) (a b : ℕ) → a < 64 → row_bit xs (64 + a) a ≡ true → TellsAcyclic xs a b false
-tells_cyclic xs a b ha e ts l p = rw (sym (l.reached a a ha ha) ∙ e)
-
-pub tells_acyclic : (xs : List ℕ) (a b : ℕ) → a < 64 → b < 64 → row_bit xs (64 + a) a ≡ false → {r : Bool} → r ≡ row_bit xs (64 + b) b → TellsAcyclic xs a b (not r)
-tells_acyclic xs a b ha hb e {r} f ts l p = rw (sym (l.reached a a ha ha) ∙ e, f, l.reached b b hb hb)

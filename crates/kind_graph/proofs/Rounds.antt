@@ -4,19 +4,20 @@ use mathlib.Core.Path.{◌≡◌, refl, sym, ap, ap₂, ◌∙◌}
 use mathlib.Core.Bool.{Bool, true, false, cond, true≢false}
 use mathlib.Core.Logic.{⊎_elim}
 use mathlib.Core.List.{List, [], ◌∷◌}
-use Prim.Native.Nat.{ℕ, zero, suc, ◌+◌, ◌-◌, ◌<◌, ◌≤◌, max}
-use native.Mathlib.Decide.{ℕ_discrete}
+use Prim.Native.Nat.{ℕ, ◌+◌, ◌-◌, ◌<◌, ◌≤◌, max}
 use native.Mathlib.Nat.{eq-or-lt_of_le}
 use native.Mathlib.Numerals.{add-one}
 use native.Mathlib.Omega.{arith}
 use lib.Dec.{eqb}
-use lib.ListN.{length, get_or, set, length-set, replicate, get_or-eq_default}
-use lib.Seq.{get_or-set_same, get_or-set_other}
-use borrow.Author.Tests.{eq-eqb, ne_eqb}
+use lib.ListN.{length, get_or, replicate, get_or-eq_default}
 use Rattle.theory.specs.PathExpr.{size}
 use Rattle.theory.specs.Inference.{Triple, walks}
 use Rattle.theory.specs.Narrowing.{short?}
 use Rattle.rows.proofs.Words.{le_or_lt}
+use Rattle.std.specs.Bool.{MatchBool}
+use Rattle.std.specs.List.{AllWithin, HoldsAt}
+use Rattle.triples.specs.Tests.{Decides}
+use Rattle.triples.proofs.Comparing.{decides_yes, decides_no}
 use Rattle.triples.specs.declared.Node.{Node}
 use Rattle.triples.specs.Table.{Loaded}
 use Rattle.triples.specs.Paths.{triple_of}
@@ -27,32 +28,10 @@ use Rattle.fields.proofs.Padded.{zero_at}
 use Rattle.kind_graph.specs.Sizes.{Part, largest, to_kind, extended, size_of, weight, Raised, Raising, AtMost, Small}
 use Rattle.kind_graph.proofs.LongestWalks.{best, best_none, rounds_short, round_long}
 
--- ---- one number
-pub raised_not : {xs : List ℕ} {k v : ℕ} → v ≤ get_or xs k 0 → Raised k v xs xs
-raised_not {xs} {k} {v} h = record { same_length = refl; at = λ j. go j (ℕ_discrete k j) }
-  where
-    go : (j : ℕ) → Dec (k ≡ j) → get_or xs j 0 ≡ max (get_or xs j 0) (cond (eqb k j) v 0)
-    go j (yes e) = rw (eq-eqb k j e) (let f = ap (λ (i : ℕ). get_or xs i 0) e in omega arith)
-    go j (no n) = rw (ne_eqb k j n) (omega arith)
-
-pub raised_set : {xs : List ℕ} {k v : ℕ} → k < length xs → get_or xs k 0 < v → Raised k v xs (set xs k v)
-raised_set {xs} {k} {v} l h = record { same_length = length-set xs k v; at = λ j. go j (ℕ_discrete k j) }
-  where
-    go : (j : ℕ) → Dec (k ≡ j) → get_or (set xs k v) j 0 ≡ max (get_or xs j 0) (cond (eqb k j) v 0)
-    go j (yes e) = rw (eq-eqb k j e, ← e, get_or-set_same xs k v 0 l) (omega arith)
-    go j (no n) = rw (ne_eqb k j n, get_or-set_other xs k j v 0 (λ e. n (sym e))) (omega arith)
-
-pub extended_more : (m s : ℕ) → ¬ (m ≡ 0) → m + s + 1 ≡ extended m s
-extended_more zero s n = absurd (n refl)
-extended_more (suc m) s n = omega arith
-
 -- ---- a round: what stands, raised by the rest of the part, is the start raised by all of it
 pub record Going (w : Triple → ℕ) (all rest : List Triple) (xs ys : List ℕ) : Type 0 where
   pub same_length : length ys ≡ length xs
   pub at : (k : ℕ) → max (get_or ys k 0) (largest (to_kind k w) rest) ≡ max (get_or xs k 0) (largest (to_kind k w) all)
-
-pub round_start : (w : Triple → ℕ) (ts : List Triple) (xs : List ℕ) → Going w ts ts xs xs
-round_start w ts xs = record { same_length = refl; at = λ k. refl }
 
 round_over : {w : Triple → ℕ} {all rest : List Triple} {xs ys : List ℕ} → Going w all rest xs ys → rest ≡ [] → Raising w all xs ys
 round_over {w} {all} {rest} {xs} {ys} r e = record { same_length = r.same_length; at = λ k. (let f = r.at k in let g : largest (to_kind k w) rest ≡ 0 = ap (largest (to_kind k w)) e in omega arith) }
@@ -92,13 +71,14 @@ module _ {qs ws : List ℕ} {s e : ℕ} (h : Part qs ws (span s e)) where
     pub round_next : {w : Triple → ℕ} {v : ℕ} {xs ys zs : List ℕ} → v ≡ w (triple_of qs ws i) → Going w (from s) (from i) xs ys → Raised x.to.0 v ys zs → Going w (from s) (from (i + 1)) xs zs
     round_next q r d = round_turn (from (i + 1)) r (part_next qs ws i e l) to_is q d
 
--- ---- whether each number is at most m
-pub at_most_all : {m : ℕ} (xs : List ℕ) (i : ℕ) → length xs ≤ i → ((k : ℕ) → k < i → get_or xs k 0 ≤ m) → AtMost m xs
-at_most_all xs i l h k =
-    ⊎_elim (λ (o : i ≤ k). let e : get_or xs k 0 ≡ 0 = get_or-eq_default xs 0 (omega arith) in omega arith) (λ (o : k < i). h k o) (le_or_lt i k)
-
-pub at_most_more : {m : ℕ} (xs : List ℕ) (i : ℕ) → ((k : ℕ) → k < i → get_or xs k 0 ≤ m) → get_or xs i 0 ≤ m → (k : ℕ) → k < i + 1 → get_or xs k 0 ≤ m
-at_most_more xs i h o k l = ⊎_elim (λ (e : k ≡ i). rw e o) (λ (n : k < i). h k n) (eq-or-lt_of_le (omega arith))
+-- ---- whether each number is at most m: `all` tells that each is, or that one is not
+pub decides_at_most : (m : ℕ) (r : Bool) (xs : List ℕ) → MatchBool r (AllWithin (λ x. x ≤ m) xs 0 (length xs)) ((k : ℕ) × (k < length xs) × HoldsAt (λ x. m < x) xs k)
+    → Decides (AtMost m xs) r
+decides_at_most m true xs h = decides_yes (λ k. ⊎_elim
+    (λ (o : length xs ≤ k). let e : get_or xs k 0 ≡ 0 = get_or-eq_default xs 0 o in omega arith)
+    (λ (o : k < length xs). h k 0 (omega arith) o)
+    (le_or_lt (length xs) k))
+decides_at_most m false xs w = decides_no (λ h. omega (arith, h w.0, w.2 0))
 
 -- ---- the rounds
 -- after n rounds: the largest walk of n + 1 triples to each kind, and none was over 48 yet
@@ -153,6 +133,3 @@ module _ {fs : List Triple} where
   rounds_none {n} g z =
       let none : (k : ℕ) → best fs n k ≡ 0 = λ k. omega (arith, z k, g.is k) in
       sym (rounds_short fs (λ m k h. ⊎_elim (λ (l : m ≤ n). g.below m k l) (λ (l : n < m). omega (arith, best_none fs n none m k (omega arith))) (le_or_lt m n)))
-
-  pub rounds_small : {n : ℕ} {xs : List ℕ} → Rounds fs n xs → Small xs
-  rounds_small {n} g k = omega (arith, g.is k, g.below n k (omega arith))

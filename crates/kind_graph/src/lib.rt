@@ -30,11 +30,16 @@ fn edges(words: &[u64], question: &[u8], xs: Span, work: &mut [u64])
     ensures { Edges (triples_in question.now words.now xs) work.new }
 {
     rows::clear(work, 0, KINDS);
-    let mut i = xs.start;
-    while i < xs.end {
+    for i in xs.start..xs.end {
         let x = triples::load(words, i);
-        relation::set_pair(work, 0, KINDS, 1, x.from.0 as usize, x.to.0 as usize);
-        i += 1;
+        relation::set_pair(
+            work,
+            0,
+            KINDS,
+            1,
+            usize::from(x.from.0),
+            usize::from(x.to.0),
+        );
     }
 }
 
@@ -55,9 +60,7 @@ fn double(work: &mut [u64])
     requires { length work.old ≡ 128 }
     ensures { Row 64 64 (row_bit work.old 0) work.old work.new }
 {
-    let mut half = [0u64; KINDS];
-    rows::copy(&mut half, 0, work, 0, KINDS);
-    rows::copy(work, KINDS, &half, 0, KINDS);
+    work.copy_within(0..KINDS, KINDS);
 }
 
 // Word 64 + a: the kinds to which a walk over the nodes xs leads from kind a.
@@ -66,7 +69,7 @@ pub fn graph(words: &[u64], question: &[u8], xs: Span, work: &mut [u64])
     requires { (xs.start ≤ xs.end) × (xs.end ≤ length words.now) × (length work.old ≡ 128) }
     ensures { KindGraph (triples_in question.now words.now xs) work.new }
 {
-    let mut mask = [0u64; 1];
+    let mut mask = [0u64];
     edges(words, question, xs, work);
     transitive_closure::closure(work, 0, KINDS, 1);
     cyclic(&mut mask, work);
@@ -79,12 +82,9 @@ pub fn acyclic(work: &[u64], a: Kind, b: Kind) -> bool
     requires { (length work.now ≡ 128) × (a.0 < 64) × (b.0 < 64) }
     ensures { TellsAcyclic work.now a.0 b.0 result }
 {
-    let i = a.0 as usize;
-    if rows::has(work, KINDS + i, i) {
-        return false;
-    }
-    let j = b.0 as usize;
-    !rows::has(work, KINDS + j, j)
+    let i = usize::from(a.0);
+    let j = usize::from(b.0);
+    !rows::has(work, KINDS + i, i) && !rows::has(work, KINDS + j, j)
 }
 
 // Raises the number at k to v, where it is less.
@@ -92,10 +92,8 @@ fn raise(best: &mut [u64], k: Kind, v: u64)
     requires { k.0 < length best.old }
     ensures { Raised k.0 v best.old best.new }
 {
-    let i = k.0 as usize;
-    if best[i] < v {
-        best[i] = v;
-    }
+    let i = usize::from(k.0);
+    best[i] = best[i].max(v);
 }
 
 // The size of a walk of size m (0: no walk) joined with a triple.
@@ -114,11 +112,9 @@ fn first_round(words: &[u64], question: &[u8], xs: Span, next: &mut [u64])
     requires { Part question.now words.now xs × (length next.old ≡ 64) }
     ensures { Raising size_of (triples_in question.now words.now xs) next.old next.new }
 {
-    let mut i = xs.start;
-    while i < xs.end {
+    for i in xs.start..xs.end {
         let x = triples::load(words, i);
         raise(next, x.to, x.size as u64);
-        i += 1;
     }
 }
 
@@ -127,12 +123,10 @@ fn round(words: &[u64], question: &[u8], xs: Span, best: &[u64], next: &mut [u64
     requires { Part question.now words.now xs × (length best.now ≡ 64) × (length next.old ≡ 64) × Small best.now }
     ensures { Raising (weight best.now) (triples_in question.now words.now xs) next.old next.new }
 {
-    let mut i = xs.start;
-    while i < xs.end {
+    for i in xs.start..xs.end {
         let x = triples::load(words, i);
-        let k = x.from.0 as usize;
+        let k = usize::from(x.from.0);
         raise(next, x.to, extend(best[k], x.size));
-        i += 1;
     }
 }
 
@@ -140,14 +134,7 @@ fn round(words: &[u64], question: &[u8], xs: Span, best: &[u64], next: &mut [u64
 fn at_most(best: &[u64], m: u64) -> bool
     ensures { Decides (AtMost m best.now) result }
 {
-    let mut i = 0;
-    while i < best.len() {
-        if m < best[i] {
-            return false;
-        }
-        i += 1;
-    }
-    true
+    best.iter().all(|&size| size <= m)
 }
 
 // Whether each walk over the nodes xs has a path of at most 48 symbols. A walk of more than 25 triples has a longer one; and where there
@@ -161,8 +148,7 @@ pub fn walks_short(words: &[u64], question: &[u8], xs: Span) -> bool
     if !at_most(&best, MOST) {
         return false;
     }
-    let mut n: usize = 0;
-    while n < ROUNDS {
+    for _ in 0..ROUNDS {
         if at_most(&best, 0) {
             return true;
         }
@@ -172,7 +158,6 @@ pub fn walks_short(words: &[u64], question: &[u8], xs: Span) -> bool
             return false;
         }
         best = next;
-        n += 1;
     }
     true
 }

@@ -1,6 +1,6 @@
 -- Loops that make a relation row by row: what holds at the loop's head, and how it goes on.
 -- Assumes nothing.
-use mathlib.Core.Path.{◌≡◌, refl, ap, ◌∙◌, subst}
+use mathlib.Core.Path.{◌≡◌, refl, ap, ◌∙◌}
 use mathlib.Core.Bool.{Bool, false}
 use mathlib.Core.List.{List}
 use mathlib.Core.Logic.{inl, ⊎_elim}
@@ -23,9 +23,6 @@ row_next s w = rw add-one (suc-mul s w)
 pub row_le : {s n : ℕ} (w : ℕ) → s < n → s * w + w ≤ n * w
 row_le {s} {n} w h = rw suc-mul at (mul-le-mul_right w h)
 
-pub made_none : (b w : ℕ) (f : ℕ → ℕ → Bool) (xs : List ℕ) → Made b 0 w f xs xs
-made_none b w f xs = record { kept = kept_refl _ _ xs; pair = λ s t h l. absurd (omega arith) }
-
 -- a turn of a loop that makes a relation row by row
 pub made_more : {b s w : ℕ} {f : ℕ → ℕ → Bool} {xs ys zs : List ℕ} → Made b s w f xs ys → Row (b + s * w) w (f s) ys zs → Made b (s + 1) w f xs zs
 made_more {b} {s} {w} {f} {xs} {ys} {zs} p r =
@@ -34,9 +31,6 @@ made_more {b} {s} {w} {f} {xs} {ys} {zs} p r =
       kept = kept_trans p.kept r.kept (omega arith) (omega arith) (omega arith) (omega arith);
       pair = λ i t h l. ⊎_elim (λ q. rw q (r.bit t l)) (λ q. kept_bit (b + i * w) w t r.kept (inl (omega (arith, row_le w q))) l ∙ p.pair i t q l) (eq-or-lt_of_le (omega arith));
     }
-
-pub made_all : {b n m w : ℕ} {f : ℕ → ℕ → Bool} {xs ys : List ℕ} → Made b n w f xs ys → n ≡ m → Made b m w f xs ys
-made_all {b} {w = w} {f} {xs} {ys} p e = subst (λ (k : ℕ). Made b k w f xs ys) e p
 
 pub made_same : (b n w : ℕ) (xs : List ℕ) → Made b n w (pair_at xs b w) xs xs
 made_same b n w xs = record { kept = kept_refl _ _ xs; pair = λ s t h l. refl }

@@ -1,5 +1,6 @@
 // Relations on up to 1,024 records in words that are lent: n rows of w words, the relation at word b.
 // An operation of two relations leaves its result in the first one's place and changes no other word.
+// Where a relation lies is told by numbers, since public functions keep their signatures.
 #![tactic(auto)]
 
 ghost use Rattle.std.specs.Prelude.{◌≡◌, true, ◌&&◌, ◌||◌, ℕ, ◌+◌, ◌*◌, ◌<◌, ◌≤◌, eqb, length};

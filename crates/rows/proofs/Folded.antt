@@ -1,6 +1,6 @@
 -- The union of a row's words, which is 0 where each of them is.
 -- Assumes nothing.
-use mathlib.Core.Path.{◌≡◌, refl, sym, ap, ◌∙◌}
+use mathlib.Core.Path.{◌≡◌, sym, ap, ◌∙◌}
 use mathlib.Core.Bool.{true, false, not}
 use mathlib.Core.List.{List}
 use mathlib.Core.Logic.{⊎_elim}
@@ -22,9 +22,6 @@ use Rattle.rows.proofs.Rows.{eq_or_ne}
 pub record Folded (g : ℕ → ℕ) (j v : ℕ) : Type 0 where
   pub none : v ≡ 0 → (i : ℕ) → i < j → g i ≡ 0
   pub some : (v ≡ 0 → ⊥) → (i : ℕ) × (i < j) × (g i < 2 ^ 64) × (g i ≡ 0 → ⊥)
-
-pub folded_none : (g : ℕ → ℕ) → Folded g 0 0
-folded_none g = record { none = λ e i h. absurd (omega arith); some = λ n. absurd (n refl) }
 
 -- a union is 0 where both are: with what they share it is their sum, and they share no more than each has
 left_zero : (a b : ℕ) → bit_or a b ≡ 0 → a ≡ 0

@@ -32,9 +32,6 @@ module _ (xs : List ℕ) (r : ℕ) (ps qs : List ℕ) where
   abbrev pub Passed : ℕ → Type 0
   Passed i = (t : ℕ) → t < 64 * i → f t ≡ false
 
-  pub passed_none : Passed 0
-  passed_none t h = absurd (omega arith)
-
   -- word i has none
   pub passed_more : (i : ℕ) → Passed i → common_words xs r ps qs i ≡ 0 → Passed (i + 1)
   passed_more i p e t h = ⊎_elim (λ (l : 64 * i ≤ t). last t l h) (λ (l : t < 64 * i). p t l) (le_or_lt (64 * i) t)
@@ -61,7 +58,3 @@ module _ (xs : List ℕ) (r : ℕ) (ps qs : List ℕ) where
           let s = l.small in
           let z : 64 * i + t % 64 ≡ t = omega arith in
           ap f (sym z) ∙ at (t % 64) (omega arith) ∙ l.below (t % 64) (omega arith)
-
-  -- none has
-  pub least_none : (n i : ℕ) → Passed i → i ≡ n → Least f (64 * n) (64 * n)
-  least_none n i p e = record { most = omega arith; here = λ k. absurd (omega arith); below = λ t k. p t (omega arith) }

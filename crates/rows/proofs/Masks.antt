@@ -121,9 +121,6 @@ pub record Begins (n i g : ℕ) : Type 0 where
   pub within : g ≤ 64 * i
   pub full : g < n → g ≡ 64 * i
 
-pub begins_none : (n : ℕ) → Begins n 0 0
-begins_none n = record { most = omega arith; within = omega arith; full = λ h. refl }
-
 pub begins_more : {n i g m : ℕ} → Begins n i g → m ≤ 64 → g + m ≤ n → (m < 64 → g + m ≡ n) → Begins n (i + 1) (g + m)
 begins_more {n} {i} {g} {m} b k l last =
     record {

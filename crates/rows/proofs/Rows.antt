@@ -96,6 +96,3 @@ put_none xs d t v l e = put_word xs d t v (λ x y. x && not y) and-true l (λ j.
 
 pub put_yes : {b : Bool} {xs ys : List ℕ} (t : ℕ) → Put 0 t (λ j. row_bit xs 0 j || eqb j t) xs ys → b ≡ true → Put 0 t (λ j. row_bit xs 0 j || (b && eqb j t)) xs ys
 put_yes t p e w h = rw e (p w h)
-
-pub put_no : {b : Bool} (t : ℕ) (xs : List ℕ) → b ≡ false → Put 0 t (λ j. row_bit xs 0 j || (b && eqb j t)) xs xs
-put_no t xs e w h = rw e (row_is (row_same 0 w xs) (λ j l. sym (or-false (row_bit xs 0 j))))

@@ -55,11 +55,6 @@ wrote_more {d} {n} {v} {f} {xs} {ys} p l e =
     upto : (j n : ℕ) → j < n + 1 → (j ≡ n) ⊎ (j < n)
     upto j n h = eq-or-lt_of_le (omega arith)
 
--- a word that the loop has not come to, and that is not among those it wrote: a source that starts below d ends below d
-pub unwritten : {d n : ℕ} {f : ℕ → ℕ} {xs ys : List ℕ} (s w : ℕ) → Wrote d n f xs ys → (s < d → s + w ≤ d) → n < w → get_or ys (s + n) 0 ≡ get_or xs (s + n) 0
-unwritten {d} {n} s w p apart h =
-    ⊎_elim (λ l. p.kept.above (s + n) (omega arith)) (λ l. p.kept.below (s + n) (omega (arith, apart l))) (le_or_lt d s)
-
 -- at the end
 pub wrote_all : {d n m : ℕ} {f : ℕ → ℕ} {xs ys : List ℕ} → Wrote d n f xs ys → n ≡ m → Wrote d m f xs ys
 wrote_all {d} {f = f} {xs} {ys} p e = subst (λ (k : ℕ). Wrote d k f xs ys) e p

@@ -193,7 +193,8 @@ impl Merge for Excluded {
     ghost bits = { excluded_bits };
 }
 
-// The row of n words at s is merged into the one at d. The loop is short, so that it is inlined at each call.
+// The row of n words at s is merged into the one at d. The loop is short, so that it is inlined at each call. Loops that write words go by
+// index: nothing is known of words that were written through `iter_mut`.
 fn merge_into<M: Merge>(to: &mut [u64], d: usize, from: &[u64], s: usize, n: usize)
     requires { (d + n ≤ length to.old) × (s + n ≤ length from.now) }
     ensures { Row d n (λ t. M.bit (row_bit to.old d t) (row_bit from.now s t)) to.old to.new }

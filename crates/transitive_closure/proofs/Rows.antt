@@ -1,7 +1,7 @@
 -- One row that takes in the rows of its records until it is the closure's.
 -- Assumes nothing.
 use mathlib.Core.Path.{◌≡◌, refl, sym, ap, ◌∙◌}
-use mathlib.Core.Bool.{Bool, true, false, cond, ◌&&◌, ◌||◌, not, and-true, false≢true}
+use mathlib.Core.Bool.{Bool, true, false, ◌&&◌, ◌||◌, not, and-true, false≢true}
 use mathlib.Core.List.{List}
 use mathlib.Core.Logic.{◌⊎◌, inl, inr, ⊎_elim}
 use Prim.Native.Nat.{ℕ, zero, suc, ◌+◌, ◌*◌, ◌/◌, ◌%◌, ◌^◌, ◌≤◌, ◌<◌}
@@ -247,15 +247,6 @@ module _ {xs live pending finished : List ℕ} {b n w : ℕ} (h : PartlyClosed x
     stepped_finished p e r =
         let m = took_less p k pick_word masks.0 (or_second (row_bit xs (b + k * w) k) (eqb k k) (eq-eqb k k refl)) in
         record { grown = grown_then (picked_grown p e) r; less = λ z. omega (arith, m, r.fewer); over = λ z. absurd (false≢true (sym z)) }
-
-  -- there is none
-  pub stepped_over : {row left : List ℕ} {s : ℕ} (k : ℕ) → Growing xs b n w s row left → Least (common row 0 left left) (64 * w) k → 64 * w ≤ k → Stepped xs b n w s row left row left false
-  stepped_over {row} {left} k g p l =
-      record {
-        grown = grown_none g;
-        less = λ e. absurd (false≢true e);
-        over = λ e t m y. off (row_bit left 0 t) (λ z. false≢true (sym (p.below t (omega arith)) ∙ rw (y, z)));
-      }
 
   -- ---- the finished rows of a word
   module _ {row left : List ℕ} {s : ℕ} (i v : ℕ) (g : Growing xs b n w s row left)

@@ -21,9 +21,6 @@ use Rattle.relation.proofs.Clean.{clean_past}
 use Rattle.relation.proofs.Joining.{row_blank}
 use Rattle.relation.proofs.Pair.{made_row}
 use Rattle.transitive_closure.specs.Finishing.{closure_at, amount, PartlyClosed, Stage}
-use Rattle.transitive_closure.specs.Standing.{Ready, StageTo}
-use Rattle.transitive_closure.specs.declared.Place.{Place}
-use Rattle.transitive_closure.specs.declared.Marks.{Marks}
 use Rattle.transitive_closure.proofs.Amounts.{amount_less}
 use Rattle.transitive_closure.proofs.Paths.{closure_in, closure_edge, closure_trans, closure_ind}
 use Rattle.transitive_closure.proofs.Rows.{or_either, and_yes, off, both_ways, lost, gone_off}
@@ -186,13 +183,3 @@ module _ (os : List ℕ) (w : ℕ) {k : ℕ} (p : Least (common os 0 os os) (64 
 
   pub pending_none : 64 * w ≤ k → (s : ℕ) → s < 64 * w → row_bit os 0 s ≡ false
   pending_none l s h = off (row_bit os 0 s) (λ e. false≢true (sym (p.below s (omega arith)) ∙ rw e))
-
--- ---- of the code's structs
-pub stage_start : (p : Place) (xs : List ℕ) (m : Marks) → Ready xs m p → StageTo p xs m xs m
-stage_start p xs m h = (refl, stage_none h)
-
-pub stage_ready : (p : Place) (xs ys : List ℕ) (m o : Marks) → StageTo p xs m ys o → Ready ys o p
-stage_ready p xs ys m o s = rw s.0 s.1.ready
-
-pub stage_next : (p : Place) (xs ys zs : List ℕ) (m o q : Marks) → StageTo p xs m ys o → StageTo p ys o zs q → StageTo p xs m zs q
-stage_next p xs ys zs m o q s t = (t.0 ∙ s.0, stage_then s.1 (rw s.0 at t.1))

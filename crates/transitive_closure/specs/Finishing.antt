@@ -72,13 +72,12 @@ pub record Stage (b n w : ℕ) (live xs pending finished ys pending' finished' :
   pub ready : PartlyClosed ys live pending' finished' b n w
 
 -- ---- the walk over the rows
--- those that lead to where it stands lie in the stack, which has room for all that it has not met
-pub record Trail (stack unseen : List ℕ) (n w depth : ℕ) : Type 0 where
-  pub room : 1024 ≤ length stack
+-- those that lead to where it stands lie in the stack, and there are no more of them, with those that it has not met, than rows
+pub record Trail (stack unseen : List ℕ) (n w : ℕ) : Type 0 where
   pub marks : w ≤ length unseen
   pub inner : CleanRow unseen 0 n w
-  pub deep : depth + amount (row_bit unseen 0) (64 * w) ≤ 64 * w
-  pub rows : (i : ℕ) → i < depth → get_or stack i 0 < n
+  pub deep : length stack + amount (row_bit unseen 0) (64 * w) ≤ 64 * w
+  pub rows : (i : ℕ) → i < length stack → get_or stack i 0 < n
 
 -- k is a row that it has not met
 pub record Ahead (unseen : List ℕ) (w k : ℕ) : Type 0 where

@@ -1,6 +1,6 @@
 -- The same of the code's structs: a place and its marks, a row that grows, and a walk.
 -- Assumes nothing.
-use Rattle.std.specs.Prelude.{◌≡◌, Bool, true, false, List, ℕ, ◌*◌, ◌/◌, ◌+◌, ◌<◌, ◌≤◌}
+use Rattle.std.specs.Prelude.{◌≡◌, length, Bool, true, List, ℕ, ◌*◌, ◌+◌, ◌<◌}
 use Rattle.rows.specs.Row.{row_bit, Row}
 use Rattle.transitive_closure.specs.declared.Place.{Place}
 use Rattle.transitive_closure.specs.declared.Marks.{Marks}
@@ -33,9 +33,9 @@ abbrev pub StageTo : Place → List ℕ → Marks → List ℕ → Marks → Typ
 StageTo p xs m ys o = (o.live ≡ m.live) × Stage p.b p.n p.w m.live xs m.pending m.finished ys o.pending o.finished
 
 abbrev pub Walking : Place → Search → Type 0
-Walking p t = Trail t.stack t.unseen p.n p.w t.depth
+Walking p t = Trail t.stack.items t.unseen p.n p.w
 
 -- one turn of the walk, or its end
 pub record WalkedTo (p : Place) (t u : Search) (turned : Bool) : Type 0 where
   pub walking : Walking p u
-  pub less : turned ≡ true → 2 * amount (row_bit u.unseen 0) (64 * p.w) + u.depth < 2 * amount (row_bit t.unseen 0) (64 * p.w) + t.depth
+  pub less : turned ≡ true → 2 * amount (row_bit u.unseen 0) (64 * p.w) + length u.stack.items < 2 * amount (row_bit t.unseen 0) (64 * p.w) + length t.stack.items

@@ -11,6 +11,7 @@ ghost use Rattle.relation.specs.Pairs.{pair_at, Made, Clean};
 ghost use Rattle.transitive_closure.specs.Finishing.{in_word, Ahead};
 ghost use Rattle.transitive_closure.specs.Standing.{Ready, TookIn, Grows, GrownTo, StepTo, Reached, StageTo, Walking, WalkedTo};
 
+use arrayvec::ArrayVec;
 use rows::{BITS, RECORDS, WIDEST};
 
 type Row = [u64; WIDEST];
@@ -139,12 +140,11 @@ fn finish(work: &mut [u64], m: &mut Marks, p: Place, s: usize)
 }
 
 // A walk over the rows, depth first: those that it has not met, and on the stack those that lead to where it stands. The stack has room for
-// all rows: there is no heap.
+// all rows, in the value itself.
 #[derive(Drop)]
 struct Search {
     unseen: Row,
-    stack: [usize; RECORDS],
-    depth: usize,
+    stack: ArrayVec<usize, RECORDS>,
 }
 
 impl Search {
@@ -153,11 +153,10 @@ impl Search {
         requires { (p.b + p.n * p.w ≤ length work.now) × (p.w ≤ 16) × Walking p self.now }
         ensures { IfSome result (Ahead self.now.unseen p.w) }
     {
-        if self.depth == 0 {
-            return rows::first(&self.unseen, 0, &self.unseen, &self.unseen, p.w);
+        match self.stack.as_slice().last() {
+            Some(s) => rows::first(work, p.row(*s), &self.unseen, &self.unseen, p.w),
+            None => rows::first(&self.unseen, 0, &self.unseen, &self.unseen, p.w),
         }
-        let d = p.row(self.stack[self.depth - 1]);
-        rows::first(work, d, &self.unseen, &self.unseen, p.w)
     }
 
     // One turn: down into a row, or, where there is none, back from the last row, which is finished. False at the walk's end.
@@ -167,15 +166,13 @@ impl Search {
     {
         if let Some(k) = self.ahead(work, p) {
             rows::unset(&mut self.unseen, 0, k);
-            self.stack[self.depth] = k;
-            self.depth += 1;
+            self.stack.push(k);
             return true;
         }
-        if self.depth == 0 {
+        let Some(s) = self.stack.pop() else {
             return false;
-        }
-        self.depth -= 1;
-        finish(work, m, p, self.stack[self.depth]);
+        };
+        finish(work, m, p, s);
         true
     }
 }
@@ -187,8 +184,7 @@ fn walk(work: &mut [u64], m: &mut Marks, p: Place)
 {
     let mut search = Search {
         unseen: m.pending,
-        stack: [0usize; RECORDS],
-        depth: 0,
+        stack: ArrayVec::new(),
     };
     while search.turn(work, m, p) {}
 }

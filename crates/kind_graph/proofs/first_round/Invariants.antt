@@ -2,11 +2,8 @@
 use Rattle.kind_graph.proofs.Rounds.{Going}
 use Rattle.kind_graph.specs.Sizes.{size_of}
 use Rattle.triples.specs.Parts.{part_of, triples_in}
-use Prim.Native.Nat.{◌-◌, ◌≤◌}
+use Prim.Native.Nat.{◌-◌}
 use Rattle.kind_graph.proofs.first_round.Given as goal
 
 abbrev pub invariant-loop-i : goal.invariant-loop-i
-invariant-loop-i l = (l.xs.start ≤ l.i) × (l.i ≤ l.xs.end) × Going size_of (triples_in l.question l.words l.xs) (part_of l.question l.words l.i (l.xs.end - l.i)) l.initial.next l.next
-
-abbrev pub decreases-loop-i : goal.decreases-loop-i
-decreases-loop-i l = l.xs.end - l.i
+invariant-loop-i l = Going size_of (triples_in l.question l.words l.fn.xs) (part_of l.question l.words l.i (l.fn.xs.end - l.i)) l.initial.next l.next

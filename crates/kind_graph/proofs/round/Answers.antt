@@ -1,21 +1,14 @@
 -- `kind_graph::round` meets its contract: the numbers so far, raised by the nodes from i on, are the start raised by all; a node weighs as the largest walk to it, joined with it.
 -- Assumes nothing.
-use Rattle.kind_graph.proofs.Rounds.{round_start, round_next, round_end, weight_is}
-use native.Mathlib.Omega.{arith}
+use Rattle.kind_graph.proofs.Rounds.{round_next, round_end, weight_is}
 use Rattle.kind_graph.proofs.round.Goals as goal
-
-pub loop-i-init : goal.loop-i-init
-loop-i-init c = (omega arith, omega arith, round_start _ _ _)
-
-pub extend-requires : goal.extend-requires
-extend-requires c = (c.requires.3 _, c.load-x.ensures.size_small)
 
 pub loop-i-preserved : goal.loop-i-preserved
 loop-i-preserved c =
     let h = c.requires.0 in
     let l = c.loop-i-test.true in
     let x = c.load-x.ensures in
-    (omega arith, omega arith, round_next h l x (weight_is h l x c.args.best.now c.extend.ensures) c.loop-i.invariant.2 c.raise.ensures)
+    (round_next h l x (weight_is h l x c.args.best.now (rw c.from-k.ensures at c.extend.ensures)) c.loop-i.invariant c.raise.ensures)
 
 pub returns : goal.returns
-returns c = round_end c.requires.0 c.loop-i-test.false c.loop-i.invariant.2
+returns c = round_end c.requires.0 c.loop-i-test.false c.loop-i.invariant

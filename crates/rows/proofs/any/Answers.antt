@@ -1,6 +1,6 @@
 -- `rows::any` meets its contract: the union of the words is 0 only where each of them is, and a word that is not 0 has a bit.
 -- Assumes nothing.
-use Rattle.rows.proofs.Folded.{row_words, folded_none, folded_more, folded_any}
+use Rattle.rows.proofs.Folded.{row_words, folded_more, folded_any}
 use Rattle.rows.proofs.Words.{part_word}
 use Prim.Native.Nat.{◌+◌, ◌<◌}
 use borrow.Rule.Slice.PartMut.{mid_len}

@@ -1,6 +1,6 @@
 -- `rows::first` meets its contract: the words that were passed have no bit in common, and of the first that has one its lowest is told.
 -- Assumes nothing.
-use Rattle.rows.proofs.Leasts.{passed_none, passed_more, least_here, least_none}
+use Rattle.rows.proofs.Leasts.{passed_more, least_here}
 use native.Mathlib.Omega.{arith}
 use Rattle.rows.proofs.first.Goals as goal
 

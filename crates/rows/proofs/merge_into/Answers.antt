@@ -1,8 +1,7 @@
 -- `rows::merge_into` meets its contract: each turn finds a word as it was at the start, and merges the source's into it; merged words have the merged bits.
 -- Assumes nothing.
-use mathlib.Core.Path.{ap₂, refl, ◌∙◌}
 use Rattle.rows.proofs.Rows.{row_merged}
-use Rattle.rows.proofs.Words.{wrote_none, wrote_more, wrote_all, unwritten}
+use Rattle.rows.proofs.Words.{wrote_all}
 use native.Mathlib.Omega.{arith}
 use Rattle.rows.proofs.merge_into.Goals as goal
 

@@ -1,8 +1,7 @@
 -- `rows::merge_within` meets its contract: each turn merges a word that the loop does not change into one that it has not come to.
 -- Assumes nothing.
-use mathlib.Core.Path.{ap₂, ◌∙◌}
 use Rattle.rows.proofs.Rows.{row_merged}
-use Rattle.rows.proofs.Words.{wrote_none, wrote_more, wrote_all, unwritten}
+use Rattle.rows.proofs.Words.{wrote_all}
 use native.Mathlib.Omega.{arith}
 use Rattle.rows.proofs.merge_within.Goals as goal
 

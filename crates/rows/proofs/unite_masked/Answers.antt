@@ -1,9 +1,7 @@
 -- `rows::unite_masked` meets its contract: each turn finds a word as it was at the start, and adds the bits that the source's word and the mask's have in common.
 -- Assumes nothing.
-use mathlib.Core.Path.{refl, ap₂}
-use lib.Bits.{bit_or}
 use Rattle.rows.proofs.Rows.{row_masked}
-use Rattle.rows.proofs.Words.{wrote_none, wrote_more, wrote_all, unwritten}
+use Rattle.rows.proofs.Words.{wrote_all}
 use native.Mathlib.Omega.{arith}
 use Rattle.rows.proofs.unite_masked.Goals as goal
 

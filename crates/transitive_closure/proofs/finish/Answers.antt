@@ -1,7 +1,6 @@
 -- `transitive_closure::finish` meets its contract: the row that was reached is the closure's, and takes the place of row s.
 -- Assumes nothing.
 use mathlib.Core.Path.{refl}
-use native.Mathlib.Omega.{arith}
 use Rattle.rows.proofs.Rows.{row_is, row_same}
 use Rattle.transitive_closure.proofs.Rows.{growing_none}
 use Rattle.transitive_closure.proofs.Stages.{stage_row, stage_has}

@@ -1,6 +1,5 @@
 -- `Growth::reach` meets its contract: at each turn the row lies between row s and the closure's, and where a step took nothing in it is the closure's.
 -- Assumes nothing.
-use mathlib.Core.Path.{sym}
 use Rattle.rows.proofs.Words.{kept_trans}
 use Rattle.transitive_closure.proofs.Rows.{growing_all}
 use native.Mathlib.Omega.{arith}

@@ -1,14 +1,8 @@
 -- `Growth::take_rest` meets its contract: each bit of the word is a finished row that the row has.
 -- Assumes nothing.
-use mathlib.Core.Path.{◌≡◌}
-use mathlib.Core.Bool.{true}
-use Prim.Native.Nat.{ℕ, ◌+◌, ◌*◌, ◌^◌, ◌<◌}
-use native.Mathlib.Omega.{arith}
-use lib.Bits.{bit_and}
+use Prim.Native.Nat.{◌^◌, ◌<◌}
 use lib.ListN.{get_or}
 use Rattle.std.proofs.Common.{rules}
-use Rattle.bits.specs.Bit.{bit_of}
-use Rattle.rows.specs.Row.{row_bit}
 use Rattle.transitive_closure.proofs.Rows.{word_bits, in_range, grown_word}
 use Rattle.transitive_closure.proofs.Growth.take_rest.Goals as goal
 

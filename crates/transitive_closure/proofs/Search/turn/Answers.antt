@@ -6,10 +6,10 @@ use Rattle.transitive_closure.proofs.Stages.{stage_none}
 use Rattle.transitive_closure.proofs.Trails.{trail_room, trail_down, trail_fewer}
 use Rattle.transitive_closure.proofs.Search.turn.Goals as goal
 
-pub bounds-self-self : goal.bounds-self-self
-bounds-self-self c =
+pub push-requires : goal.push-requires
+push-requires c =
     let p = c.requires in
-    omega (arith, trail_room c.args.p.w c.unset.ensures c.in-Some.ensures p.1 p.0.words)
+    (omega arith, omega (arith, trail_room c.args.p.w c.unset.ensures c.in-Some.ensures p.1 p.0.words))
 
 pub returns-in-Some : goal.returns-in-Some
 returns-in-Some c =
@@ -17,5 +17,8 @@ returns-in-Some c =
     let a = c.in-Some.ensures in
     let w = c.args.p.w in (
       (refl, stage_none p.0),
-      record { walking = trail_down w c.unset.ensures a p.1 p.0.words; less = λ e. omega (arith, trail_fewer w c.unset.ensures a p.1 p.0.words) },
+      record {
+        walking = rw c.push.ensures.items (trail_down w c.unset.ensures a p.1 p.0.words);
+        less = λ e. omega (arith, c.push.ensures.len, trail_fewer w c.unset.ensures a p.1 p.0.words);
+      },
     )

@@ -55,7 +55,8 @@ fn plain_words(
     Ok(())
 }
 
-// 15; or as `plain_words`, and then the work words are zero.
+// 15; or as `plain_words`, and then the work words are zero. `narrowed_in` does the same by `narrowed_words`: as a closure that one function
+// takes, either would have to say all of its contract again.
 fn plain_in(
     path: &Path<'_>,
     ground: &Ground<'_>,
@@ -162,6 +163,7 @@ fn add_members(members: &Members, ground: &Ground<'_>, work: &mut [u64], answer:
     };
     let mut held = [None; HELD];
     let mut first = 0;
+    // By index: the three arrays zipped, with as many taken as there are members, would be no plainer.
     for i in 0..members.count {
         let next = first + usize::from(members.sizes[i]);
         let symbols = Symbols {

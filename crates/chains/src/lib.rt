@@ -63,6 +63,7 @@ fn chained(numbers: &[u8]) -> bool
     if numbers.len() % 2 == 0 || !is_step(numbers[0]) {
         return false;
     }
+    // By index: each pair of `numbers[1..].chunks_exact(2)` would be taken apart by index again.
     for j in 0..numbers.len() / 2 {
         if !is_step(numbers[2 * j + 1]) || numbers[2 * j + 2] != symbols::THROUGH {
             return false;
@@ -78,7 +79,8 @@ fn place(held: &[Option<u8>; HELD], step: Option<u8>) -> Option<usize>
     held.iter().position(|h| *h == step)
 }
 
-// The place of a step among those held, loaded if it is not there yet; none where there is no room for it.
+// The place of a step among those held, loaded if it is not there yet; none where there is no room for it. The work words, the table and what
+// is held go together here and below, but not as a struct that knows so: there is no ghost field beside a `&mut` (the kit's NOT_COVERED).
 fn hold(
     work: &mut [u64],
     table: &KindTable<'_>,

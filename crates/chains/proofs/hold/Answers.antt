@@ -5,25 +5,7 @@ use Rattle.chains.proofs.Holding.{past, before_end, held_more, holds_more}
 use Rattle.symbols.proofs.Numbers.{decoded}
 use Rattle.rows.proofs.Words.{kept_in}
 use Prim.Native.Nat.{◌*◌}
-use lib.Seq.{get_or-set_same}
-use Rattle.std.specs.Prelude.{Some, None}
-use native.Mathlib.Omega.{arith}
 use Rattle.chains.proofs.hold.Goals as goal
-
-pub overflow_mul-b : goal.overflow_mul-b
-overflow_mul-b c = let g = c.args.table.now.ground in let f = c.in_ok-free in let s = c.size.ensures in
-    rw s.0 (omega (arith, before_end f.free (g.register.records * g.words) f.ensures.0, s.0, s.1))
-
-pub step-requires : goal.step-requires
-step-requires c =
-    let g = c.args.table.now.ground in
-    let f = c.in_ok-free in
-    let h = before_end f.free (g.register.records * g.words) f.ensures.0 in
-    rw c.size.ensures.0 (omega (arith, h, c.requires.0))
-
-pub returns-clause-found : goal.returns-clause-found
-returns-clause-found c = let f = c.in_ok-free in
-    (f.ensures.0, get_or-set_same c.args.held.now f.free (Some c.args.number) None (omega (arith, f.ensures.0, c.requires.1.few)))
 
 pub returns-clause-held : goal.returns-clause-held
 returns-clause-held c =

@@ -1,15 +1,8 @@
 -- `evaluation::add_link` meets its contract: a link named l leads from its first record to its second, or back where the step is reversed, and a link of another name adds no pair.
 -- Assumes nothing.
-use Rattle.evaluation.proofs.Grounds.{grounded, rows_hold}
 use Rattle.evaluation.proofs.Links.{named_same, named_other, made_forward, made_reverse, made_neither}
 use Rattle.symbols.specs.Contract.{direction_said}
 use Rattle.evaluation.proofs.add_link.Goals as goal
-
-pub set_pair-requires : goal.set_pair-requires
-set_pair-requires c = let r = c.requires in (r.0, rows_hold (grounded c.args.ground.now), r.1, r.2)
-
-pub set_pair-requires-in-Reverse : goal.set_pair-requires-in-Reverse
-set_pair-requires-in-Reverse c = let r = c.requires in (r.0, rows_hold (grounded c.args.ground.now), r.2, r.1)
 
 pub returns-then-ne : goal.returns-then-ne
 returns-then-ne c =

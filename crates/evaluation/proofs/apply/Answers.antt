@@ -15,23 +15,11 @@ step-requires c = fits_step (grounded c.args.ground.now) _ _ (decoded c.decode.e
 pub overflow_add-result : goal.overflow_add-result
 overflow_add-result c = omega (arith, c.size-z.ensures.0, fits_step (grounded c.args.ground.now) _ _ (decoded c.decode.ensures c.in-Step.is) c.requires)
 
-pub overflow_sub-a : goal.overflow_sub-a
-overflow_sub-a c = omega (arith, c.size-z.ensures.0, (fits_two (grounded c.args.ground.now) _ tt (decoded c.decode.ensures c.in-Join.is) c.requires).below)
-
-pub overflow_sub-a-in-Join : goal.overflow_sub-a-in-Join
-overflow_sub-a-in-Join c = omega (arith, c.size-z.ensures.0, (fits_two (grounded c.args.ground.now) _ tt (decoded c.decode.ensures c.in-Join.is) c.requires).under)
-
 pub join_via-requires : goal.join_via-requires
 join_via-requires c =
     let e = c.size-z.ensures.0 in
     let t = fits_two (grounded c.args.ground.now) _ tt (decoded c.decode.ensures c.in-Join.is) c.requires in
     (omega (arith, e, t.under), omega (arith, e, t.below, t.ends), rw e t.next)
-
-pub overflow_sub-a-in-Op : goal.overflow_sub-a-in-Op
-overflow_sub-a-in-Op c = omega (arith, c.size-z.ensures.0, (fits_two (grounded c.args.ground.now) _ tt (decoded c.decode.ensures c.in-Op.is) c.requires).below)
-
-pub overflow_sub-a-in-Op-2 : goal.overflow_sub-a-in-Op-2
-overflow_sub-a-in-Op-2 c = omega (arith, c.size-z.ensures.0, (fits_two (grounded c.args.ground.now) _ tt (decoded c.decode.ensures c.in-Op.is) c.requires).under)
 
 pub operate-requires : goal.operate-requires
 operate-requires c =
@@ -39,9 +27,6 @@ operate-requires c =
     let g = (grounded c.args.ground.now) in
     let t = fits_two g _ tt (decoded c.decode.ensures c.in-Op.is) c.requires in
     (omega (arith, e, t.under), omega (arith, e, t.below, t.ends), narrow g, rows_hold g, rw e t.next, rw e t.top)
-
-pub overflow_sub-b : goal.overflow_sub-b
-overflow_sub-b c = omega (arith, c.size-z.ensures.0, (fits_one (grounded c.args.ground.now) (decoded c.decode.ensures c.in-Closure.is) c.requires).below)
 
 pub closure-requires : goal.closure-requires
 closure-requires c =

@@ -1,6 +1,5 @@
 -- `evaluation::kind_word` meets its contract: a turn moves the bit that the set has for the record's kind to the record's place, and changes no other bit.
 -- Assumes nothing.
-use mathlib.Core.Path.{◌≡◌}
 use Rattle.rows.proofs.Masks.{word_none, word_more}
 use Rattle.register.proofs.AcceptedRegister.{accepted_register}
 use Rattle.evaluation.proofs.KindBits.{kind_moved}
@@ -22,6 +21,3 @@ overflow_shr-v c =
 pub loop-i-preserved : goal.loop-i-preserved
 loop-i-preserved c =
     (omega arith, word_more _ c.loop-i.invariant.1 (kind_moved c.args.set c.loop-i.i _ c.from-k.ensures c.kind_at.ensures (omega arith)))
-
-pub returns : goal.returns
-returns c = let e : c.loop-i.i ≡ c.args.m = omega arith in rw e at c.loop-i.invariant.1

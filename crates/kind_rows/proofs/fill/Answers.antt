@@ -2,24 +2,14 @@
 -- Assumes nothing.
 use mathlib.Core.Path.{refl, ◌∙◌}
 use Rattle.relation.proofs.Making.{row_le}
-use Rattle.evaluation.proofs.Grounds.{grounded, limits, narrow, rows_hold}
-use Rattle.kind_rows.proofs.Tables.{kinds_none, kinds_more, kinds_all}
+use Rattle.evaluation.proofs.Grounds.{grounded, limits, rows_hold}
+use Rattle.kind_rows.proofs.Tables.{kinds_none, kinds_more}
 use Prim.Native.Nat.{◌/◌, ◌<◌}
 use native.Mathlib.Omega.{arith}
 use Rattle.kind_rows.proofs.fill.Goals as goal
 
-pub overflow_mul-ground : goal.overflow_mul-ground
-overflow_mul-ground c = omega (arith, narrow (grounded c.args.ground.now))
-
 pub loop-t-init : goal.loop-t-init
 loop-t-init c = (omega arith, kinds_none _ c.clear.ensures (omega (arith, c.requires, c.clear.ensures.kept.len)), refl)
-
-pub overflow_mul-k : goal.overflow_mul-k
-overflow_mul-k c =
-    let g = c.args.ground.now in
-    let k = (limits (grounded g)).kinds c.loop-t.t in
-    let e : c.from-k.result < 64 = omega (arith, c.from-k.ensures, c.kind_at.ensures, k) in
-    omega (arith, row_le g.words e, narrow (grounded g))
 
 pub set-requires : goal.set-requires
 set-requires c =
@@ -39,6 +29,3 @@ loop-t-preserved c =
           (omega (arith, c.from-k.ensures, c.kind_at.ensures, k)) h,
       (c.set.ensures g.words h).kept.len ∙ l.invariant.2,
     )
-
-pub returns : goal.returns
-returns c = kinds_all c.loop-t.invariant.1 (omega arith)

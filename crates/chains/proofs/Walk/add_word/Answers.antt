@@ -23,9 +23,6 @@ lies c =
 pub loop-k-init : goal.loop-k-init
 loop-k-init c = (0, omega arith, ap (λ s. ones s.0) c.into_iter-k-iterator.ensures.into_iter_gives ∙ ones_start _, gained_none _ _ _ (omega arith))
 
-pub overflow_mul-i : goal.overflow_mul-i
-overflow_mul-i c = omega (arith, lies (goal.at.overflow_mul-i c).In-Some, c.args.self.now.routed.wide, c.args.self.now.routed.narrow)
-
 pub overflow_add-i : goal.overflow_add-i
 overflow_add-i c = omega (arith, lies (goal.at.overflow_add-i c).In-Some, c.args.self.now.routed.wide, c.args.self.now.routed.narrow)
 

@@ -1,46 +1,15 @@
 -- `chains::Walk::walk_row` meets its contract: the row of the first relation goes through one link after the other.
 -- Assumes nothing.
 use native.Mathlib.Omega.{arith}
-use Rattle.rows.proofs.Rows.{row_then, row_now}
-use Rattle.relation.proofs.Making.{row_le}
-use Rattle.chains.proofs.Routes.{routed_clean, routed_first, routed_more, routed_all}
+use Rattle.rows.proofs.Rows.{row_now}
+use Rattle.chains.proofs.Routes.{routed_clean, routed_first, routed_more}
 use Prim.Native.Nat.{◌+◌}
 use Rattle.chains.proofs.Walk.walk_row.Goals as goal
-
-pub overflow_mul-s : goal.overflow_mul-s
-overflow_mul-s c = let v = c.args.self.now in omega (arith, row_le v.words c.requires.1, v.routed.room 0 (omega arith))
-
-pub overflow_add-bases : goal.overflow_add-bases
-overflow_add-bases c = let v = c.args.self.now in omega (arith, row_le v.words c.requires.1, v.routed.room 0 (omega arith))
-
-pub take_row-requires : goal.take_row-requires
-take_row-requires c =
-    let v = c.args.self.now in
-    let p = c.requires in (
-      p.2,
-      omega (arith, row_le v.words p.1, v.routed.room 0 (omega arith)),
-      v.routed.room 1 (omega (arith, p.0)),
-      v.routed.narrow,
-      omega (arith, v.routed.masks, v.routed.narrow, p.0),
-      v.routed.clean 0 (omega arith) c.args.s p.1,
-    )
 
 pub loop-j-init : goal.loop-j-init
 loop-j-init c =
     let p = c.requires in
     (omega arith, omega (arith, p.0), row_now (routed_first c.args.self.now.routed c.args.s p.1 c.take_row.ensures p.3))
-
-pub overflow_add-j : goal.overflow_add-j
-overflow_add-j c = omega (arith, c.args.self.now.routed.few, c.loop-j-test.true)
-
-pub offset_bounds-bases-j : goal.offset_bounds-bases-j
-offset_bounds-bases-j c = omega (arith, c.args.self.now.routed.few, c.loop-j-test.true)
-
-pub bounds-bases-j : goal.bounds-bases-j
-bounds-bases-j c = omega (arith, c.args.self.now.routed.few, c.loop-j-test.true)
-
-pub overflow_mul-j : goal.overflow_mul-j
-overflow_mul-j c = omega (arith, c.args.self.now.routed.masks, c.loop-j-test.true)
 
 pub follow-requires : goal.follow-requires
 follow-requires c =
@@ -60,8 +29,3 @@ pub loop-j-preserved : goal.loop-j-preserved
 loop-j-preserved c =
     let l = c.loop-j in
     (omega arith, omega (arith, c.loop-j-test.true), routed_more c.args.self.now.routed c.args.s c.requires.1 l.j l.invariant.2 c.follow.ensures)
-
-pub returns : goal.returns
-returns c =
-    let l = c.loop-j in
-    row_then c.take_row.ensures (routed_all c.args.self.now.routed c.args.s c.requires.1 l.j l.invariant.2 (omega (arith, l.invariant.1, c.loop-j-test.false)))

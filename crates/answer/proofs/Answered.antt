@@ -76,7 +76,8 @@ module _ {s : List ℕ} {n w : ℕ} (ground : Grounded s n w) where
         (fills_full (asked (register_in s) (some p)) ground.wide room (kept_in ev.kept (omega arith) (omega arith))
         (kept_in c.kept (omega arith) (omega arith)) (stored_copied c ev.pairs) (past p) fits)
 
-    pub fills_narrowed : {answer₁ : List ℕ} (ms : List Member) (need : ℕ) → need ≡ n * w → Wrote 0 need (λ j. 0) answer answer₁ → Adds (register_in s) n w (narrowed_answer (register_in s) ms) work work' answer₁ answer'
+    pub fills_narrowed : {answer₁ : List ℕ} (ms : List Member) (need : ℕ) → need ≡ n * w → Wrote 0 need (λ j. 0) answer answer₁
+        → Adds (register_in s) n w (narrowed_answer (register_in s) ms) work work' answer₁ answer'
         → Fills n w (narrowed_answer (register_in s) ms) (Ok tt) work work' answer answer'
     fills_narrowed {answer₁} ms need q cleared a =
         let c = subst (λ (k : ℕ). Wrote 0 k (λ j. 0) answer answer₁) q cleared in

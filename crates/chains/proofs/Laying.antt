@@ -39,7 +39,8 @@ use Rattle.chains.proofs.Symbols.{chain_reads}
 
 -- ---- link by link
 -- a step that is held stays so, and so does where it lies
-leg_kept : {lo hi : ℕ} {held held' : List (Option ℕ)} {bases bases' : List ℕ} (n w j c : ℕ) → Leg n w held bases j c → StillHeld held held' → Kept lo hi bases bases' → j < lo → Leg n w held' bases' j c
+leg_kept : {lo hi : ℕ} {held held' : List (Option ℕ)} {bases bases' : List ℕ} (n w j c : ℕ)
+    → Leg n w held bases j c → StillHeld held held' → Kept lo hi bases bases' → j < lo → Leg n w held' bases' j c
 leg_kept n w j c l h k o = (l.0, l.1, h.more l.0 c l.1 l.2, k.below j o ∙ l.3)
 
 -- the first step

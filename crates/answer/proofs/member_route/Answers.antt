@@ -13,9 +13,6 @@ returns-then-lay c =
     let e = c.if-lay.true in
     record { held = v.held; kept = kept_in v.kept (omega arith) (omega arith); routed = v.routed e; leads = v.leads e }
 
-pub evaluate-requires : goal.evaluate-requires
-evaluate-requires c = omega (arith, c.requires.room, c.lay.ensures.kept.len)
-
 pub returns : goal.returns
 returns c =
     let g = (grounded c.args.table.now.ground) in

@@ -12,12 +12,6 @@ returns-then-work-room c =
     let e = c.size-room.ensures.0 in
     rw (c.about.ensures, e) (answers_15 _ _ _ _ g.count (sym g.wide) (rw e at c.if-work-room.true))
 
-pub narrowed_words-o-requires : goal.narrowed_words-o-requires
-narrowed_words-o-requires c = record { readable = c.requires; room = omega (arith, c.size-room.ensures.0, c.if-work-room.false) }
-
-pub clear-requires : goal.clear-requires
-clear-requires c = omega (arith, c.narrowed_words-o.ensures.kept.len, c.if-work-room.false)
-
 pub returns : goal.returns
 returns c =
     let g = (grounded c.args.ground.now) in

@@ -12,12 +12,6 @@ returns-then-work-need c =
     let e = c.size-need.ensures.0 in
     rw (c.about.ensures, e) (answers_15 _ _ _ _ g.count (sym g.wide) (rw e at c.if-work-need.true))
 
-pub plain_words-o-requires : goal.plain_words-o-requires
-plain_words-o-requires c = omega (arith, c.size-need.ensures.0, c.if-work-need.false)
-
-pub clear-requires : goal.clear-requires
-clear-requires c = omega (arith, c.plain_words-o.ensures.kept.len, c.if-work-need.false)
-
 pub returns : goal.returns
 returns c =
     let g = (grounded c.args.ground.now) in

@@ -1,21 +1,9 @@
 -- `answer::plain_words` meets its contract: 14 where the answer is too short, else the words of the path's relation, which has no pair past the last record.
 -- Assumes nothing.
-use Rattle.answer.proofs.Answered.{fills_short, fills_plain}
+use Rattle.answer.proofs.Answered.{fills_plain}
 use Rattle.evaluation.proofs.Grounds.{grounded, path_is}
 use native.Mathlib.Omega.{arith}
 use Rattle.answer.proofs.plain_words.Goals as goal
-
-pub returns-then-answer-need : goal.returns-then-answer-need
-returns-then-answer-need c = let e = c.size-need.ensures.0 in rw (c.about.ensures, e) (fills_short _ _ (rw e at c.if-answer-need.true))
-
-pub evaluate-requires : goal.evaluate-requires
-evaluate-requires c = omega (arith, c.requires)
-
-pub copy-requires : goal.copy-requires
-copy-requires c =
-    let p = path_is _ c.args.path.now.whole in
-    let e = (c.evaluate.ensures p.0 p.1).kept.len in
-    (omega arith, omega (arith, e, c.requires, c.size-need.ensures.0))
 
 pub returns : goal.returns
 returns c =

@@ -1,7 +1,6 @@
 -- `chains::chained` meets its contract: each pair of symbols that was passed is a step and a join through a set.
 -- Assumes nothing.
-use mathlib.Core.Path.{refl}
-use Rattle.chains.proofs.Symbols.{chained_none, chained_more, chained_all}
+use Rattle.chains.proofs.Symbols.{chained_more}
 use native.Mathlib.Omega.{arith}
 use Rattle.chains.proofs.chained.Goals as goal
 

@@ -5,9 +5,6 @@ use Rattle.chains.proofs.Holding.{past, before_end, held_more, holds_more}
 use Rattle.symbols.proofs.Numbers.{decoded}
 use Rattle.rows.proofs.Words.{kept_in}
 use Prim.Native.Nat.{◌*◌}
-use lib.Seq.{get_or-set_same}
-use Rattle.std.specs.Prelude.{Some, None}
-use native.Mathlib.Omega.{arith}
 use Rattle.chains.proofs.hold.Goals as goal
 
 pub returns-clause-held : goal.returns-clause-held

@@ -13,7 +13,10 @@ apply-b-requires c =
     let x = c.args.path.now.symbols in
     let l = c.loop-number in
     let g = l.invariant in
-    let t = zip_turn x.numbers.now x.sets.now l.yielded c.into_iter-number-iterator.result l.number-iterator c.next.new.self c.next.result (search rules) (search rules) l.yielded_by _ c.in-Some.is c.next.ensures.steps in
+    let s = c.into_iter-number-iterator.result in
+    let t =
+    zip_turn x.numbers.now x.sets.now l.yielded s l.number-iterator c.next.new.self c.next.result
+    (search rules) (search rules) l.yielded_by _ c.in-Some.is c.next.ensures.steps in
     let p = path_is _ c.args.path.now.whole in
     rw (t.2 0, t.3 0) (fits _ _ _ _ _ _ x.few t.0 p.0 (g.at p.0 p.1) (omega (arith, c.requires, g.kept.len)))
 
@@ -21,7 +24,10 @@ pub loop-number-preserved : goal.loop-number-preserved
 loop-number-preserved c =
     let x = c.args.path.now.symbols in
     let l = c.loop-number in
-    let t = zip_turn x.numbers.now x.sets.now l.yielded c.into_iter-number-iterator.result l.number-iterator c.next.new.self c.next.result (search rules) (search rules) l.yielded_by _ c.in-Some.is c.next.ensures.steps in
+    let s = c.into_iter-number-iterator.result in
+    let t =
+    zip_turn x.numbers.now x.sets.now l.yielded s l.number-iterator c.next.new.self c.next.result
+    (search rules) (search rules) l.yielded_by _ c.in-Some.is c.next.ensures.steps in
     let p = path_is _ c.args.path.now.whole in
     rw (length_push l.yielded (c.in-Some.number, c.in-Some.set)) (going_more _ _ _ _ _ _ x.few t.0 p.0 p.1 l.invariant (rw (t.2 0, t.3 0) at c.apply-b.ensures))
 
@@ -29,5 +35,8 @@ pub returns : goal.returns
 returns c p e =
     let x = c.args.path.now.symbols in
     let l = c.loop-number in
-    let t = zip_end x.numbers.now x.sets.now l.yielded c.into_iter-number-iterator.result l.number-iterator c.next.new.self c.next.result (search rules) (search rules) l.yielded_by c.in-None.is c.next.ensures.steps in
+    let s = c.into_iter-number-iterator.result in
+    let t =
+    zip_end x.numbers.now x.sets.now l.yielded s l.number-iterator c.next.new.self c.next.result
+    (search rules) (search rules) l.yielded_by c.in-None.is c.next.ensures.steps in
     going_end _ _ _ _ _ _ (omega (arith, t, x.paired)) l.invariant p e

@@ -2,8 +2,8 @@
 -- Assumes nothing.
 use mathlib.Core.Path.{refl, ◌∙◌}
 use Rattle.relation.proofs.Making.{row_le}
-use Rattle.evaluation.proofs.Grounds.{grounded, limits, narrow, rows_hold}
-use Rattle.kind_rows.proofs.Tables.{kinds_none, kinds_more, kinds_all}
+use Rattle.evaluation.proofs.Grounds.{grounded, limits, rows_hold}
+use Rattle.kind_rows.proofs.Tables.{kinds_none, kinds_more}
 use Prim.Native.Nat.{◌/◌, ◌<◌}
 use native.Mathlib.Omega.{arith}
 use Rattle.kind_rows.proofs.fill.Goals as goal

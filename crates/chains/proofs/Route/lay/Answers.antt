@@ -11,7 +11,8 @@ returns-clause-routed c =
     let y = c.chained.ensures c.if-not-chained.false in
     let v = c.lay_links.ensures in
     let r = c.lay_links.new.self in
-    λ e. laid_routed (grounded t.ground) t.filled v.held y.1 (v.laid c.if-not-lay_links.false) (omega (arith, y.0, r.sized.0)) (omega (arith, y.0, r.sized.1)) (omega (arith, v.kept.len, c.requires.room))
+    λ e. laid_routed (grounded t.ground) t.filled v.held y.1 (v.laid c.if-not-lay_links.false)
+    (omega (arith, y.0, r.sized.0)) (omega (arith, y.0, r.sized.1)) (omega (arith, v.kept.len, c.requires.room))
 
 pub returns-clause-leads : goal.returns-clause-leads
 returns-clause-leads c =

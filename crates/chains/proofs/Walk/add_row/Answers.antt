@@ -1,12 +1,6 @@
 -- `chains::Walk::add_row` meets its contract: the row is that of the relation itself, or the one that has gone through all links.
 -- Assumes nothing.
 use native.Mathlib.Omega.{arith}
-use mathlib.Core.Path.{◌≡◌, ap}
-use mathlib.Core.Bool.{Bool, ◌&&◌, ◌||◌}
-use Prim.Native.Nat.{◌*◌}
-use Rattle.rows.specs.Row.{row_bit}
-use Rattle.rows.proofs.Rows.{row_is}
-use Rattle.relation.proofs.Making.{row_le}
 use Rattle.relation.proofs.Joining.{row_blank}
 use Rattle.chains.proofs.Walk.add_row.Goals as goal
 

@@ -1,9 +1,8 @@
 -- `chains::Walk::walk_row` meets its contract: the row of the first relation goes through one link after the other.
 -- Assumes nothing.
 use native.Mathlib.Omega.{arith}
-use Rattle.rows.proofs.Rows.{row_then, row_now}
-use Rattle.relation.proofs.Making.{row_le}
-use Rattle.chains.proofs.Routes.{routed_clean, routed_first, routed_more, routed_all}
+use Rattle.rows.proofs.Rows.{row_now}
+use Rattle.chains.proofs.Routes.{routed_clean, routed_first, routed_more}
 use Prim.Native.Nat.{◌+◌}
 use Rattle.chains.proofs.Walk.walk_row.Goals as goal
 

@@ -1,4 +1,5 @@
-// Puts fields into the caller's area: those of a path's symbols, and those of a narrowed question.
+// Puts fields into the caller's area: those of a path's symbols, and those of a narrowed question. Each function takes the place and gives the
+// next: a cursor that holds the area would have to be told in each clause by the same two (`BytesWritten`), and is no plainer.
 #![tactic(auto, using(crate::proofs::Along::wrote_more), unfolding(fields::specs::Table::field_size, fields::specs::Table::tag_length, fields::specs::Table::rows))]
 
 ghost use Rattle.std.specs.Prelude.{◌≡◌, [], ◌∷◌, ◌++◌, ◌+◌, ◌≤◌, ◌<◌, length};

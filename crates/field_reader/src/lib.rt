@@ -8,7 +8,7 @@ ghost use Rattle.field_reader.specs.Reader.{next_place};
 
 use fields::{Due, Found, Refusal};
 
-// Where the reading of a file stands: at its head, or within what comes after it, with what is known there.
+// Where the reading of a file stands: at its head, or within what comes after it, with what is known there. An Option would not say which.
 #[derive(Clone, Copy, PartialEq, Eq)]
 pub enum Standing<T> {
     Head,

@@ -19,7 +19,8 @@ pub struct Operand {
     pub from: usize,
 }
 
-// The parts that a question can have on its stack, and a place to spare.
+// The parts that a question can have on its stack, and a place to spare: each symbol looks at a second part, also where there is none, which a
+// vector would have to ask.
 const STACK: usize = question::MOST_SYMBOLS + 1;
 
 // No part yet.

@@ -20,7 +20,7 @@ use triples::{Nodes, Span};
 pub const NEED: usize = 8192;
 
 // The members of a question before a byte of their file is written: how many they are and the bytes of their file; the nodes of their
-// triples in the members' order, and how many; and how many nodes are in use.
+// triples in the members' order, and how many (an array with its length: no heap); and how many nodes are in use.
 #[derive(Clone, Copy)]
 struct Counted {
     size: Size,

@@ -66,7 +66,7 @@ fn run(sheet: &[u8], question: &[u8], register: &[u8], out: &mut [u8]) -> usize
 // The most bytes of a file that are read.
 const ROOM: usize = 65536;
 
-// Reads a file to its end, up to the room's length, and returns the number of bytes; 0 where a read fails.
+// Reads a file to its end, up to the room's length, and returns the number of bytes; 0 where a read fails. `read_to_end` takes a vector: no heap.
 fn contents<R: Read>(file: &mut R, room: &mut [u8]) -> usize
     ensures within { result ≤ length room.new }
     ensures bytes { 0 < result → IfSome (R.remaining file.old) (λ xs. take result room.new ≡ take (length room.new) xs) }

@@ -53,7 +53,8 @@ pub fn few(count: usize) -> Result<usize, Excess>
 
 // ---- two nodes under an operator
 
-// An operator that makes a triple of each pair that fits.
+// An operator that makes a triple of each pair that fits. It is data, which the definitions decide by cases; a closure for each would only
+// move the cases to the callers.
 #[derive(Clone, Copy)]
 pub enum PairOperator {
     Join,
@@ -185,7 +186,8 @@ fn repeats(nodes: Nodes, o: PairOperator, p: usize, i: usize) -> bool
     matches!(o, PairOperator::BranchLeft) && stands_alike(nodes, p, i)
 }
 
-// ---- triples: 12
+// ---- triples: 12. The parts that grow keep their words and numbers as parameters: the nodes are read and written in the same lent words,
+// so that no struct can hold one part while another is added to (no heap).
 
 // Adds what node i gives with node j, where they fit; the new count.
 fn add_pair(

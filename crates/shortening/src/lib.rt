@@ -78,7 +78,7 @@ impl Shortened {
     }
 }
 
-// The operands that are still to come are at most as many as the codes; one place more spares a test.
+// The operands that are still to come are at most as many as the codes; one place more spares a test, which a vector would make.
 const STACK: usize = question::MOST_SYMBOLS + 1;
 
 // The codes of a question, shortened: from the last to the first, with a stack of where the operands stand that are still to come.

@@ -66,7 +66,8 @@ impl TryFrom<u8> for Direction {
     }
 }
 
-// What a join passes through: any record (a plain join), or those whose kind is in a set.
+// What a join passes through: any record (a plain join), or those whose kind is in a set. An Option would read no plainer: the definitions
+// name the two as `any` and `through`.
 #[derive(Clone, Copy, PartialEq, Eq)]
 pub enum Via {
     Any,

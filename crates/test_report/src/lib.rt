@@ -11,14 +11,16 @@ use std::io::Read;
 // The most bytes of all vectors.
 const ROOM: usize = 1048576;
 
-// Room for them. Its contract keeps the proof of a `main` from unfolding so long a list.
+// Room for them. Its contract keeps the proof of a `main` from unfolding so long a list. The program has its own such function, since it does
+// not stand on a test crate.
 pub fn room() -> [u8; ROOM]
     ensures { 1048576 ≡ length result }
 {
     [0; ROOM]
 }
 
-// Reads until the room is full, the input ends or a read fails, and returns how many bytes it put at the start of the room.
+// Reads until the room is full, the input ends or a read fails, and returns how many bytes it put at the start of the room (no heap: no
+// `read_to_end`).
 pub fn fill<R: Read>(from: &mut R, room: &mut [u8]) -> usize
     ensures { result ≤ length room.new }
 {

@@ -75,7 +75,8 @@ module _ {qs ws xs : List ℕ} {used n members : ℕ} {out₀ : List ℕ} (h : F
           ap (λ (l : List Member). members_bytes (map flat_of l)) e.is
           ∙ ap (λ (m : Flat). member_bytes m ++ bytes_left qs ws xs r.group.next n) e.flat_is
 
-      pub fill_room : (0 + r.group.size ≤ length cs') × ((0 + r.group.size ≤ length ss') × (at + length (member_bytes (flat r.group.from r.group.to (symbols_given cs' ss' r.group.size 0))) ≤ length out))
+      pub fill_room : (0 + r.group.size ≤ length cs')
+          × ((0 + r.group.size ≤ length ss') × (at + length (member_bytes (flat r.group.from r.group.to (symbols_given cs' ss' r.group.size 0))) ≤ length out))
       fill_room = (
         omega (arith, e.few, e.codes_room),
         (

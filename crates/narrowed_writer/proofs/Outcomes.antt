@@ -40,7 +40,8 @@ module _ (q : Members) where
         let t = lt-leb (length (file_of q)) (length before) (subst (λ (m : ℕ). length before < m) w l) in
         record { outcome = rw (z, t, ← w) h; area = rw (z, t) refl }
 
-    pub writes_all : (n : ℕ) (after : List ℕ) → read_said (λ n. n) r ≡ got (length (file_of q)) → verdict (given q) ≡ got n → n ≤ length before → after ≡ sets before 0 (file_of q) → Writes q before r after
+    pub writes_all : (n : ℕ) (after : List ℕ) → read_said (λ n. n) r ≡ got (length (file_of q)) → verdict (given q) ≡ got n → n ≤ length before
+        → after ≡ sets before 0 (file_of q) → Writes q before r after
     writes_all n after h e l a =
         let (z, w) = judged_got n e in
         let t = le-leb (length (file_of q)) (length before) (subst (λ (m : ℕ). m ≤ length before) w l) in

@@ -20,7 +20,8 @@ returns-in_err-n c =
     let p = err_from_is_err_and c.from_residual.result c.from_residual.ensures.1 in
     let m = mapped_err _ c.rule-made.result c.map_err.ensures.cases c.in_err-n.was in
     let r : c.in_err-n.field-0.0 ≡ refusal_at m.0 c.loop-i.i-counter = (let q = m.2 in search rules) in
-    rw (p.1, p.2, r) (inferred (running_stops (asked c.loop-i.invariant.0) c.loop-i.invariant.1 c.loop-i-test.true c.decode-k.ensures (c.from.ensures ∙ c.operands.ensures) c.rule-made.ensures m.0 m.1))
+    rw (p.1, p.2, r)
+    (inferred (running_stops (asked c.loop-i.invariant.0) c.loop-i.invariant.1 c.loop-i-test.true c.decode-k.ensures (c.from.ensures ∙ c.operands.ensures) c.rule-made.ensures m.0 m.1))
 
 pub loop-i-preserved : goal.loop-i-preserved
 loop-i-preserved c = (

@@ -50,13 +50,16 @@ returns-then-same_path t c =
 pub returns-else-same_path : goal.returns-else-same_path
 returns-else-same_path t c =
     rw c.if-same_path.false (elim c.if-eq.branch [
-      | then-eq w ↦ join_lefts_differ c.requires.0 c.requires.1 c.load-x.ensures.is c.load-y.ensures.is c.if-x-y.false _ (decoded c.decode.ensures c.in-Join.is) (w.same_path.ensures.fails (sym w.value-is ∙ c.if-same_path.false))
+      | then-eq w ↦
+          join_lefts_differ c.requires.0 c.requires.1 c.load-x.ensures.is c.load-y.ensures.is c.if-x-y.false _ (decoded c.decode.ensures c.in-Join.is)
+          (w.same_path.ensures.fails (sym w.value-is ∙ c.if-same_path.false))
       | else-eq w ↦ elim c.if-load.branch [
         | then-load v ↦
             kinds_differ c.requires.0 c.requires.1 c.load-x.ensures.is c.load-y.ensures.is c.if-x-y.false _ (decoded c.decode.ensures c.in-Join.is)
             (λ e. eqb-false _ _ (sym v.eq.ensures ∙ sym v.value-is ∙ w.if-eq.false) (ap to_kind v.load-then-load.ensures.is ∙ e ∙ sym (ap to_kind v.load-then-load-2.ensures.is)))
         | else-load v ↦
-            join_rights_differ c.requires.0 c.requires.1 c.load-x.ensures.is c.load-y.ensures.is c.if-x-y.false _ (decoded c.decode.ensures c.in-Join.is) (λ e. v.if-load.false (ap made_of c.load.ensures.is ∙ e ∙ sym (ap made_of c.load-in-Join.ensures.is)))
+            join_rights_differ c.requires.0 c.requires.1 c.load-x.ensures.is c.load-y.ensures.is c.if-x-y.false _ (decoded c.decode.ensures c.in-Join.is)
+            (λ e. v.if-load.false (ap made_of c.load.ensures.is ∙ e ∙ sym (ap made_of c.load-in-Join.ensures.is)))
       ]
     ])
 
@@ -73,6 +76,10 @@ returns-then-same_path-2 t c =
 pub returns-else-same_path-2 : goal.returns-else-same_path-2
 returns-else-same_path-2 t c =
     rw c.if-same_path-2.false (elim c.if-load-2.branch [
-      | then-load-2 w ↦ op_lefts_differ c.requires.0 c.requires.1 c.load-x.ensures.is c.load-y.ensures.is c.if-x-y.false _ (decoded c.decode.ensures c.in-Op.is) (w.same_path-then-load-2.ensures.fails (sym w.value-is ∙ c.if-same_path-2.false))
-      | else-load-2 w ↦ op_rights_differ c.requires.0 c.requires.1 c.load-x.ensures.is c.load-y.ensures.is c.if-x-y.false _ (decoded c.decode.ensures c.in-Op.is) (λ e. w.if-load-2.false (ap made_of c.load-in-Op.ensures.is ∙ e ∙ sym (ap made_of c.load-in-Op-2.ensures.is)))
+      | then-load-2 w ↦
+          op_lefts_differ c.requires.0 c.requires.1 c.load-x.ensures.is c.load-y.ensures.is c.if-x-y.false _ (decoded c.decode.ensures c.in-Op.is)
+          (w.same_path-then-load-2.ensures.fails (sym w.value-is ∙ c.if-same_path-2.false))
+      | else-load-2 w ↦
+          op_rights_differ c.requires.0 c.requires.1 c.load-x.ensures.is c.load-y.ensures.is c.if-x-y.false _ (decoded c.decode.ensures c.in-Op.is)
+          (λ e. w.if-load-2.false (ap made_of c.load-in-Op.ensures.is ∙ e ∙ sym (ap made_of c.load-in-Op-2.ensures.is)))
     ])

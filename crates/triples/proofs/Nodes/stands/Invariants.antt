@@ -8,5 +8,7 @@ use Prim.Native.Nat.{◌-◌}
 use Rattle.triples.proofs.Nodes.stands.Given as goal
 
 abbrev pub invariant-loop-j : goal.invariant-loop-j
-invariant-loop-j l = (some? (triple? (triple_of l.self.question.now l.self.words.now l.u)) (part_of l.self.question.now l.self.words.now l.s (l.u - l.s)) ≡ some? (triple? (triple_of l.self.question.now l.self.words.now l.u))
+invariant-loop-j l =
+    (some? (triple? (triple_of l.self.question.now l.self.words.now l.u)) (part_of l.self.question.now l.self.words.now l.s (l.u - l.s))
+    ≡ some? (triple? (triple_of l.self.question.now l.self.words.now l.u))
     (part_of l.self.question.now l.self.words.now l.s (l.j - l.s)))

@@ -13,7 +13,8 @@ use Rattle.theory.specs.Register.{records}
 use Rattle.theory.specs.Evaluation.{narrowed_answer}
 use Rattle.theory.specs.Words.{row_words, answer_words}
 use Rattle.theory.proofs.Words.{words_length, answer_bit}
-use Rattle.fields.specs.Call.{Outcome, Size, accepts}
+use Rattle.fields.specs.declared.Size.{Size}
+use Rattle.fields.specs.Call.{Outcome, accepts}
 use Rattle.register.specs.Form.{register_in}
 use Rattle.rows.specs.Row.{row_bit}
 use Rattle.relation.specs.Pairs.{pair_at}

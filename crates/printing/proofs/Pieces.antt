@@ -1,4 +1,4 @@
--- A loop over the numbers below n, of which each has its piece of a list that is written.
+-- A loop over the numbers below n, of which each has its piece of a list: a list that is written, or one that is counted.
 -- Assumes nothing.
 use mathlib.Core.Path.{◌≡◌, refl, ap, ◌∙◌, subst}
 use mathlib.Core.Bool.{Bool, true, false, cond}
@@ -6,7 +6,7 @@ use mathlib.Core.List.{List, [], ◌∷◌, ◌++◌}
 use Prim.Native.Nat.{ℕ, ◌+◌, ◌-◌, ◌<◌, ◌≤◌}
 use native.Mathlib.Nat.{sub-zero}
 use native.Mathlib.Omega.{arith}
-use lib.ListN.{length}
+use lib.ListN.{length, length-append}
 use Rattle.theory.specs.Lists.{guard, filter, concat_map, tabulate, range}
 use Rattle.theory.proofs.Lists.{tabulate_next}
 use Rattle.encode.specs.BytesWritten.{BytesWritten}
@@ -50,6 +50,24 @@ module _ {g : ℕ → List ℕ} {n : ℕ} {o : List ℕ} {at : ℕ} {whole out :
   pub pieces_end : n ≤ j → BytesWritten o out at a whole
   pieces_end h = filling_end p.filling (none_left g n j h)
 
+-- ---- counted
+pub record Counted (g : ℕ → List ℕ) (n k j : ℕ) : Type 0 where
+  pub within : j ≤ n
+  pub left : k + length (rest_of g n j) ≡ length (concat_map g (range n))
+
+pub counted_start : (g : ℕ → List ℕ) (n : ℕ) → Counted g n 0 0
+counted_start g n = record { within = omega arith; left = omega (arith, ap length (all_left g n)) }
+
+module _ {g : ℕ → List ℕ} {n k j : ℕ} (c : Counted g n k j) where
+  pub counted_next : {i : ℕ} → i ≡ length (g j) → j < n → Counted g n (k + i) (j + 1)
+  counted_next {i} e h = record {
+    within = omega arith;
+    left = omega (arith, c.left, ap length (next_left g n j h), length-append (g j) (rest_of g n (j + 1)));
+  }
+
+  pub counted_end : n ≤ j → k ≡ length (concat_map g (range n))
+  counted_end h = omega (arith, c.left, ap length (none_left g n j h))
+
 -- ---- the elements that pass a test
 module _ (f : ℕ → Bool) where
   pub filtered_pieces : (g : ℕ → List ℕ) (xs : List ℕ) → concat_map g (filter f xs) ≡ concat_map (λ x. guard (f x) (g x)) xs
@@ -57,5 +75,13 @@ module _ (f : ℕ → Bool) where
   filtered_pieces g (x ∷ xs) = go (f x) ∙ ap (λ (r : List ℕ). guard (f x) (g x) ++ r) (filtered_pieces g xs)
     where
       go : (b : Bool) → concat_map g (cond b (x ∷ filter f xs) (filter f xs)) ≡ guard b (g x) ++ concat_map g (filter f xs)
+      go true = refl
+      go false = refl
+
+  pub filter_pieces : (xs : List ℕ) → filter f xs ≡ concat_map (λ x. guard (f x) (x ∷ [])) xs
+  filter_pieces [] = refl
+  filter_pieces (x ∷ xs) = go (f x) ∙ ap (λ (r : List ℕ). guard (f x) (x ∷ []) ++ r) (filter_pieces xs)
+    where
+      go : (b : Bool) → cond b (x ∷ filter f xs) (filter f xs) ≡ guard b (x ∷ []) ++ filter f xs
       go true = refl
       go false = refl

@@ -37,12 +37,7 @@ fn run_check(rt: &impl Print, files: Files) -> io::Result<()> {
     println!(rt)
 }
 
-fn call(
-    tag: u8,
-    files: Files,
-    work: &mut [u64],
-    answer: &mut [u64],
-) -> Result<(), Failure> {
+fn call(tag: u8, files: Files, work: &mut [u64], answer: &mut [u64]) -> Result<(), Failure> {
     if tag == PLAIN {
         answer::plain_answer(files.question, files.register, work, answer)
     } else {

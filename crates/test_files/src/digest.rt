@@ -6,7 +6,10 @@ use test_report::{mix, mix_bytes, mix_words};
 pub fn mix_register(r: &Register<'_>) -> u64 {
     let kinds = (0..r.records).fold(0, |e, i| mix(e, u64::from(r.kind_at(i).0)));
     r.links().fold(kinds, |e, edge| {
-        mix(mix(mix(e, edge.from as u64), u64::from(edge.link.0)), edge.to as u64)
+        mix(
+            mix(mix(e, edge.from as u64), u64::from(edge.link.0)),
+            edge.to as u64,
+        )
     })
 }
 

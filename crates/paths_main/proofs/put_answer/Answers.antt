@@ -14,7 +14,7 @@ row_words-requires c = omega (arith, few_records _ _ _ c.read.ensures.said c.req
 
 pub put_answer-requires : goal.put_answer-requires
 put_answer-requires c =
-    let n : c.in-Ok.records ≤ 128 = few_records _ _ _ c.read.ensures.said c.requires.0 _ _ c.in-Ok.is c.row_words.ensures in (
+    let n : c.in-Ok.field-0.records ≤ 128 = few_records _ _ _ c.read.ensures.said c.requires.0 _ _ c.in-Ok.is c.row_words.ensures in (
       c.row_words.ensures,
       omega arith,
       words_room _ _ _ c.read.ensures.said c.requires.0 _ _ c.in-Ok.is c.row_words.ensures,

@@ -85,3 +85,20 @@ accepted_sizes s n l h = by_answer (read register_form s) refl h
         → (read register_form s ≡ got (value_of a)) × (records (value_of a) ≡ n) × (length (value_of a).links ≡ l)
     by_answer (got r) e h = let z : sizes n l ≡ sizes (records r) (length r.links) = cc in (e, sym (ap (λ p. p.records) z), sym (ap (λ p. p.links) z))
     by_answer (refused m p) e h = let z : ◌≡◌ {A = ℕ} 0 1 = cc in absurd (omega arith)
+
+-- a file with a record or a link in it is accepted: of a refused one there are none
+pub accepted_by_record : (s : List ℕ) (i : ℕ) → i < records (register_in s) → Accepted s
+unfolding register_in
+accepted_by_record s i h = by_answer (read register_form s) refl h
+  where
+    by_answer : (a : Result Register) → read register_form s ≡ a → i < records (value_of a) → read register_form s ≡ got (value_of a)
+    by_answer (got r) e h = e
+    by_answer (refused n p) e h = absurd (omega arith)
+
+pub accepted_by_link : (s : List ℕ) (x : Edge) → In x (register_in s).links → Accepted s
+unfolding register_in
+accepted_by_link s x m = by_answer (read register_form s) refl m
+  where
+    by_answer : (a : Result Register) → read register_form s ≡ a → In x (value_of a).links → read register_form s ≡ got (value_of a)
+    by_answer (got r) e m = e
+    by_answer (refused n p) e m = elim m [ ]

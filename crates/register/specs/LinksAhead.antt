@@ -26,9 +26,6 @@ pub record OnLinks (s : List ℕ) (at left : ℕ) : Type 0 where
 unfoldable pub to_come : List ℕ → ℕ → List Edge
 to_come s left = drop (length (register_in s).links - left) (register_in s).links
 
-abbrev pub Edges : Type 0
-Edges = List Edge
-
 -- the link that is handed out
 abbrev pub edge_said : declared·Edge.Edge → Edge
 edge_said e = edge e.from e.link.0 e.to

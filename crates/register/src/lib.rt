@@ -10,11 +10,10 @@ ghost use Rattle.register.specs.Form.{head_of, kind_of, link_of, entry_of, advan
 ghost use Rattle.register.specs.Contract.{sizes, sized};
 ghost use Rattle.register.specs.Internal.{BodyReady};
 ghost use Rattle.register.specs.Passed.{KindAt, NumberAt, Passes, Passed};
-ghost use Rattle.register.specs.LinksAhead.{Accepted, OnLinks, Edges, to_come, edge_said};
+ghost use Rattle.register.specs.LinksAhead.{Accepted, OnLinks, to_come, edge_said};
 
-use field_reader::Standing;
+use field_reader::{Reader, Standing};
 use fields::{Due, File, HEAD, KIND_LENGTH, Kind, LINK_LENGTH, Link, REGISTER_LENGTH, Refusal};
-use std::marker::Model;
 
 // The bytes of a whole field of a kind, and of a link.
 const KIND_BYTES: usize = HEAD + KIND_LENGTH as usize;
@@ -280,8 +279,8 @@ pub fn read(s: &[u8]) -> Result<Register<'_>, Refusal>
     ensures file { IfOk result (λ r. r.file.now ≡ s.now) }
 {
     let mut st = Standing::Head;
-    let mut at = 0;
-    while let Some(f) = fields::field(s, at, due_at(st))? {
+    let mut reader = Reader::new(s);
+    while let Some(f) = reader.next(due_at(st))? {
         let progress = judge(st, f.at, f.body)?;
         let r = past(
             s,
@@ -291,7 +290,7 @@ pub fn read(s: &[u8]) -> Result<Register<'_>, Refusal>
             },
         );
         st = Standing::Within(r.progress);
-        at = r.at;
+        reader.at = r.at;
     }
     // No file ends before its head.
     let Standing::Within(q) = st else {
@@ -313,19 +312,12 @@ pub struct Edge {
 }
 
 // The links still to come of an accepted file: the place of the next one, or the file's end where none is left, and their number.
-#[derive(Drop)]
+#[derive(Clone, Copy)]
 pub struct Links<'a> {
     pub file: &'a [u8],
     pub at: usize,
     pub left: usize,
-}
-
-impl<'a> Model for Links<'a> {
-    ghost Value = { Edges };
-
-    ghost view = { λ c. to_come c.file.now c.left };
-
-    ghost invariant = { λ c. OnLinks c.file.now c.at c.left };
+    ghost on: { OnLinks file.now at left },
 }
 
 impl<'a> Register<'a> {
@@ -351,7 +343,9 @@ impl<'a> Register<'a> {
 
     // Its links, in their order.
     pub fn links(&self) -> Links<'a>
-        ensures { result ≡ (register_in self.now.file.now).links }
+        ensures file { result.file.now ≡ self.now.file.now }
+        ensures left { result.left ≡ self.now.links }
+        ensures all { to_come result.file.now result.left ≡ (register_in self.now.file.now).links }
     {
         Links {
             file: self.file,
@@ -364,9 +358,9 @@ impl<'a> Register<'a> {
 impl Iterator for Links<'_> {
     type Item = Edge;
 
-    ghost next_gives = { YieldsFirstBy edge_said (λ es. es) };
+    ghost next_gives = { YieldsFirstBy edge_said (λ c. to_come c.file.now c.left) };
 
-    ghost remaining = { item_count (λ es. es) };
+    ghost remaining = { item_count (λ c. to_come c.file.now c.left) };
 
     fn next(&mut self) -> Option<Edge> {
         if self.left == 0 {

@@ -1,23 +1,24 @@
 -- `conformance::first_forbidden` meets its contract: the search over the links still to come, counted from their place, finds what the whole search finds.
 -- Assumes nothing.
-use mathlib.Core.Path.{◌∙◌}
 use mathlib.Core.Logic.{inl}
 use native.Mathlib.Omega.{arith}
 use Prim.Native.Nat.{◌+◌, ◌<◌}
 use lib.ListN.{length}
+use Rattle.register.specs.LinksAhead.{to_come}
 use Rattle.conformance.proofs.LinkSearch.{few_links, kind_fits, links_start, links_end, link_from, link_label, link_to, link_forbidden, link_permitted}
 use Rattle.conformance.proofs.first_forbidden.Goals as goal
 
 pub loop-i-init-derived : goal.loop-i-init-derived
 loop-i-init-derived c =
     let h = c.enumerate-i-items.ensures in
-    let n : 0 + length c.enumerate-i-items.result.iter < 18446744073709551616 = omega (arith, few_links _ _ c.args.register.now.accepted (h.source ∙ c.links.ensures)) in
-    ((tt, tt, inl (rw (c.into_iter-i-iterator.ensures.into_iter_gives, h.count) n)), tt)
+    let l = c.links.result in
+    let n : 0 + length (to_come l.file.now l.left) < 18446744073709551616 = omega (arith, few_links _ _ c.args.register.now.accepted c.links.ensures.all) in
+    ((tt, tt, inl (rw (c.into_iter-i-iterator.ensures.into_iter_gives, h.count, h.source) n)), tt)
 
 pub loop-i-init : goal.loop-i-init
 loop-i-init c =
     let h = c.enumerate-i-items.ensures in
-    rw (c.into_iter-i-iterator.ensures.into_iter_gives, h.count) (links_start _ _ _ c.args.register.now.accepted (h.source ∙ c.links.ensures))
+    rw (c.into_iter-i-iterator.ensures.into_iter_gives, h.count, h.source) (links_start _ _ _ c.args.register.now.accepted c.links.ensures.all)
 
 pub kind_at-from-requires : goal.kind_at-from-requires
 kind_at-from-requires c = rw c.args.register.now.counted (link_from _ _ _ _ c.loop-i.invariant c.in-Some.ensures.steps.0)

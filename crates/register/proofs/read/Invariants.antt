@@ -2,10 +2,11 @@
 use Rattle.register.proofs.Loop.{Reading}
 use lib.ListN.{length}
 use Prim.Native.Nat.{◌-◌}
+use mathlib.Core.Path.{◌≡◌}
 use Rattle.register.proofs.read.Given as goal
 
 abbrev pub invariant-loop-f : goal.invariant-loop-f
-invariant-loop-f l = Reading l.s l.st l.at
+invariant-loop-f l = (l.reader.src.now ≡ l.s) × Reading l.s l.st l.reader.at
 
 abbrev pub decreases-loop-f : goal.decreases-loop-f
-decreases-loop-f l = length l.s - l.at
+decreases-loop-f l = length l.s - l.reader.at

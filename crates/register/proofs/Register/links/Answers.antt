@@ -12,7 +12,7 @@ pub overflow_add-result : goal.overflow_add-result
 overflow_add-result c = let r = c.args.self.now in omega (arith, start_room r.file.now r.records r.accepted r.counted)
 
 pub invariant_of-result : goal.invariant_of-result
-invariant_of-result c = let r = c.args.self.now in on_start _ _ _ r.accepted r.counted r.linked
+invariant_of-result c = let r = c.args.self.now in record { on = on_start _ _ _ r.accepted r.counted r.linked }
 
-pub returns : goal.returns
-returns c = let r = c.args.self.now in all_to_come _ _ r.linked
+pub returns-clause-all : goal.returns-clause-all
+returns-clause-all c = let r = c.args.self.now in all_to_come _ _ r.linked

@@ -60,7 +60,8 @@ fn double(work: &mut [u64])
     requires { length work.old ≡ 128 }
     ensures { Row 64 64 (row_bit work.old 0) work.old work.new }
 {
-    work.copy_within(0..KINDS, KINDS);
+    let (first, second) = work.split_at_mut(KINDS);
+    second.copy_from_slice(first);
 }
 
 // Word 64 + a: the kinds to which a walk over the nodes xs leads from kind a.

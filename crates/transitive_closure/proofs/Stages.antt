@@ -31,22 +31,22 @@ empty_row {xs} {b = b} {n} {w} k t h d e =
     closure_ind n (pair_at xs b w) k (λ (j : ℕ). ⊥) (λ j hk hj q. false≢true (sym (h.empty k j hk (omega (arith, h.bits)) d) ∙ q)) (λ j i hj hi q p. q) t e
 
 -- ---- the rows that are not empty are live and pending, and none is finished
-pub ready_start : {xs os live : List ℕ} {b n w : ℕ} (m : ℕ) → b + n * w ≤ length xs → n ≤ 64 * w → w ≤ 16 → w ≤ m → w ≤ length live → Clean xs b n w
-    → Row 0 w (mask_of (λ t. some? (pair_at xs b w t) (range n)) n) os live → PartlyClosed xs live live (replicate m 0) b n w
-ready_start {xs} {live = live} {b} {n} {w} m room bits words hm l clean p =
+pub ready_start : {xs os live os' pending : List ℕ} {b n w : ℕ} (m : ℕ) → b + n * w ≤ length xs → n ≤ 64 * w → w ≤ 16 → w ≤ m → w ≤ length live → w ≤ length pending → Clean xs b n w
+    → Row 0 w (mask_of (λ t. some? (pair_at xs b w t) (range n)) n) os live → Row 0 w (row_bit live 0) os' pending → PartlyClosed xs live pending (replicate m 0) b n w
+ready_start {xs} {live = live} {pending = pending} {b} {n} {w} m room bits words hm l o clean p q =
     record {
       room = room;
       bits = bits;
       words = words;
       live_room = l;
-      pending_room = l;
+      pending_room = o;
       finished_room = omega (arith, length-replicate {A = ℕ} m 0);
       clean = clean;
-      inner = λ t h e. ⊎_elim (λ (k : n ≤ t). absurd (false≢true (sym (mask_past test n t k) ∙ sym (p.bit t h) ∙ e))) (λ (k : t < n). k) (le_or_lt n t);
+      inner = λ t h e. ⊎_elim (λ (k : n ≤ t). absurd (false≢true (sym (mask_past test n t k) ∙ sym (p.bit t h) ∙ sym (q.bit t h) ∙ e))) (λ (k : t < n). k) (le_or_lt n t);
       empty = empty;
       settled = λ k h e. absurd (false≢true (sym (row_blank m k (omega arith)) ∙ e));
       closed = λ k t h d e. absurd (closure_ind n (pair_at xs b w) k (λ (j : ℕ). ⊥)
-          (λ j hk hj y. false≢true (sym (empty k j hk (omega arith) d) ∙ y)) (λ j i hj hi y z. y) t e);
+          (λ j hk hj y. false≢true (sym (empty k j hk (omega arith) (sym (q.bit k (omega arith)) ∙ d)) ∙ y)) (λ j i hj hi y z. y) t e);
     }
   where
     test : ℕ → Bool

@@ -1,6 +1,7 @@
 -- `transitive_closure::closure` meets its contract: where no row is pending each is the closure's.
 -- Assumes nothing.
 use native.Mathlib.Omega.{arith}
+use Rattle.rows.proofs.Rows.{row_same}
 use Rattle.transitive_closure.proofs.Stages.{ready_start, stage_then, stage_less, stage_all, pending_first, pending_none}
 use Rattle.transitive_closure.proofs.closure.Goals as goal
 
@@ -8,7 +9,7 @@ pub walk-requires : goal.walk-requires
 walk-requires c =
     let p = c.requires in
     let l = c.sources.ensures in
-    ready_start 16 p.0 p.1 p.2 p.2 (omega (arith, p.2, l.kept.len)) p.3 l
+    ready_start 16 p.0 p.1 p.2 p.2 (omega (arith, p.2, l.kept.len)) (omega (arith, p.2, l.kept.len)) p.3 l (row_same _ _ _)
 
 pub loop-s-smaller : goal.loop-s-smaller
 loop-s-smaller c =

@@ -12,7 +12,7 @@ use Rattle.fields.specs.Padded.{padded}
 use Rattle.fields.proofs.Padded.{pad_set}
 use Rattle.narrowed_question.specs.Form.{Flat, flat, order_codes, numbers as nums, set_numbers as masks}
 use Rattle.narrowed_question.specs.declared.Members.{Members}
-use Rattle.narrowed_question.specs.Contract.{sizes_of, from_of, to_of, numbers_of, sets_of, Packed, Blank, segment_codes}
+use Rattle.narrowed_question.specs.Contract.{sizes_of, from_of, to_of, numbers_of, sets_of, Packed, Blank, Zeroed, segment_codes}
 use Rattle.narrowed_question.specs.Internal.{head_kept, symbol_kept, counting}
 
 -- an array filled from the front, behind a part that stands already
@@ -53,7 +53,13 @@ pub record Filled (ms : List Flat) (a b c : List ℕ) (xs : List Numbered) (P : 
   pub numbers_is : q.numbers ≡ padded 6144 (numbers_of ms ++ nums xs)
   pub sets_is : q.sets ≡ padded 6144 (sets_of ms ++ masks xs)
 
-pub filled_start : {q : Members} → Blank q → Filled [] [] [] [] [] [] 0 0 0 0 q
+-- what `Members::blank` hands out may be lent
+pub blank_zeroed : {q : Members} → Blank q → Zeroed q
+unfolding padded
+blank_zeroed h = record { sizes = h.sizes; from = h.from; to = h.to; numbers = h.numbers; sets = h.sets }
+
+pub filled_start : {q : Members} {n : ℕ} → Zeroed q → Filled [] [] [] [] [] [] 0 0 0 0 (counting q n)
+unfolding padded
 filled_start h = record {
   done_is = refl;
   first_is = refl;

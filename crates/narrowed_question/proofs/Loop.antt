@@ -20,7 +20,7 @@ use Rattle.narrowed_question.specs.declared.Standing.{Standing}
 use Rattle.narrowed_question.specs.declared.Standing.TheVariants.{Head, Between}
 use Rattle.std.specs.Prelude as std
 use Rattle.std.specs.Prelude.{Ok, Err, Some, None, IfOk, IfSome}
-use Rattle.narrowed_question.specs.Contract.{counted, members_in, Packed, Blank, ReadsInto, segment_codes}
+use Rattle.narrowed_question.specs.Contract.{counted, members_in, Packed, Zeroed, ReadsInto, segment_codes}
 use Rattle.narrowed_question.specs.Internal.{Able, item_said, head_kept, symbol_kept, counting}
 use Rattle.narrowed_question.specs.declared.Members.{Members}
 use Rattle.narrowed_question.specs.declared.Item as declared·Item
@@ -38,7 +38,7 @@ pub record Reading (s : List ℕ) (st : Standing) (at done prev first used : ℕ
   tracks : Tracks s st at P ms f t xs
   filled : Filled ms (open_list st (total st xs)) (open_list st f) (open_list st t) xs P done prev first used q
 
-pub reading_start : (s : List ℕ) {q : Members} → Blank q → Reading s Head 0 0 0 0 0 q
+pub reading_start : (s : List ℕ) {q : Members} {n : ℕ} → Zeroed q → Reading s Head 0 0 0 0 0 (counting q n)
 reading_start s h = record { P = []; ms = []; f = 0; t = 0; xs = []; tracks = tracks_start s; filled = filled_start h }
 
 -- of a refused file nothing is said of the arrays

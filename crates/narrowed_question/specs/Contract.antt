@@ -1,7 +1,7 @@
 -- What the code says of the reading of a narrowed question, and how it hands on the members.
 -- Assumes nothing.
 use Rattle.std.specs.Prelude as std
-use Rattle.std.specs.Prelude.{◌≡◌, List, [], map, ℕ, ◌-◌, length, take, drop, Ok, Err, IfOk, MatchResult}
+use Rattle.std.specs.Prelude.{◌≡◌, List, [], map, ℕ, ◌-◌, length, take, drop, replicate, Ok, Err, IfOk, MatchResult}
 use Rattle.theory.specs.Lists.{concat_map}
 use Rattle.theory.specs.Result.{Result, got, refused, onward}
 use Rattle.fields.specs.declared.Refusal.{Refusal}
@@ -51,9 +51,17 @@ pub record ReadsNarrowed (a : Result (List Flat)) (r : std.Result Members Refusa
   pub members : IfOk r (Packed (members_in a))
 
 -- ---- the same, into a struct that is lent
--- as it starts: no members
+-- no members
 abbrev pub Blank : Members → Type 0
 Blank q = Packed [] q
+
+-- as it starts: its arrays are zero, and its count may be anything
+pub record Zeroed (q : Members) : Type 0 where
+  pub sizes : q.sizes ≡ replicate 128 0
+  pub from : q.from ≡ replicate 128 0
+  pub to : q.to ≡ replicate 128 0
+  pub numbers : q.numbers ≡ replicate 6144 0
+  pub sets : q.sets ≡ replicate 6144 0
 
 -- the members of an accepted file; of a refused one it counts none, and of its arrays nothing is said
 pub record ReadsInto (a : Result (List Flat)) (r : std.Result (Unit {0}) Refusal) (q : Members) : Type 0 where

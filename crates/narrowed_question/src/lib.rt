@@ -7,7 +7,7 @@ ghost use Rattle.fields.specs.Table.{tag_length};
 ghost use Rattle.fields.specs.Reading.{read as read_file};
 ghost use Rattle.symbols.specs.Symbols.{symbol_length, order_code};
 ghost use Rattle.narrowed_question.specs.Form.{narrowed_form, count_of, open_of, member_symbol, narrowed_format};
-ghost use Rattle.narrowed_question.specs.Contract.{ReadsNarrowed, Blank, ReadsInto};
+ghost use Rattle.narrowed_question.specs.Contract.{ReadsNarrowed, Blank, Zeroed, ReadsInto};
 ghost use Rattle.narrowed_question.specs.Internal.{BodyReady, judged_said, head_kept, symbol_kept};
 
 use field_reader::Reader;
@@ -182,9 +182,9 @@ pub fn earlier(a: &[u8], b: &[u8]) -> bool
     a.len() < b.len()
 }
 
-// Reads a narrowed question's file into a struct that is lent, blank. Of a refused file it holds what was read of it, and counts none.
+// Reads a narrowed question's file into a lent struct whose arrays are zero. Of a refused file they hold what was read, and it counts none.
 pub fn read_into(s: &[u8], members: &mut Members) -> Result<(), Refusal>
-    requires { Blank members.old }
+    requires { Zeroed members.old }
     ensures { ReadsInto (read_file narrowed_form s.now) result members.new }
 {
     let mut reader = Reader::new(s);
@@ -194,6 +194,7 @@ pub fn read_into(s: &[u8], members: &mut Members) -> Result<(), Refusal>
     let mut used = 0;
     let mut prev = 0;
     let mut first = 0;
+    members.count = 0;
     while let Some(f) = reader.next(st.due())? {
         let (next, item) = st.judge(f)?;
         st = next;

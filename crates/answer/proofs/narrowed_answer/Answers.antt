@@ -5,10 +5,14 @@ use native.Mathlib.Omega.{arith}
 use Rattle.std.proofs.lemmas.Result.{err_from_is_err_and}
 use Rattle.fields.specs.declared.Source.TheVariants as source
 use Rattle.fields.proofs.Calls.{about_ok, about_err}
+use Rattle.narrowed_question.proofs.ArraysFilled.{blank_zeroed}
 use Rattle.register.proofs.ReaderOutcome.{refused_file, accepted_file}
 use Rattle.answer.proofs.WholeCalls.{narrowed_refused, narrowed_register, narrowed_accepted}
 use Rattle.answer.proofs.Files.{file_refused, file_accepted}
 use Rattle.answer.proofs.narrowed_answer.Goals as goal
+
+pub read_into-requires : goal.read_into-requires
+read_into-requires c = blank_zeroed c.blank-members.ensures
 
 pub returns-in_err-about : goal.returns-in_err-about
 returns-in_err-about c =

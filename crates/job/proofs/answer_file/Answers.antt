@@ -3,8 +3,12 @@
 use mathlib.Core.Path.{sym, ap, ◌∙◌}
 use mathlib.Core.Bool.{false≢true}
 use Rattle.std.specs.Result.{is_ok}
+use Rattle.narrowed_question.proofs.ArraysFilled.{blank_zeroed}
 use Rattle.job.proofs.ReadBack.{is_read, readable, answered}
 use Rattle.job.proofs.answer_file.Goals as goal
+
+pub read_into-requires : goal.read_into-requires
+read_into-requires c = blank_zeroed c.blank-members.ensures
 
 pub set_members-requires : goal.set_members-requires
 set_members-requires c = let r = c.requires in record { readable = readable r.written c.read_into.ensures; room = r.room }

@@ -1,11 +1,12 @@
 -- `narrowed_question::read_into` meets its contract: at each field the arrays hold the members read so far.
 -- Assumes nothing.
-use mathlib.Core.Path.{◌≡◌, ◌∙◌, ap, sym}
+use mathlib.Core.Path.{◌≡◌, refl, ◌∙◌, ap, sym}
 use Rattle.std.specs.Prelude.{Ok}
 use Rattle.std.proofs.lemmas.Result.{err_from_is_err_and}
 use Rattle.fields.proofs.Fields.{Handed}
 use Rattle.field_reader.specs.Reader.{next_place}
 use Rattle.narrowed_question.specs.Form.{due}
+use Rattle.narrowed_question.specs.Contract.{counted}
 use Rattle.narrowed_question.proofs.Tracks.{field_ready}
 use Rattle.narrowed_question.proofs.Loop.{reading_start, reading_able, into_refused, seen_there, handed_there, none_left, item_is}
 use Rattle.narrowed_question.proofs.Loop.{reading_ends, reading_wrong, reading_stop, reading_go, reading_open, reading_more, reading_order, reading_last}
@@ -24,7 +25,7 @@ there c =
     )
 
 pub loop-f-init : goal.loop-f-init
-loop-f-init c = (rw c.new-reader.ensures.1 (reading_start _ c.requires), c.requires.count, ap (λ b. b.now) c.new-reader.ensures.0)
+loop-f-init c = (rw c.new-reader.ensures.1 (reading_start _ c.requires), refl, ap (λ b. b.now) c.new-reader.ensures.0)
 
 pub returns-in_err-f : goal.returns-in_err-f
 returns-in_err-f c =
@@ -167,7 +168,7 @@ returns-then-not-earlier c =
     let h = there (goal.at.returns-then-not-earlier c).In-Some in
     let j = item_is c.in_ok-next.ensures c.in-Last.is in
     let b = rw c.keep-in-Last.ensures at (sym c.earlier.ensures ∙ c.if-not-earlier.true) in
-    rw c.keep-in-Last.ensures (into_refused r.1 (reading_order r.0 _ h.0 _ _ _ j b))
+    rw c.keep-in-Last.ensures (record { outcome = ap counted (sym (reading_order r.0 _ h.0 _ _ _ j b)); members = r.1 })
 
 pub overflow_add-done : goal.overflow_add-done
 overflow_add-done c =

@@ -358,7 +358,8 @@ impl<'a> Register<'a> {
 impl Iterator for Links<'_> {
     type Item = Edge;
 
-    ghost next_gives = { YieldsFirstBy edge_said (λ c. to_come c.file.now c.left) };
+    // The links come from one file, the first of those still to come each time.
+    ghost next_gives = { λ c r next. YieldsFirstBy edge_said (λ x. to_come x.file.now x.left) c r next × (next.file ≡ c.file) };
 
     ghost remaining = { item_count (λ c. to_come c.file.now c.left) };
 

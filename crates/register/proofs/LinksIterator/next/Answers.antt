@@ -10,7 +10,7 @@ use Rattle.register.proofs.LinksIterator.next.Goals as goal
 pub returns-then-self-eq0-clause-steps : goal.returns-then-self-eq0-clause-steps
 returns-then-self-eq0-clause-steps c =
     let e = to_come_none _ _ c.args.self.now.on.few c.if-self-eq0.true in
-    (e, e)
+    ((e, e), refl)
 
 pub overflow_add-body : goal.overflow_add-body
 overflow_add-body c = omega (arith, next_room _ _ _ c.args.self.now.on c.if-self-eq0.false)
@@ -41,7 +41,7 @@ invariant_of-self c = record { on = on_next _ _ _ c.args.self.now.on c.if-self-e
 
 pub returns-clause-steps : goal.returns-clause-steps
 returns-clause-steps c =
-    next_link _ _ _ c.args.self.now.on c.if-self-eq0.false _ _ _ (c.from.ensures ∙ c.two.ensures) refl (c.from-2.ensures ∙ c.two-2.ensures)
+    (next_link _ _ _ c.args.self.now.on c.if-self-eq0.false _ _ _ (c.from.ensures ∙ c.two.ensures) refl (c.from-2.ensures ∙ c.two-2.ensures), refl)
 
 pub returns-clause-goes : goal.returns-clause-goes
 returns-clause-goes c =

@@ -3,6 +3,7 @@
 use Prim.Native.Nat.{ℕ, ◌+◌, ◌-◌, ◌≤◌}
 use mathlib.Core.Bool.{Bool, true, false, cond}
 use mathlib.Core.Path.{◌≡◌, refl, sym, ap, ◌∙◌}
+use mathlib.Core.Logic.{◌⊎◌, inl, inr}
 use mathlib.Core.List.{List, []}
 use lib.ListN.{length, get_or, take, drop, length-take, length-drop}
 use lib.Dec.{ltb, leb}
@@ -70,6 +71,12 @@ told_wrong i j p false e = (λ h. let g = sym e ∙ h in let z : ◌≡◌ {A = 
 module _ (d : Due) (s : List ℕ) (at : ℕ) {r : Raw} (e : r ≡ raw_at s at) where
   pub judged_at : {x : Raw} → r ≡ x → field_at d s at ≡ judged d at x
   judged_at u = sym (judged_is d s at) ∙ ap (judged d at) (sym e ∙ u)
+
+  -- of one that has a tag and a length: its body is past the end or is there
+  pub judged_headed : {t n : ℕ} → (r ≡ Short t n) ⊎ (r ≡ Whole t n)
+      → (b : Bool) × (field_at d s at ≡ cond (beyond? d t) (wrong 5 at) (cond (fitting d t n) (cond b (wrong 1 at) (body t n)) (wrong 2 at)))
+  judged_headed (inl u) = (true, judged_at u)
+  judged_headed (inr u) = (false, judged_at u)
 
   pub refused_end : r ≡ End → d.complete ≡ false → Refused d s at
   refused_end u c = told_wrong 5 5 at true (judged_at u ∙ rw c)

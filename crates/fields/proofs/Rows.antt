@@ -10,10 +10,15 @@ use Rattle.fields.specs.declared.File.{File}
 use Rattle.fields.specs.declared.File.TheVariants.{Sheet, Question, Register, Narrowed}
 use Rattle.fields.specs.declared.Row.{Row}
 use Rattle.fields.specs.declared.Due.{Due}
+use Rattle.fields.specs.declared.Fit.{Fit}
+use Rattle.fields.specs.declared.Fit.TheVariants as fit
 use Rattle.fields.specs.Table.{rows, in_set, allowed, row_in, row_of}
 use Rattle.fields.specs.Reading.{due_row?, due_rows, due_tag?, fitting, beyond?, tags_due}
+use Rattle.fields.specs.Raw.{fit_number}
+use Rattle.fields.specs.Contract.{fit_said}
 use Rattle.fields.proofs.Bools.{and_left, and_right}
 use borrow.Author.Tests.{eqb-true}
+use native.Mathlib.Omega.{arith}
 use lib.Dec.{eqb}
 use lib.ListN.{length}
 
@@ -94,6 +99,22 @@ module _ (d : Due) (t : ℕ) {r : Row} {b : Bool} (e : r ≡ row_of t) (h : b �
   pub tag_fits : (n : ℕ) → fitting d t n ≡ eqb r.1 n && b
   tag_fits n = sym (ap₂ (λ (x : Row) (y : Bool). eqb x.1 n && y) e (h ∙ ap (due_row? d) e) ∙ row_fits d t n)
 
+-- what a field is to what is due, by the row of its tag
+pub by_row : (d : Due) (t n : ℕ) (r : Row) → r ≡ row_of t → fit_number d t n ≡ cond (due_row? d r) (cond (eqb r.1 n) 0 2) (cond d.closing 5 2)
+by_row d t n r e =
+    ap₂ (λ (x y : Bool). cond (d.closing && not x) 5 (cond y 0 2)) (tag_due d t e refl) (tag_fits d t e refl n)
+    ∙ by_tests (due_row? d r) (eqb r.1 n) d.closing
+  where
+    by_tests : (a b c : Bool) → ◌≡◌ {A = ℕ} (cond (c && not a) 5 (cond (b && a) 0 2)) (cond a (cond b 0 2) (cond c 5 2))
+    by_tests true true true = refl
+    by_tests true true false = refl
+    by_tests true false true = refl
+    by_tests true false false = refl
+    by_tests false true true = refl
+    by_tests false true false = refl
+    by_tests false false true = refl
+    by_tests false false false = refl
+
 -- ---- a field that fits
 -- it is one of the rows: where one alone is due, these are its tag and its length
 abbrev pub OneOf : List Row → ℕ → ℕ → Type 0
@@ -136,6 +157,47 @@ one_of d t n e = among t n (due_rows d) e
 pub fits_within : (d : Due) (t n : ℕ) → fitting d t n ≡ true → beyond? d t ≡ false
 unfolding fitting due_tag?
 fits_within d t n e = rw (tagged_too t n (due_rows d) e) (and-false d.closing)
+
+-- what the code says of a tag and a length, in the definition's tests
+abbrev pub Told : Bool → Bool → Fit → Type 0
+Told a b fit.Fits = (a ≡ false) × (b ≡ true)
+Told a b fit.Unexpected = (a ≡ false) × (b ≡ false)
+Told a b fit.WrongEnd = a ≡ true
+
+module _ (d : Due) (t n : ℕ) {x : Fit} (e : fit_said x ≡ fit_number d t n) where
+  pub told : {y : Fit} → x ≡ y → Told (beyond? d t) (fitting d t n) y
+  told {y} u = by_tests (beyond? d t) (fitting d t n) y (ap fit_said (sym u) ∙ e)
+    where
+      by_tests : (a b : Bool) (y : Fit) → fit_said y ≡ cond a 5 (cond b 0 2) → Told a b y
+      by_tests true b fit.Fits e = absurd (omega arith)
+      by_tests true b fit.Unexpected e = absurd (omega arith)
+      by_tests true b fit.WrongEnd e = refl
+      by_tests false true fit.Fits e = (refl, refl)
+      by_tests false true fit.Unexpected e = absurd (omega arith)
+      by_tests false true fit.WrongEnd e = absurd (omega arith)
+      by_tests false false fit.Fits e = absurd (omega arith)
+      by_tests false false fit.Unexpected e = (refl, refl)
+      by_tests false false fit.WrongEnd e = absurd (omega arith)
+
+  pub told_unfit : (x ≡ fit.Fits → ⊥) → fitting d t n ≡ false
+  told_unfit h = by_said x refl h
+    where
+      unfit : (b : Bool) → fitting d t n ≡ b → beyond? d t ≡ true → b ≡ false
+      unfit true f q = absurd (true≢false (sym q ∙ fits_within d t n f))
+      unfit false f q = refl
+
+      by_said : (y : Fit) → x ≡ y → (y ≡ fit.Fits → ⊥) → fitting d t n ≡ false
+      by_said fit.Fits u h = absurd (h refl)
+      by_said fit.Unexpected u h = (told u).1
+      by_said fit.WrongEnd u h = unfit (fitting d t n) refl (told u)
+
+  pub told_within : (x ≡ fit.WrongEnd → ⊥) → beyond? d t ≡ false
+  told_within h = by_said x refl h
+    where
+      by_said : (y : Fit) → x ≡ y → (y ≡ fit.WrongEnd → ⊥) → beyond? d t ≡ false
+      by_said fit.Fits u h = (told u).0
+      by_said fit.Unexpected u h = (told u).0
+      by_said fit.WrongEnd u h = absurd (h refl)
 
 -- where the file is full nothing fits; and else the rows of the tags do, a list that computes where tags and file are known
 pub due_one : (f : File) (ts : List ℕ) (c b : Bool) (t n : ℕ) → fitting (tags_due f ts c b) t n ≡ true → (b ≡ false) × OneOf (due_rows (tags_due f ts c false)) t n

@@ -5,6 +5,8 @@ use Rattle.std.specs.Prelude.{◌≡◌, ℕ, ◌+◌, List, length, Option, Som
 use Rattle.std.specs.Borrow.{Bor}
 use Rattle.fields.specs.declared.Refusal.{Refusal}
 use Rattle.fields.specs.declared.Refusal.TheVariants.{Truncated, Unexpected, OutOfRange, NotAscending, WrongEnd, Operands, UnnamedLink, TooMany, TooLong, AreaShort, WorkShort, Breach}
+use Rattle.fields.specs.declared.Fit.{Fit}
+use Rattle.fields.specs.declared.Fit.TheVariants as fit
 use Rattle.fields.specs.declared.Source.{Source}
 use Rattle.fields.specs.declared.Source.TheVariants.{Sheet, Question, Narrowed, Register, Work}
 use Rattle.fields.specs.declared.Failure.{Failure}
@@ -49,6 +51,12 @@ source_number Question = 2
 source_number Narrowed = 3
 source_number Register = 4
 source_number Work = 5
+
+-- 0 where it fits
+abbrev pub fit_said : Fit → ℕ
+fit_said fit.Fits = 0
+fit_said fit.Unexpected = 2
+fit_said fit.WrongEnd = 5
 
 abbrev pub refusal_said : {A : Type 0} → Refusal → Result A
 refusal_said r = refused (number_of r) (place_of r)

@@ -22,6 +22,10 @@ body_of s at (Whole t n) = take n (drop (at + 3) s)
 unfoldable pub body_in : List ℕ → ℕ → List ℕ
 body_in s at = body_of s at (raw_at s at)
 
+-- what a tag and a length are to what is due: 0 where they fit, or the refusal's number
+abbrev pub fit_number : Due → ℕ → ℕ → ℕ
+fit_number d t n = cond (beyond? d t) 5 (cond (fitting d t n) 0 2)
+
 -- what that is where d is due: 5, 1 for the head, 2, 1 for the body
 abbrev pub judged : Due → ℕ → Raw → Field
 judged d at End = cond d.complete ends (wrong 5 at)

@@ -3,9 +3,9 @@
 
 ghost use Rattle.std.specs.Prelude.{◌≡◌, ◌+◌, ◌<◌, length, IfOk, IfSome};
 ghost use Rattle.fields.specs.Table.{allowed, row_of};
-ghost use Rattle.fields.specs.Reading.{due_row?, rows_due, fitting, wrong, field_at, word, eight};
-ghost use Rattle.fields.specs.Raw.{raw_at, body_in};
-ghost use Rattle.fields.specs.Contract.{number_of, place_of, source_number, failure, about_of, AboutRef, Refused, field_said, FoundAt};
+ghost use Rattle.fields.specs.Reading.{due_row?, rows_due, wrong, field_at, word, eight};
+ghost use Rattle.fields.specs.Raw.{fit_number, raw_at, body_in};
+ghost use Rattle.fields.specs.Contract.{number_of, place_of, source_number, fit_said, failure, about_of, AboutRef, Refused, field_said, FoundAt};
 
 // Why a file or a call is refused: the numbers 1 to 6 and 11 to 16 of SPECIFICATION, Refusals, each with its place.
 #[derive(Clone, Copy, PartialEq, Eq)]
@@ -268,7 +268,7 @@ fn allows(row: Row, file: File) -> bool
 
 // The row of a tag, or one that allows no file. Each tag names its row by a constant, since a row at an index that is only known when it
 // runs costs a copy of the whole table. Where a tag gets a second row, that row comes from a function like this one, with an arm for each
-// such tag, and `fits` and `refused` ask of both rows.
+// such tag, and `fit_of` asks of both rows.
 #[inline]
 fn row_of(tag: u8) -> Row
     ensures { result ≡ row_of tag }
@@ -391,13 +391,30 @@ pub struct Found<'a> {
     pub next: usize,
 }
 
-// Whether a field of this tag and length is due. Neither this nor `refused` is taken in by `field`, which each reader takes in.
+// What a tag and a length are to what is due. It is told in a register, and not through memory, since no variant has a place.
+#[derive(Clone, Copy, PartialEq, Eq)]
+enum Fit {
+    Fits,
+    Unexpected,
+    WrongEnd,
+}
+
+// What this tag and length are to what is due. Neither this nor `refused` is taken in by `field`, which each reader takes in.
 #[inline(never)]
-fn fits(due: Due, tag: u8, len: u16) -> bool
-    ensures { result ≡ fitting due tag len }
+fn fit_of(due: Due, tag: u8, len: u16) -> Fit
+    ensures { fit_said result ≡ fit_number due tag len }
 {
     let row = row_of(tag);
-    row.1 == len && row_due(due, row)
+    if row_due(due, row) {
+        if row.1 == len {
+            return Fit::Fits;
+        }
+        return Fit::Unexpected;
+    }
+    if due.closing {
+        return Fit::WrongEnd;
+    }
+    Fit::Unexpected
 }
 
 // Why there is no field that is due: the refusals 5, 1 for the head, 2, 1 for the body, in that order.
@@ -407,21 +424,17 @@ fn refused(s: &[u8], at: usize, due: Due) -> Refusal
     requires { Refused due s.now at }
     ensures { wrong (number_of result) (place_of result) ≡ field_at due s.now at }
 {
-    if s.len() <= at {
-        return Refusal::WrongEnd(at);
-    }
-    let tag = s[at];
-    let is_due = row_due(due, row_of(tag));
-    if due.closing && !is_due {
-        return Refusal::WrongEnd(at);
-    }
-    if s.len() < at + HEAD {
-        return Refusal::Truncated(at);
-    }
-    if fits(due, tag, two(s, at + 1)) {
-        Refusal::Truncated(at)
-    } else {
-        Refusal::Unexpected(at)
+    match step_at(s, at) {
+        Raw::End => Refusal::WrongEnd(at),
+        Raw::Cut(tag) => match fit_of(due, tag, 0) {
+            Fit::WrongEnd => Refusal::WrongEnd(at),
+            _ => Refusal::Truncated(at),
+        },
+        Raw::Short(tag, len) | Raw::Whole(tag, len) => match fit_of(due, tag, len) {
+            Fit::Fits => Refusal::Truncated(at),
+            Fit::Unexpected => Refusal::Unexpected(at),
+            Fit::WrongEnd => Refusal::WrongEnd(at),
+        },
     }
 }
 
@@ -432,7 +445,7 @@ pub fn field(s: &[u8], at: usize, due: Due) -> Result<Option<Found<'_>>, Refusal
     ensures part { IfOk result (λ r. IfSome r (FoundAt s.now at)) }
 {
     match step_at(s, at) {
-        Raw::Whole(tag, len) if fits(due, tag, len) => {
+        Raw::Whole(tag, len) if fit_of(due, tag, len) == Fit::Fits => {
             let next = at + HEAD + usize::from(len);
             let body = &s[at + HEAD..next];
             Ok(Some(Found {

@@ -6,5 +6,5 @@ pub mod Shortening
 pub mod OutcomeNumbers
 -- how a file is judged
 pub mod Judging
--- laws that docs/ name
+-- a law that docs/ name
 pub mod Named

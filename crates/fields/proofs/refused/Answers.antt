@@ -1,52 +1,33 @@
--- `fields::refused` meets its contract: the end, 5, 1 for the head, 2 and 1 for the body are tested in the definition's order, by the row of the tag.
+-- `fields::refused` meets its contract: what lies there, and what its tag and length are to what is due, is a case of `judged`.
 -- Assumes nothing.
 use mathlib.Core.Path.{◌∙◌, sym}
-use Prim.Native.Nat.{◌+◌}
-use lib.Dec.{ltb}
-use lib.ListN.{length, get_or}
-use borrow.Author.Tests.{lt-ltb, lt-leb, le-ltb, le-leb}
-use Rattle.fields.specs.Reading.{field_at}
-use Rattle.fields.proofs.Bools.{fell_through}
-use Rattle.fields.proofs.Raws.{not_ended, not_whole}
-use Rattle.fields.proofs.Rows.{tag_due}
+use Rattle.fields.proofs.Raws.{judged_at, judged_headed, not_ended, not_whole}
+use Rattle.fields.proofs.Rows.{told, told_within}
 use Rattle.fields.proofs.refused.Goals as goal
 
-pub returns-then-s-at : goal.returns-then-s-at
-unfolding field_at
-returns-then-s-at c = not_ended c.args.due.complete (simp (le-leb _ _ c.if-s-at.true)) c.requires.0
+pub returns-in-End : goal.returns-in-End
+returns-in-End c = not_ended c.args.due.complete (judged_at _ _ _ c.step_at.ensures c.in-End.is) c.requires.0
 
-pub returns-then-not-is_due : goal.returns-then-not-is_due
-unfolding field_at
-returns-then-not-is_due c =
-    simp (lt-leb _ _ c.if-s-at.false, tag_due c.args.due _ c.row_of.ensures c.row_due-is_due.ensures, c.if-not-is_due.true, c.if-due.true)
+pub returns-in-WrongEnd : goal.returns-in-WrongEnd
+returns-in-WrongEnd c = sym (judged_at c.args.due _ _ c.step_at.ensures c.in-Cut.is ∙ rw (told c.args.due _ _ c.fit_of.ensures c.in-WrongEnd.is))
 
-pub returns-then-s-at-2 : goal.returns-then-s-at-2
-unfolding field_at
-returns-then-s-at-2 c =
-    simp (lt-leb _ _ c.if-s-at.false, lt-ltb _ _ c.if-s-at-2.true, tag_due c.args.due _ c.row_of.ensures c.row_due-is_due.ensures, fell_through c.else-due.either)
+pub returns-in_default : goal.returns-in_default
+returns-in_default c = sym (judged_at c.args.due _ _ c.step_at.ensures c.in-Cut.is ∙ rw (told_within c.args.due _ _ c.fit_of.ensures c.in_default.not-WrongEnd))
 
-pub returns-then-fits : goal.returns-then-fits
-unfolding field_at
-returns-then-fits c =
-    let f = sym c.fits.ensures ∙ c.if-fits.true in
-    not_whole (get_or c.args.s.now c.args.at 0) c.two.result (ltb (length c.args.s.now) (c.args.at + 3 + c.two.result)) (simp (
-      lt-leb _ _ c.if-s-at.false,
-      tag_due c.args.due _ c.row_of.ensures c.row_due-is_due.ensures,
-      fell_through c.else-due.either,
-      le-ltb _ _ c.if-s-at-2.false,
-      ← c.two.ensures,
-      f,
-    )) c.requires.1
+pub returns-in-Fits : goal.returns-in-Fits
+returns-in-Fits c =
+    let f = told c.args.due _ _ c.fit_of-in-Short.ensures c.in-Fits.is in
+    let j = judged_headed c.args.due _ _ c.step_at.ensures c.in-Short.is in
+    not_whole c.in-Short.tag c.in-Short.len j.0 (j.1 ∙ rw (f.0, f.1)) c.requires.1
 
-pub returns-else-fits : goal.returns-else-fits
-unfolding field_at
-returns-else-fits c =
-    let f = sym c.fits.ensures ∙ c.if-fits.false in
-    simp (
-      lt-leb _ _ c.if-s-at.false,
-      tag_due c.args.due _ c.row_of.ensures c.row_due-is_due.ensures,
-      fell_through c.else-due.either,
-      le-ltb _ _ c.if-s-at-2.false,
-      ← c.two.ensures,
-      f,
-    )
+pub returns-in-Unexpected : goal.returns-in-Unexpected
+returns-in-Unexpected c =
+    let f = told c.args.due _ _ c.fit_of-in-Short.ensures c.in-Unexpected.is in
+    let j = judged_headed c.args.due _ _ c.step_at.ensures c.in-Short.is in
+    sym (j.1 ∙ rw (f.0, f.1))
+
+pub returns-in-WrongEnd-fit_of : goal.returns-in-WrongEnd-fit_of
+returns-in-WrongEnd-fit_of c =
+    let f = told c.args.due _ _ c.fit_of-in-Short.ensures c.in-WrongEnd-fit_of.is in
+    let j = judged_headed c.args.due _ _ c.step_at.ensures c.in-Short.is in
+    sym (j.1 ∙ rw f)

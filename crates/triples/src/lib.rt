@@ -100,6 +100,7 @@ fn same_codes(question: &[u8], s: usize, n: usize, t: usize, m: usize) -> bool
 }
 
 // A table of nodes and the question that its kept chains lie in: the first `used` nodes are in use.
+// Its methods take it by reference: by value, each call of a walk over the nodes copies it.
 #[derive(Clone, Copy)]
 pub struct Nodes<'a> {
     pub words: &'a [u64],
@@ -109,9 +110,9 @@ pub struct Nodes<'a> {
 
 impl Nodes<'_> {
     // Writes the codes and the join sets of node i's path from `at` on, and gives the place after them.
-    pub fn expand(self, i: usize, codes: &mut [u8], vias: &mut [u64], at: usize) -> usize
-        requires { Expandable self.question.now self.words.now self.used i at codes.old vias.old }
-        ensures { Expanded (triple_of self.entry.question.now self.entry.words.now i).path at codes.old vias.old codes.new vias.new result }
+    pub fn expand(&self, i: usize, codes: &mut [u8], vias: &mut [u64], at: usize) -> usize
+        requires { Expandable self.now.question.now self.now.words.now self.now.used i at codes.old vias.old }
+        ensures { Expanded (triple_of self.now.question.now self.now.words.now i).path at codes.old vias.old codes.new vias.new result }
     {
         let n = load(self.words, i);
         match symbols::decode(n.made, 0) {
@@ -136,9 +137,9 @@ impl Nodes<'_> {
 
     // Whether nodes a and b have the same path. Paths share their operands, so that most comparisons end where two nodes
     // are one; the last symbols of the right operands come first, since a chain of joins often differs there.
-    pub fn same_path(self, a: usize, b: usize) -> bool
-        requires { Has self.question.now self.words.now self.used a × Has self.question.now self.words.now self.used b }
-        ensures { Decides ((triple_of self.entry.question.now self.entry.words.now a).path ≡ (triple_of self.entry.question.now self.entry.words.now b).path) result }
+    pub fn same_path(&self, a: usize, b: usize) -> bool
+        requires { Has self.now.question.now self.now.words.now self.now.used a × Has self.now.question.now self.now.words.now self.now.used b }
+        ensures { Decides ((triple_of self.now.question.now self.now.words.now a).path ≡ (triple_of self.now.question.now self.now.words.now b).path) result }
     {
         if a == b {
             return true;
@@ -166,9 +167,9 @@ impl Nodes<'_> {
     }
 
     // Whether the triples at nodes a and b are equal.
-    pub fn same(self, a: usize, b: usize) -> bool
-        requires { Has self.question.now self.words.now self.used a × Has self.question.now self.words.now self.used b }
-        ensures { result ≡ triple? (triple_of self.entry.question.now self.entry.words.now a) (triple_of self.entry.question.now self.entry.words.now b) }
+    pub fn same(&self, a: usize, b: usize) -> bool
+        requires { Has self.now.question.now self.now.words.now self.now.used a × Has self.now.question.now self.now.words.now self.now.used b }
+        ensures { result ≡ triple? (triple_of self.now.question.now self.now.words.now a) (triple_of self.now.question.now self.now.words.now b) }
     {
         let x = load(self.words, a);
         let y = load(self.words, b);
@@ -177,9 +178,9 @@ impl Nodes<'_> {
 
     // Whether the triple of node u is among those of nodes s to u - 1. The newest come first: under a branch right a triple
     // repeats the one just added.
-    fn stands(self, s: usize, u: usize) -> bool
-        requires { Has self.question.now self.words.now self.used u × (s ≤ u) }
-        ensures { result ≡ some? (triple? (triple_of self.entry.question.now self.entry.words.now u)) (part_of self.entry.question.now self.entry.words.now s (u - s)) }
+    fn stands(&self, s: usize, u: usize) -> bool
+        requires { Has self.now.question.now self.now.words.now self.now.used u × (s ≤ u) }
+        ensures { result ≡ some? (triple? (triple_of self.now.question.now self.now.words.now u)) (part_of self.now.question.now self.now.words.now s (u - s)) }
     {
         for j in (s..u).rev() {
             if self.same(u, j) {

@@ -9,7 +9,7 @@ use Rattle.triples.proofs.Nodes.same.Goals as goal
 pub returns-then-eq-2 : goal.returns-then-eq-2
 returns-then-eq-2 c =
     let a = c.args in
-    let s = a.self in
+    let s = a.self.now in
     elim c.if-eq.branch [
       | then-eq w ↦
           paths_decide s.question.now s.words.now a.a a.b c.load-x.ensures.is c.load-y.ensures.is (eqb-true _ _ (sym c.eq.ensures ∙ w.if-eq.true))
@@ -20,7 +20,7 @@ returns-then-eq-2 c =
 pub returns-else-eq-2 : goal.returns-else-eq-2
 returns-else-eq-2 c =
     let a = c.args in
-    let s = a.self in
+    let s = a.self.now in
     rw c.if-eq-2.false (elim c.if-eq.branch [
       | then-eq w ↦
           to_differ s.question.now s.words.now a.a a.b c.load-x.ensures.is c.load-y.ensures.is (eqb-true _ _ (sym c.eq.ensures ∙ w.if-eq.true))

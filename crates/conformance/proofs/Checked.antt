@@ -16,10 +16,10 @@ use Rattle.fields.specs.Reading.{read}
 use Rattle.sheet.specs.declared.Sheet.{Sheet as Sheet·code}
 use Rattle.sheet.specs.Form.{sheet_form}
 use Rattle.sheet.specs.Table.{tabled?, table_of}
-use Rattle.sheet.specs.Contract.{ReadsSheet}
+use Rattle.sheet.specs.Contract.{ReadsInto}
 use Rattle.sheet.proofs.Ranges.{accepted_sheet}
 use Rattle.sheet.proofs.Tables.{table_permits}
-use Rattle.sheet.proofs.ReaderOutcome.{refused_sheet, told_sheet}
+use Rattle.sheet.proofs.ReaderOutcome.{refused_into, told_into}
 use Rattle.register.specs.Form.{register_form, register_in}
 use Rattle.register.specs.Contract.{RegisterSizes, sized}
 use Rattle.register.proofs.AcceptedRegister.{accepted_register, Limits}
@@ -41,20 +41,20 @@ own_table : (S : Sheet) → T (sheet? S) → (a l b : ℕ) → a < 64 → tabled
 unfolding tabled?
 own_table S ok = table_permits S ok
 
-module _ (s g : List ℕ) {a : std.Result Sheet·code Refusal} (h : ReadsSheet (read sheet_form s) a) where
-  pub sheet_refused : {x : Refusal} → a ≡ Err x → refuses source.Sheet (number_of x) (place_of x) ≡ check_of s g
+module _ (s g : List ℕ) {a : std.Result (Unit {0}) Refusal} {x : Sheet·code} (h : ReadsInto (read sheet_form s) a x) where
+  pub sheet_refused : {y : Refusal} → a ≡ Err y → refuses source.Sheet (number_of y) (place_of y) ≡ check_of s g
   unfolding check_of
-  sheet_refused {x} w = rw (refused_sheet s a h x w)
+  sheet_refused {y} w = rw (refused_into s h y w)
 
-  module _ {x : Sheet·code} (w : a ≡ Ok x) {A : Type 0} (f : A → RegisterSizes) {b : std.Result A Refusal} (z : read_said f b ≡ sized (read register_form g)) where
+  module _ (w : a ≡ Ok tt) {A : Type 0} (f : A → RegisterSizes) {b : std.Result A Refusal} (z : read_said f b ≡ sized (read register_form g)) where
     pub register_refused : {y : Refusal} → b ≡ Err y → refuses source.Register (number_of y) (place_of y) ≡ check_of s g
     unfolding check_of
-    register_refused {y} u = rw ((told_sheet s a h x w).1.reads, refused_file f g b z y u)
+    register_refused {y} u = rw ((told_into s h w).1.reads, refused_file f g b z y u)
 
     pub checked : {y : A} → b ≡ Ok y → (o : std.Option ℕ) → failing_said o ≡ first_breach x.kinds x.table (register_in g) → obeying (failing_said o) ≡ check_of s g
     unfolding check_of
     checked {y} u o j =
-        let (S, d) = told_sheet s a h x w in
+        let (S, d) = told_into s h w in
         let r = accepted_file f g b z y u in
         let i = d.table in
         let k = breach_is S (table_of S.permitted) (register_in g) (own_table S (accepted_sheet s S d.reads)) (accepted_register g (register_in g) r) in

@@ -52,10 +52,10 @@ pub fn first_breach(register: &Register<'_>, sheet: &Sheet) -> Option<usize>
 pub fn check(sheet: &[u8], register: &[u8]) -> Result<(), Failure>
     ensures { outcome_said result ≡ check_of sheet.now register.now }
 {
-    let sheet = sheet::read(sheet);
-    let sheet = fields::about_ref(Source::Sheet, &sheet)?;
+    let mut read = Sheet::blank();
+    fields::about(Source::Sheet, sheet::read_into(sheet, &mut read))?;
     let register = fields::about(Source::Register, register::read(register))?;
-    match first_breach(&register, sheet) {
+    match first_breach(&register, &read) {
         Some(i) => Err(Refusal::Breach(i).about(Source::Work)),
         None => Ok(()),
     }

@@ -91,11 +91,11 @@ pub fn whole_job(
         (written_said result) work.new (results answer.new file.new) }
     ensures answers_plain { AnswersPlain (plain_call question.now register.now work.old answer.old) result answer.new }
 {
-    let read = sheet::read(sheet);
-    let s = fields::about_ref(Source::Sheet, &read)?;
+    let mut read = Sheet::blank();
+    fields::about(Source::Sheet, sheet::read_into(sheet, &mut read))?;
     let q = fields::about(Source::Question, question::read(question))?;
     let r = fields::about(Source::Register, register::read(register))?;
     let ground = Ground::new(r);
-    let size = job_in(q.symbols(), s, &ground, work, answer, file);
+    let size = job_in(q.symbols(), &read, &ground, work, answer, file);
     fields::about(Source::Work, size)
 }

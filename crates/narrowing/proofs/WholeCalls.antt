@@ -7,7 +7,6 @@ use native.Mathlib.Omega.{arith}
 use lib.ListN.{length, take}
 use Rattle.std.specs.Prelude as std
 use Rattle.std.specs.Prelude.{Ok, Err}
-use Rattle.std.specs.Borrow.{Bor}
 use Rattle.theory.specs.Sheet.{Sheet}
 use Rattle.theory.specs.Narrowing.{Narrowing, narrow_symbols}
 use Rattle.theory.specs.Result.{got}
@@ -17,13 +16,13 @@ use Rattle.fields.specs.declared.Refusal.TheVariants.{WorkShort}
 use Rattle.fields.specs.declared.Size.{Size}
 use Rattle.fields.specs.declared.Source.TheVariants as source
 use Rattle.fields.specs.Call.{accepts, refuses, about, Output, returned, Returns, performed}
-use Rattle.fields.specs.Contract.{failure, AboutRef, about_of, number_of, place_of, written_said}
+use Rattle.fields.specs.Contract.{failure, about_of, number_of, place_of, written_said}
 use Rattle.fields.specs.Reading.{read}
-use Rattle.fields.proofs.Calls.{about_ok, about_err, about_ref_ok, about_ref_err, performed_15, performed_rest}
+use Rattle.fields.proofs.Calls.{about_ok, about_err, performed_15, performed_rest}
 use Rattle.sheet.specs.declared.Sheet as declared·Sheet
-use Rattle.sheet.specs.Contract.{ReadsSheet}
+use Rattle.sheet.specs.Contract.{ReadsInto}
 use Rattle.sheet.specs.Form.{sheet_form}
-use Rattle.sheet.proofs.ReaderOutcome.{refused_sheet, told_sheet}
+use Rattle.sheet.proofs.ReaderOutcome.{refused_into, told_into}
 use Rattle.question.specs.declared.codes.Question.{Question}
 use Rattle.question.specs.Contract.{ReadsQuestion}
 use Rattle.question.specs.Form.{question_form, question_symbols}
@@ -44,70 +43,65 @@ pub enough : {n : ℕ} → 8192 ≤ n → narrow_need ≤ n
 unfolding narrow_need
 enough l = l
 
--- ---- the files and 15, of a sheet's file s
-module _ {a : std.Result declared·Sheet.Sheet Refusal} (q work : List ℕ) {b : std.Result (Bor declared·Sheet.Sheet) Failure} (r : AboutRef source.Sheet a b) where
-  pub sheet_refused : {f : Failure} → b ≡ Err f → Ready a q work (Err f)
+-- ---- the files and 15
+module _ (s q work : List ℕ) {a : std.Result (Unit {0}) Refusal} {x : declared·Sheet.Sheet} (h : ReadsInto (read sheet_form s) a x)
+    {b : std.Result (Unit {0}) Failure} (r : b ≡ about_of source.Sheet a) where
+  pub sheet_refused : {f : Failure} → b ≡ Err f → Ready s q work x (Err f)
   unfolding members_call
   sheet_refused {f} e =
-      let (x, y) = about_ref_err source.Sheet a r e in
+      let (y, z) = about_err source.Sheet a r e in
       record {
-        begun = λ z u. let w : ◌≡◌ {A = ℕ} 0 1 = cc in absurd (omega arith);
-        refused = λ g u s h. let w : f ≡ g = cc in rw (← w, x) (rw (refused_sheet s a h f.refusal y));
+        begun = λ v u. let w : ◌≡◌ {A = ℕ} 0 1 = cc in absurd (omega arith);
+        refused = λ g u. let w : f ≡ g = cc in rw (← w, y) (rw (refused_into s h f.refusal z));
       }
 
-  module _ {x : Bor declared·Sheet.Sheet} (e : b ≡ Ok x) {c : std.Result Question Refusal} (i : ReadsQuestion (read question_form q) c)
+  module _ (e : b ≡ Ok tt) {c : std.Result Question Refusal} (i : ReadsQuestion (read question_form q) c)
       {d : std.Result Question Failure} (j : d ≡ about_of source.Question c) where
-    pub question_refused : {f : Failure} → d ≡ Err f → Ready a q work (Err f)
+    pub question_refused : {f : Failure} → d ≡ Err f → Ready s q work x (Err f)
     unfolding members_call
     question_refused {f} k =
         let (y, z) = about_err source.Question c j k in
+        let (S, t) = told_into s h (about_ok source.Sheet a r e) in
         record {
           begun = λ v u. let w : ◌≡◌ {A = ℕ} 0 1 = cc in absurd (omega arith);
-          refused = λ g u s h.
-              let w : f ≡ g = cc in
-              let (S, t) = told_sheet s a h x.now (about_ref_ok source.Sheet a r e) in
-              rw (← w, y) (rw (t.reads, refused_question q c i f.refusal z));
+          refused = λ g u. let w : f ≡ g = cc in rw (← w, y) (rw (t.reads, refused_question q c i f.refusal z));
         }
 
     module _ {y : Question} (k : d ≡ Ok y) where
-      module _ (s : List ℕ) (h : ReadsSheet (read sheet_form s) a) where
-        is_performed : (S : Sheet) → read sheet_form s ≡ got S → (cs : List ℕ) → read question_form q ≡ got cs
-            → members_call s q work ≡ performed (members_task (narrow_symbols S (question_symbols cs))) work tt
-        unfolding members_call
-        is_performed S u cs v = rw (u, v)
+      is_performed : (S : Sheet) → read sheet_form s ≡ got S → (cs : List ℕ) → read question_form q ≡ got cs
+          → members_call s q work ≡ performed (members_task (narrow_symbols S (question_symbols cs))) work tt
+      unfolding members_call
+      is_performed S u cs v = rw (u, v)
 
-        short : length work < 8192 → members_call s q work ≡ returned (refuses source.Work 15 8192) work tt
-        unfolding members_task
-        short l =
-            let (S, t) = told_sheet s a h x.now (about_ref_ok source.Sheet a r e) in
-            let (cs, g) = told_question q c i y (about_ok source.Question c j k) in
-            is_performed S t.reads cs g.reads ∙ sym (performed_15 (members_task (narrow_symbols S (question_symbols cs))) work tt need_is l).is
-
-        begin : 8192 ≤ length work → Begun s q work x.now y
-        unfolding members_task
-        begin l =
-            let (S, t) = told_sheet s a h x.now (about_ref_ok source.Sheet a r e) in
-            let (cs, g) = told_question q c i y (about_ok source.Question c j k) in
-            let o = narrow_symbols S (question_symbols cs) in
-            record {
-              sheet = S;
-              handed = handed t;
-              narrowable = ready t g;
-              enough = l;
-              is = rw (told_front g) (is_performed S t.reads cs g.reads ∙ performed_rest (members_task o) work tt (enough l));
-            }
-
-      pub work_short : length work < 8192 → Ready a q work (Err (failure source.Work (WorkShort 8192)))
+      pub work_short : length work < 8192 → Ready s q work x (Err (failure source.Work (WorkShort 8192)))
+      unfolding members_task
       work_short l =
+          let (S, t) = told_into s h (about_ok source.Sheet a r e) in
+          let (cs, g) = told_question q c i y (about_ok source.Question c j k) in
+          let p = is_performed S t.reads cs g.reads ∙ sym (performed_15 (members_task (narrow_symbols S (question_symbols cs))) work tt need_is l).is in
           record {
-            begun = λ z u. let w : ◌≡◌ {A = ℕ} 0 1 = cc in absurd (omega arith);
-            refused = λ g u s h. let w : failure source.Work (WorkShort 8192) ≡ g = cc in rw (← w) (short s h l);
+            begun = λ v u. let w : ◌≡◌ {A = ℕ} 0 1 = cc in absurd (omega arith);
+            refused = λ g u. let w : failure source.Work (WorkShort 8192) ≡ g = cc in rw (← w) p;
           }
 
-      pub both_read : 8192 ≤ length work → Ready a q work (Ok (x, y))
+      begin : 8192 ≤ length work → Begun s q work x y
+      unfolding members_task
+      begin l =
+          let (S, t) = told_into s h (about_ok source.Sheet a r e) in
+          let (cs, g) = told_question q c i y (about_ok source.Question c j k) in
+          let o = narrow_symbols S (question_symbols cs) in
+          record {
+            sheet = S;
+            handed = handed t;
+            narrowable = ready t g;
+            enough = l;
+            is = rw (told_front g) (is_performed S t.reads cs g.reads ∙ performed_rest (members_task o) work tt (enough l));
+          }
+
+      pub both_read : 8192 ≤ length work → Ready s q work x (Ok y)
       both_read l =
           record {
-            begun = λ z u s h. let w : ◌≡◌ {A = Bor declared·Sheet.Sheet × Question} (x, y) z = cc in rw (← w) (begin s h l);
+            begun = λ z u. let w : y ≡ z = cc in rw (← w) (begin l);
             refused = λ g u. let w : ◌≡◌ {A = ℕ} 0 1 = cc in absurd (omega arith);
           }
 

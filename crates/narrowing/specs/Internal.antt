@@ -2,7 +2,6 @@
 -- Assumes nothing.
 use Rattle.std.specs.Prelude as std
 use Rattle.std.specs.Prelude.{◌≡◌, Bool, cond, ℕ, ◌+◌, ◌≤◌, length, take, Ok, Err}
-use Rattle.std.specs.Borrow.{Bor}
 use mathlib.Core.List.{List, Memᴰ as In}
 use Rattle.theory.specs.Sheet.{Sheet}
 use Rattle.theory.specs.Inference.{Triple}
@@ -15,12 +14,9 @@ use Rattle.fields.specs.declared.Failure.{Failure}
 use Rattle.fields.specs.declared.Source.TheVariants as source
 use Rattle.fields.specs.declared.Size.{Size}
 use Rattle.fields.specs.Call.{refuses, about, Gives, returned, zeroed}
-use Rattle.fields.specs.Reading.{read}
 use Rattle.fields.specs.Contract.{number_of, place_of, written_said}
 use Rattle.symbols.specs.Symbols.{symbol_numbered}
 use Rattle.sheet.specs.declared.Sheet as declared·Sheet
-use Rattle.sheet.specs.Form.{sheet_form}
-use Rattle.sheet.specs.Contract.{ReadsSheet}
 use Rattle.question.specs.declared.codes.Question.{Question}
 use Rattle.question.specs.Form.{question_symbols}
 use Rattle.rows.specs.Kept.{Kept, Wrote}
@@ -98,10 +94,9 @@ pub record Begun (s q work : List ℕ) (x : declared·Sheet.Sheet) (y : Question
   pub is : members_call s q work ≡ returned (about source.Work (narrow_symbols sheet (question_symbols (take y.count y.codes)))) (zeroed narrow_need work) tt
 
 -- or what was told is due, and no work word was touched
-pub record Ready (a : std.Result declared·Sheet.Sheet Refusal) (q work : List ℕ) (r : std.Result (Bor declared·Sheet.Sheet × Question) Failure) : Type 0 where
-  pub begun : (x : Bor declared·Sheet.Sheet × Question) → r ≡ Ok x → (s : List ℕ) → ReadsSheet (read sheet_form s) a → Begun s q work x.0.now x.1
-  pub refused : (f : Failure) → r ≡ Err f → (s : List ℕ) → ReadsSheet (read sheet_form s) a
-      → members_call s q work ≡ returned (refuses f.source (number_of f.refusal) (place_of f.refusal)) work tt
+pub record Ready (s q work : List ℕ) (x : declared·Sheet.Sheet) (r : std.Result Question Failure) : Type 0 where
+  pub begun : (y : Question) → r ≡ Ok y → Begun s q work x y
+  pub refused : (f : Failure) → r ≡ Err f → members_call s q work ≡ returned (refuses f.source (number_of f.refusal) (place_of f.refusal)) work tt
 
 -- the first n work words are zero, and the result is about the work
 pub record Settles (work work' : List ℕ) (n : ℕ) (a : std.Result Size Refusal) (r : std.Result Size Failure) : Type 0 where

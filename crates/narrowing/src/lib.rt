@@ -1,11 +1,12 @@
 // Narrowing: from the files of a sheet and a question to the file of the narrowed question, or to its size alone.
 #![tactic(auto)]
 
-ghost use Rattle.std.specs.Prelude.{◌≡◌, ◌≤◌, length};
+ghost use Rattle.std.specs.Prelude.{◌≡◌, [], ◌≤◌, length};
 ghost use Rattle.theory.specs.Merging.{members};
 ghost use Rattle.rules.specs.Requirements.{part};
 ghost use Rattle.fields.specs.Call.{Returns};
 ghost use Rattle.fields.specs.Contract.{written_said};
+ghost use Rattle.sheet.specs.Table.{table_of};
 ghost use Rattle.narrowing.specs.Call.{narrow_need, narrow_call, size_call};
 ghost use Rattle.narrowing.specs.Contract.{FirstUnnamed, Narrowable, InfersFile};
 ghost use Rattle.narrowing.specs.Internal.{TellsUnnamed, Listed, Counts, Known, CountsNamed, CountsSymbols, Puts, PutsSymbols, Ready, Settles};
@@ -140,20 +141,17 @@ fn narrow_symbols(
     put_members(work, symbols, &counted, file)
 }
 
-// What was read of the two files, or their refusals, and 15.
-fn ready<'a>(
-    read: &'a Result<Sheet, Refusal>,
-    question: &[u8],
-    work: &[u64],
-) -> Result<(&'a Sheet, Question), Failure>
-    ensures { Ready read.now question.now work.now result }
+// Reads the sheet into a struct that is lent, nothing permitted, and the question; or their refusals, and 15.
+fn ready(sheet: &[u8], question: &[u8], work: &[u64], read: &mut Sheet) -> Result<Question, Failure>
+    requires { read.old.table ≡ table_of [] }
+    ensures { Ready sheet.now question.now work.now read.new result }
 {
-    let sheet = fields::about_ref(Source::Sheet, read)?;
+    fields::about(Source::Sheet, sheet::read_into(sheet, read))?;
     let question = fields::about(Source::Question, question::read(question))?;
     if work.len() < NEED {
         return Err(Refusal::WorkShort(NEED).about(Source::Work));
     }
-    Ok((sheet, question))
+    Ok(question)
 }
 
 // What is told once the work words that were used are zero.
@@ -174,9 +172,9 @@ pub fn narrowing(
 ) -> Result<Size, Failure>
     ensures { Returns (narrow_call sheet.now question.now work.old file.old) (written_said result) work.new file.new }
 {
-    let read = sheet::read(sheet);
-    let (s, q) = ready(&read, question, work)?;
-    let put = narrow_symbols(q.symbols(), s, work, file);
+    let mut read = Sheet::blank();
+    let q = ready(sheet, question, work, &mut read)?;
+    let put = narrow_symbols(q.symbols(), &read, work, file);
     settle(work, NEED, put)
 }
 
@@ -184,8 +182,8 @@ pub fn narrowing(
 pub fn narrowed_size(sheet: &[u8], question: &[u8], work: &mut [u64]) -> Result<Size, Failure>
     ensures { Returns (size_call sheet.now question.now work.old) (written_said result) work.new tt }
 {
-    let read = sheet::read(sheet);
-    let (s, q) = ready(&read, question, work)?;
-    let counted = count_symbols(q.symbols(), s, work);
+    let mut read = Sheet::blank();
+    let q = ready(sheet, question, work, &mut read)?;
+    let counted = count_symbols(q.symbols(), &read, work);
     settle(work, NEED, counted.map(|c| c.size))
 }

@@ -8,7 +8,7 @@ use mathlib.Core.Option.{none, some}
 use Prim.Native.Nat.{ℕ, ◌≤◌, ◌<◌}
 use native.Mathlib.Omega.{arith}
 use lib.Dec.{T, eqb, ltb→lt}
-use lib.ListN.{length, replicate}
+use lib.ListN.{length}
 use borrow.Author.Tests.{eqb-false}
 use Rattle.theory.specs.Register.{Edge}
 use Rattle.theory.specs.Sheet.{Sheet, sheet?}
@@ -30,7 +30,7 @@ use Rattle.field_reader.specs.declared.Standing.{Standing}
 use Rattle.field_reader.specs.declared.Standing.TheVariants.{Head, Within}
 use Rattle.sheet.specs.Form.{due, head_of, edge_of, next, judge, sheet_format, sheet_form}
 use Rattle.sheet.specs.Table.{permit, table_of, table_in}
-use Rattle.sheet.specs.Contract.{sizes, ReadsSheet}
+use Rattle.sheet.specs.Contract.{sizes, ReadsInto}
 use Rattle.sheet.specs.Internal.{sizes_at, BodyReady}
 use Rattle.sheet.proofs.Ranges.{so_far, head_got, next_got, sheet_more}
 use Rattle.sheet.proofs.Tables.{table_more}
@@ -45,23 +45,24 @@ pub record Progress (s : List ℕ) (st : Standing Triples) (at : ℕ) (table : L
   pub holds : Holds st es
   pub filled : table ≡ table_of es
 
-pub progress_start : (s : List ℕ) → Progress s Head 0 (replicate 4096 0)
-unfolding table_of
-progress_start s = record { es = []; going = going_start sheet_form s; holds = refl; filled = refl }
+pub progress_start : (s : List ℕ) {table : List ℕ} → table ≡ table_of [] → Progress s Head 0 table
+progress_start s e = record { es = []; going = going_start sheet_form s; holds = refl; filled = e }
 
 -- ---- what is returned
-pub reads_refused : (a : Result Sheet) (r : Refusal) → a ≡ refusal_said r → ReadsSheet a (Err r)
-reads_refused a r e = record { outcome = ap sizes (sym e); table = tt }
+pub reads_refused : (a : Result Sheet) (r : Refusal) {x : declared·Sheet.Sheet} → a ≡ refusal_said r → ReadsInto a (Err r) x
+reads_refused a r e = record { reads = record { outcome = ap sizes (sym e); table = tt } }
 
 module _ (s : List ℕ) (at : ℕ) (table : List ℕ) where
   pub progress_ends : (st : Standing Triples) → Progress s st at table → field_at (due st) s at ≡ ends → (x : declared·Sheet.Sheet) → sizes_at st ≡ (x.kinds, x.links) → x.table ≡ table
-      → ReadsSheet (read sheet_form s) (Ok x)
+      → ReadsInto (read sheet_form s) (Ok tt) x
   progress_ends Head p e x h t = absurd (false≢true (ended (due Head) s at e).may)
   progress_ends (Within q) p e x h t =
       let a = going_ends sheet_form s _ _ at p.going e in
       record {
-        outcome = ap (λ (z : ℕ × ℕ). got (record { kinds = z.0; links = z.1 })) (sym h) ∙ ap sizes (sym a);
-        table = t ∙ p.filled ∙ ap table_in (sym a);
+        reads = record {
+          outcome = ap (λ (z : ℕ × ℕ). got (record { kinds = z.0; links = z.1 })) (sym h) ∙ ap sizes (sym a);
+          table = t ∙ p.filled ∙ ap table_in (sym a);
+        };
       }
 
   pub progress_wrong : (st : Standing Triples) → Progress s st at table → (i j : ℕ) → field_at (due st) s at ≡ wrong i j → read sheet_form s ≡ refused i j
@@ -77,8 +78,8 @@ module _ (s : List ℕ) (at : ℕ) (table : List ℕ) where
         let n : q.count ≡ 512 → ⊥ = eqb-false q.count 512 o.0 in
         (o.1.1, omega (arith, p.holds.1))
 
-    pub progress_stop : (st : Standing Triples) → Progress s st at table → Handed (due st) s at f → (r : Refusal) → refusal_said r ≡ judge st f.at f.body.now
-        → ReadsSheet (read sheet_form s) (Err r)
+    pub progress_stop : (st : Standing Triples) → Progress s st at table → Handed (due st) s at f → (r : Refusal) {x : declared·Sheet.Sheet} → refusal_said r ≡ judge st f.at f.body.now
+        → ReadsInto (read sheet_form s) (Err r) x
     progress_stop st p h r j =
         reads_refused _ r (handed_refused sheet_form s _ _ at p.going h (number_of r) (place_of r) (ap (kept sheet_format p.es) (sym j)))
 

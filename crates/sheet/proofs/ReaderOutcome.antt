@@ -14,7 +14,7 @@ use Rattle.fields.proofs.Bools.{onward_got, told_refused}
 use Rattle.sheet.specs.declared.Sheet as declared·Sheet
 use Rattle.sheet.specs.Form.{sheet_form}
 use Rattle.sheet.specs.Table.{table_of, table_in}
-use Rattle.sheet.specs.Contract.{ReadsSheet, SheetSizes, outcome_said}
+use Rattle.sheet.specs.Contract.{ReadsSheet, SheetSizes, outcome_said, by_value, ReadsInto}
 
 -- the file is the sheet S, whose numbers and table were handed on
 pub record Told (s t : List ℕ) (k e : ℕ) (S : Sheet) : Type 0 where
@@ -33,3 +33,11 @@ module _ (s : List ℕ) (a : std.Result declared·Sheet.Sheet Refusal) (h : Read
       let c : ◌≡◌ {A = SheetSizes} (record { kinds = S.kinds; links = S.link_names }) (record { kinds = x.kinds; links = x.links }) = cc b in
       let t : x.table ≡ table_in (read sheet_form s) = rw w at h.table in
       (S, record { reads = r; kinds = ap (λ (p : SheetSizes). p.kinds) c; links = ap (λ (p : SheetSizes). p.links) c; table = t ∙ ap table_in r })
+
+-- the same of a struct that was lent
+module _ (s : List ℕ) {a : std.Result (Unit {0}) Refusal} {x : declared·Sheet.Sheet} (h : ReadsInto (read sheet_form s) a x) where
+  pub refused_into : (f : Refusal) → a ≡ Err f → read sheet_form s ≡ refused (number_of f) (place_of f)
+  refused_into f w = refused_sheet s (by_value a x) h.reads f (ap (λ (b : std.Result (Unit {0}) Refusal). by_value b x) w)
+
+  pub told_into : a ≡ Ok tt → (S : Sheet) × Told s x.table x.kinds x.links S
+  told_into w = told_sheet s (by_value a x) h.reads x (ap (λ (b : std.Result (Unit {0}) Refusal). by_value b x) w)

@@ -1,12 +1,12 @@
-// Reads a sheet's file: its numbers of kinds and links, and the table of permitted kinds, by value.
+// Reads a sheet's file: its numbers of kinds and links, and the table of permitted kinds, into a struct that is lent or by value.
 #![tactic(auto)]
 
-ghost use Rattle.std.specs.Prelude.{◌≡◌, ◌<◌, ◌&&◌, leb, length, get_or};
+ghost use Rattle.std.specs.Prelude.{◌≡◌, [], ◌<◌, ◌&&◌, leb, length, get_or};
 ghost use Rattle.fields.specs.Table.{tag_length};
 ghost use Rattle.fields.specs.Reading.{read as read_file};
 ghost use Rattle.sheet.specs.Form.{sheet_format, sheet_form, head_of, next, edge_of};
-ghost use Rattle.sheet.specs.Table.{cell, tabled?};
-ghost use Rattle.sheet.specs.Contract.{ReadsSheet};
+ghost use Rattle.sheet.specs.Table.{cell, tabled?, table_of};
+ghost use Rattle.sheet.specs.Contract.{ReadsSheet, Blank, ReadsInto};
 ghost use Rattle.sheet.specs.Internal.{BodyReady, head_said, triple_said, turn_said};
 
 use field_reader::{Reader, Standing};
@@ -45,6 +45,18 @@ pub struct Sheet {
 }
 
 impl Sheet {
+    // No kinds, no links, nothing permitted.
+    #[tactic(auto, unfolding(crate::specs::Table::table_of))]
+    pub fn blank() -> Sheet
+        ensures { Blank result }
+    {
+        Sheet {
+            kinds: 0,
+            links: 0,
+            table: [0; TABLE],
+        }
+    }
+
     // The kinds to which a link leads from a kind: a word with a bit for each.
     pub fn leads_to(&self, from: Kind, link: Link) -> u64
         requires { (from.0 < 64) × (link.0 < 64) }
@@ -170,19 +182,18 @@ fn word_of(from: Kind, link: Link) -> usize
     usize::from(link.0) * ROW + usize::from(from.0)
 }
 
-// Reads a sheet's file. Taken in where it is called, so that the table (32 KB) is made where it is used, and is copied less often.
-#[inline(always)]
-pub fn read(s: &[u8]) -> Result<Sheet, Refusal>
-    ensures { ReadsSheet (read_file sheet_form s.now) result }
+// Reads a sheet's file into a struct that is lent, nothing permitted: by value its 32 KB are copied. Of a refused file it may hold triples.
+pub fn read_into(s: &[u8], sheet: &mut Sheet) -> Result<(), Refusal>
+    requires { sheet.old.table ≡ table_of [] }
+    ensures { ReadsInto (read_file sheet_form s.now) result sheet.new }
 {
-    let mut table = [0u64; TABLE];
     let mut st = Standing::Head;
     let mut reader = Reader::new(s);
     while let Some(f) = reader.next(due(st))? {
         let (triple, q) = judge(st, f)?;
         if let Some(x) = triple {
             let i = word_of(x.from, x.link);
-            table[i] = bits::with_bit(table[i], usize::from(x.to.0));
+            sheet.table[i] = bits::with_bit(sheet.table[i], usize::from(x.to.0));
         }
         st = Standing::Within(q);
     }
@@ -190,9 +201,16 @@ pub fn read(s: &[u8]) -> Result<Sheet, Refusal>
         Standing::Head => (0, 0),
         Standing::Within(q) => (q.kinds, q.links),
     };
-    Ok(Sheet {
-        kinds,
-        links,
-        table,
-    })
+    sheet.kinds = kinds;
+    sheet.links = links;
+    Ok(())
+}
+
+// The same by value.
+pub fn read(s: &[u8]) -> Result<Sheet, Refusal>
+    ensures { ReadsSheet (read_file sheet_form s.now) result }
+{
+    let mut sheet = Sheet::blank();
+    read_into(s, &mut sheet)?;
+    Ok(sheet)
 }

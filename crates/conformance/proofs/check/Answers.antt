@@ -3,33 +3,33 @@
 use mathlib.Core.Path.{◌≡◌}
 use Rattle.std.proofs.lemmas.Result.{err_from_is_err_and}
 use Rattle.fields.specs.declared.Source.TheVariants as source
-use Rattle.fields.proofs.Calls.{about_ok, about_err, about_ref_ok, about_ref_err}
+use Rattle.fields.proofs.Calls.{about_ok, about_err}
 use Rattle.conformance.specs.Check.{obeying, check_of}
 use Rattle.conformance.specs.Contract.{failing_said}
 use Rattle.conformance.proofs.Checked.{sheet_refused, register_refused, checked}
 use Rattle.conformance.proofs.check.Goals.{After-first_breach}
 use Rattle.conformance.proofs.check.Goals as goal
 
-pub returns-in_err-sheet : goal.returns-in_err-sheet
-returns-in_err-sheet c =
+pub returns-in_err-about : goal.returns-in_err-about
+returns-in_err-about c =
     let p = err_from_is_err_and c.from_residual.result c.from_residual.ensures.1 in
-    let a = about_ref_err source.Sheet c.read-sheet.result c.about_ref.ensures c.in_err-sheet.was in
-    rw (p.1, p.2, a.0) (sheet_refused _ _ c.read-sheet.ensures a.1)
+    let a = about_err source.Sheet c.read_into.result c.about.ensures c.in_err-about.was in
+    rw (p.1, p.2, a.0) (sheet_refused _ _ c.read_into.ensures a.1)
 
 pub returns-in_err-register : goal.returns-in_err-register
 returns-in_err-register c =
     let p = err_from_is_err_and c.from_residual-in_err-register.result c.from_residual-in_err-register.ensures.1 in
-    let a = about_ref_ok source.Sheet c.read-sheet.result c.about_ref.ensures c.in_ok-sheet.was in
-    let b = about_err source.Register c.read.result c.about.ensures c.in_err-register.was in
-    rw (p.1, p.2, b.0) (register_refused _ _ c.read-sheet.ensures a _ c.read.ensures.said b.1)
+    let a = about_ok source.Sheet c.read_into.result c.about.ensures c.in_ok-about.was in
+    let b = about_err source.Register c.read.result c.about-2.ensures c.in_err-register.was in
+    rw (p.1, p.2, b.0) (register_refused _ _ c.read_into.ensures a _ c.read.ensures.said b.1)
 
 -- where both were read
 whole : (c : After-first_breach) → obeying (failing_said c.first_breach.result) ≡ check_of c.args.sheet.now c.args.register.now
 whole c =
-    let a = about_ref_ok source.Sheet c.read-sheet.result c.about_ref.ensures c.in_ok-sheet.was in
-    let b = about_ok source.Register c.read.result c.about.ensures c.in_ok-register.was in
+    let a = about_ok source.Sheet c.read_into.result c.about.ensures c.in_ok-about.was in
+    let b = about_ok source.Register c.read.result c.about-2.ensures c.in_ok-register.was in
     let e : c.in_ok-register.register.file.now ≡ c.args.register.now = rw b at c.read.ensures.file in
-    checked _ _ c.read-sheet.ensures a _ c.read.ensures.said b c.first_breach.result
+    checked _ _ c.read_into.ensures a _ c.read.ensures.said b c.first_breach.result
     (rw e at c.first_breach.ensures)
 
 pub returns-in-Some : goal.returns-in-Some

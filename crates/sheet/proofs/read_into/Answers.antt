@@ -1,4 +1,4 @@
--- `sheet::read` meets its contract: at each field the table has the bits of the triples read so far and no others, and the field that is refused is the definition's.
+-- `sheet::read_into` meets its contract: at each field the table has the bits of the triples read so far and no others, and the field that is refused is the definition's.
 -- Assumes nothing.
 use mathlib.Core.Path.{◌≡◌, ◌∙◌, ap, sym, refl}
 use mathlib.Core.Option as Math
@@ -19,8 +19,8 @@ use Rattle.sheet.specs.Form.{due}
 use Rattle.sheet.specs.Internal.{sizes_at, edge_said, edges_said, turn_said}
 use Rattle.sheet.specs.Table.{permit}
 use Rattle.sheet.proofs.Loop.{Progress, progress_start, reads_refused, progress_ends, progress_wrong, progress_ready, progress_stop, progress_go, progress_more}
-use Rattle.sheet.proofs.read.Goals.{In-Some, In-Some-triple}
-use Rattle.sheet.proofs.read.Goals as goal
+use Rattle.sheet.proofs.read_into.Goals.{In-Some, In-Some-triple, in-Head, in-Within}
+use Rattle.sheet.proofs.read_into.Goals as goal
 
 -- where a field was handed out
 at_field : (c : In-Some) → Stepped (due c.loop-f.st) c.args.s.now c.loop-f.reader.at c.in-Some.f c.next.new.self
@@ -35,13 +35,13 @@ triple_judged {q = q} e w j = ap (λ t. got (Within q, edges_said t)) (sym e) �
 -- where it is a triple
 at_triple : (c : In-Some-triple) →
     let x = edge_said c.in-Some-triple.x in
-    ((x.from < 64) × (x.label < 64) × (x.to < 64)) × Progress c.args.s.now (Within c.in_ok-triple.q) c.in-Some.f.next (permit c.loop-f.table x)
+    ((x.from < 64) × (x.label < 64) × (x.to < 64)) × Progress c.args.s.now (Within c.in_ok-triple.q) c.in-Some.f.next (permit c.loop-f.sheet.table x)
 at_triple c =
     let h = stepped _ _ c.loop-f.invariant.0 c.due.ensures c.next.ensures.said c.next.ensures.part c.next.ensures.file c.next.ensures.place (c.in_ok-f.was ∙ ap Ok c.in-Some.is) in
     progress_more _ _ _ _ c.loop-f.invariant.1 h.field _ _ (triple_judged c.in-Some-triple.is c.in_ok-triple.was c.judge.ensures)
 
 pub loop-f-init : goal.loop-f-init
-loop-f-init c = (ap (λ b. b.now) c.new-reader.ensures.0, rw c.new-reader.ensures.1 (progress_start _))
+loop-f-init c = (ap (λ b. b.now) c.new-reader.ensures.0, rw c.new-reader.ensures.1 (progress_start _ c.requires))
 
 pub returns-in_err-f : goal.returns-in_err-f
 returns-in_err-f c =
@@ -85,12 +85,9 @@ loop-f-preserved c =
     let h = at_field (goal.at.loop-f-preserved c).In-Some in
     (h.file, rw h.place (progress_go _ _ _ _ c.loop-f.invariant.1 h.field _ (triple_judged c.in_default-triple.is c.in_ok-triple.was c.judge.ensures)))
 
-pub returns-in-Head : goal.returns-in-Head
-returns-in-Head c =
+pub returns : goal.returns
+returns c =
     let l = c.loop-f.invariant in
-    progress_ends _ _ _ _ l.1 (seen_next _ c.loop-f.reader l.0 c.due.ensures c.next.ensures.said (c.in_ok-f.was ∙ ap Ok c.in_default.is)) _ (ap sizes_at c.in-Head.is) refl
-
-pub returns-in-Within : goal.returns-in-Within
-returns-in-Within c =
-    let l = c.loop-f.invariant in
-    progress_ends _ _ _ _ l.1 (seen_next _ c.loop-f.reader l.0 c.due.ensures c.next.ensures.said (c.in_ok-f.was ∙ ap Ok c.in_default.is)) _ (ap sizes_at c.in-Within.is) refl
+    let e : sizes_at c.loop-f.st ≡ c.match-st.kinds =
+    elim c.match-st.branch [ in-Head w ↦ ap sizes_at w.in-Head.is ∙ sym w.kinds-is | in-Within w ↦ ap sizes_at w.in-Within.is ∙ sym w.kinds-is ] in
+    progress_ends _ _ _ _ l.1 (seen_next _ c.loop-f.reader l.0 c.due.ensures c.next.ensures.said (c.in_ok-f.was ∙ ap Ok c.in_default.is)) _ e refl

@@ -44,8 +44,8 @@
  * that first and second differ, and that no area overlaps a file or another area. Files may overlap.
  *
  * No call has state, takes memory from the heap or calls anything but memcpy, memmove and memset; every call returns. Threads may call
- * at once, each with areas of its own. 256 KiB of stack are enough; measured: paths_check 68 KiB, paths_narrow and paths_narrow_bytes
- * 69 KiB, paths_shorten 1 KiB, paths_answer 11 KiB, paths_answer_narrowed 79 KiB, paths_job 121 KiB.
+ * at once, each with areas of its own. 256 KiB of stack are enough; measured: paths_check 33 KiB, paths_narrow and paths_narrow_bytes
+ * 49 KiB, paths_shorten 1 KiB, paths_answer 11 KiB, paths_answer_narrowed 79 KiB, paths_job 112 KiB.
  *
  * What a call returns and leaves in each area is proved, for any bytes and areas (docs/MAP.md); not covered are the compiler's back end
  * and this header.

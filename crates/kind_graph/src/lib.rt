@@ -60,8 +60,7 @@ fn double(work: &mut [u64])
     requires { length work.old ≡ 128 }
     ensures { Row 64 64 (row_bit work.old 0) work.old work.new }
 {
-    let (first, second) = work.split_at_mut(KINDS);
-    second.copy_from_slice(first);
+    work.copy_within(0..KINDS, KINDS);
 }
 
 // Word 64 + a: the kinds to which a walk over the nodes xs leads from kind a.

@@ -1,15 +1,15 @@
 -- Loops that write a range of words: what holds at the loop's head, and how it goes on.
 -- Assumes nothing.
-use mathlib.Core.Path.{◌≡◌, refl, sym, ap, ◌∙◌, subst}
-use mathlib.Core.List.{List, ◌++◌}
+use mathlib.Core.Path.{◌≡◌, refl, ◌∙◌, subst}
+use mathlib.Core.List.{List}
 use mathlib.Core.Logic.{◌⊎◌, inl, inr, ⊎_elim}
 use Prim.Native.Nat.{ℕ, zero, suc, ◌+◌, ◌-◌, ◌≤◌, ◌<◌, zero-le, suc-le-suc}
 use native.Mathlib.Nat.{eq-or-lt_of_le}
 use native.Mathlib.Omega.{arith}
-use lib.ListN.{length, get_or, set, take, drop, length-set, get_or-append}
-use lib.Seq.{get_or-set_same, get_or-set_other, get_or-append-add, get_or-drop}
-use borrow.Rule.Slice.PartMut.{mid_of, post_of, put_mid, same_len_mid, mid_len}
-use Rattle.std.proofs.lemmas.List.{get_or-take, length-take-le}
+use lib.ListN.{length, get_or, set, drop, length-set}
+use lib.Seq.{get_or-set_same, get_or-set_other, get_or-drop}
+use borrow.Rule.Slice.PartMut.{mid_of}
+use Rattle.std.proofs.lemmas.List.{get_or-take}
 use Rattle.rows.specs.Kept.{Kept, Wrote}
 
 -- which of two numbers is larger, for a proof by cases
@@ -59,37 +59,6 @@ wrote_more {d} {n} {v} {f} {xs} {ys} p l e =
 pub wrote_all : {d n m : ℕ} {f : ℕ → ℕ} {xs ys : List ℕ} → Wrote d n f xs ys → n ≡ m → Wrote d m f xs ys
 wrote_all {d} {f = f} {xs} {ys} p e = subst (λ (k : ℕ). Wrote d k f xs ys) e p
 
--- ---- a part of the words, read or written as a whole
+-- ---- a part of the words, read as a whole
 pub part_word : (d n i : ℕ) (xs : List ℕ) → i < n → get_or (mid_of d (d + n - d) xs) i 0 ≡ get_or xs (d + i) 0
 part_word d n i xs h = get_or-take (d + n - d) (drop d xs) i 0 (omega arith) ∙ get_or-drop d xs i 0
-
-pub wrote_part : (d n : ℕ) {f : ℕ → ℕ} (xs ys : List ℕ) → d + n ≤ length xs → length ys ≡ n → ((j : ℕ) → j < n → get_or ys j 0 ≡ f j) → Wrote d n f xs (put_mid d (d + n - d) xs ys)
-wrote_part d n {f} xs ys h l e = record {
-  kept = record {
-    len = same_len_mid d m xs ys (omega (arith, mid_len d (d + n) xs h));
-    below = λ k b. get_or-append (take d xs) (ys ++ post_of d m xs) 0 k (omega (arith, t)) ∙ get_or-take d xs k 0 b;
-    above = above;
-  };
-  word = λ j b. at j (ys ++ post_of d m xs) ∙ get_or-append ys (post_of d m xs) 0 j (omega arith) ∙ e j b;
-}
-  where
-    m : ℕ
-    m = d + n - d
-
-    t : length (take d xs) ≡ d
-    t = length-take-le d xs (omega arith)
-
-    at : (j : ℕ) (zs : List ℕ) → get_or (take d xs ++ zs) (d + j) 0 ≡ get_or zs j 0
-    at j zs = ap (λ (i : ℕ). get_or (take d xs ++ zs) (i + j) 0) (sym t) ∙ get_or-append-add (take d xs) zs j 0
-
-    above : (k : ℕ) → d + n ≤ k → get_or (put_mid d m xs ys) k 0 ≡ get_or xs k 0
-    above k b =
-        let q = k - (d + n) in
-        let z : d + (length ys + q) ≡ k = omega arith in
-        let y : d + (m + q) ≡ k = omega arith in
-        ap (λ (i : ℕ). get_or (put_mid d m xs ys) i 0) (sym z)
-        ∙ at (length ys + q) (ys ++ post_of d m xs)
-        ∙ get_or-append-add ys (post_of d m xs) q 0
-        ∙ get_or-drop m (drop d xs) q 0
-        ∙ get_or-drop d xs (m + q) 0
-        ∙ ap (λ (i : ℕ). get_or xs i 0) y

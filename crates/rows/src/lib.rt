@@ -204,12 +204,12 @@ fn merge_into<M: Merge>(to: &mut [u64], d: usize, from: &[u64], s: usize, n: usi
     }
 }
 
-// The row of n words at d becomes the one at s.
+// The row of n words at d becomes the one at s. By index, not `copy_from_slice`, for the reason beside `triples::copy`.
 pub fn copy(to: &mut [u64], d: usize, from: &[u64], s: usize, n: usize)
     requires { (d + n ≤ length to.old) × (s + n ≤ length from.now) }
     ensures { Row d n (row_bit from.now s) to.old to.new }
 {
-    to[d..d + n].copy_from_slice(&from[s..s + n]);
+    merge_into::<Copied>(to, d, from, s, n);
 }
 
 // The row of n words at d takes in the bits of the one at s.

@@ -2,10 +2,11 @@
 -- Assumes nothing.
 use mathlib.Core.Path.{◌≡◌, refl, sym, ap, ◌∙◌}
 use mathlib.Core.List.{List, [], ◌∷◌, ◌++◌, map-append}
-use Prim.Native.Nat.{ℕ, ◌+◌, ◌-◌, ◌≤◌}
+use Prim.Native.Nat.{ℕ, ◌+◌, ◌-◌, ◌≤◌, ◌<◌}
+use native.Mathlib.Numerals.{add-one}
 use native.Mathlib.Omega.{arith}
-use lib.ListN.{length, set, take, drop, replicate, length-append, length-set, length-drop, length-replicate}
-use lib.Seq.{sets, sets-eq, length-sets, drop-drop, length-take-le}
+use lib.ListN.{length, get_or, set, take, drop, replicate, length-append, length-set, length-drop, length-replicate}
+use lib.Seq.{sets, sets-eq, length-sets, drop-drop, length-take-le, take-suc, get_or-drop}
 use borrow.Rule.Slice.PartMut.{put_mid}
 use Rattle.theory.specs.PathExpr.{Via, Op, PathExpr, join, op, closure, s_join, op_code}
 use Rattle.std.proofs.Common.{append_assoc}
@@ -45,14 +46,23 @@ overwritten at n xs ys h e =
 length_taken : (s n : ℕ) (q : List ℕ) → s + n ≤ length q → length (take (s + n - s) (drop s q)) ≡ n
 length_taken s n q h = let k : s + n - s ≡ n = omega arith in rw k (length-take-le n (drop s q) (simp length-drop (omega arith)))
 
+-- ---- a copy, symbol by symbol
+pub take_more : (s j : ℕ) (q : List ℕ) → s + j < length q → take (j + 1) (drop s q) ≡ take j (drop s q) ++ (get_or q (s + j) 0 ∷ [])
+take_more s j q h = rw (add-one, take-suc (drop s q) j 0 (simp length-drop (omega arith)), get_or-drop)
+
+pub copied_more : (at s j : ℕ) (q xs : List ℕ) {xs' : List ℕ} → s + j < length q → xs' ≡ sets xs at (take j (drop s q))
+    → set xs' (at + j) (get_or q (s + j) 0) ≡ sets xs at (take (j + 1) (drop s q))
+copied_more at s j q xs h e =
+    let l : length (take j (drop s q)) ≡ j = length-take-le j (drop s q) (simp length-drop (omega arith)) in
+    rw (e, take_more s j q h) (ap (λ (m : ℕ). set (sets xs at (take j (drop s q))) (at + m) (get_or q (s + j) 0)) (sym l) ∙ sets_append (take j (drop s q)) (get_or q (s + j) 0 ∷ []) xs at)
+
 -- n symbols of the question from s on, with no sets
-pub copied : (q xs ys : List ℕ) {us vs : List ℕ} (s n at : ℕ) → s + n ≤ length q → at + n ≤ length xs → at + n ≤ length ys → us ≡ take (s + n - s) (drop s q)
+pub copied : (q xs ys : List ℕ) {xs' vs : List ℕ} (s n at : ℕ) → s + n ≤ length q → at + n ≤ length ys → xs' ≡ sets xs at (take n (drop s q))
     → vs ≡ replicate (length (take (at + n - at) (drop at ys))) 0
-    → PathWritten at (take n (drop s q)) (replicate n 0) xs ys (put_mid at (at + n - at) xs us) (put_mid at (at + n - at) ys vs) (at + n)
-copied q xs ys s n at hq hx hy eu ev =
-    let k : s + n - s ≡ n = omega arith in
-    let lc : length (take n (drop s q)) ≡ n = rw k at (length_taken s n q hq) in
-    rw (eu, ev, k, length_taken at n ys hy, overwritten at n xs (take n (drop s q)) hx lc, overwritten at n ys (replicate n 0) hy (length-replicate n 0))
+    → PathWritten at (take n (drop s q)) (replicate n 0) xs ys xs' (put_mid at (at + n - at) ys vs) (at + n)
+copied q xs ys s n at hq hy eu ev =
+    let lc : length (take n (drop s q)) ≡ n = length-take-le n (drop s q) (simp length-drop (omega arith)) in
+    rw (eu, ev, length_taken at n ys hy, overwritten at n ys (replicate n 0) hy (length-replicate n 0))
     (record {
       codes_are = refl;
       sets_are = refl;

@@ -81,12 +81,15 @@ fn mark(codes: &mut [u8], vias: &mut [u64], at: usize, code: u8, via: u64) -> us
     at + 1
 }
 
-// Copies n symbols of the question from s on, with no sets.
+// Copies n symbols of the question from s on, with no sets. By index: where the compiler cannot see that two slices lie apart,
+// `copy_from_slice` becomes a call of memmove, which the library for C needs for nothing else.
 fn copy(question: &[u8], s: usize, n: usize, codes: &mut [u8], vias: &mut [u64], at: usize) -> usize
     requires { (s + n ≤ length question.now) × (at + n ≤ length codes.old) × (at + n ≤ length vias.old) }
     ensures { PathWritten at (take n (drop s question.now)) (replicate n 0) codes.old vias.old codes.new vias.new result }
 {
-    codes[at..at + n].copy_from_slice(&question[s..s + n]);
+    for j in 0..n {
+        codes[at + j] = question[s + j];
+    }
     vias[at..at + n].fill(0);
     at + n
 }

@@ -26,6 +26,8 @@ lib: $(LIBRARY) ## the library for C, build/libpaths.a (header: include/paths.h)
 client: $(LIBRARY) ## a program in C that runs the cases of the specification through the library
 	$(CC) -std=c99 -pedantic -Wall -Wextra -Werror -O2 -Iinclude -o build/client tests/client.c $(LIBRARY)
 	ulimit -s 256 && build/client # the stack that the header promises to be enough
+	nm -u $(LIBRARY) >build/client.needs
+	! grep ' U ' build/client.needs | grep -vE ' (memcpy|memset)$$' # all that C has to bring along; what is printed is too much
 	if command -v valgrind >/dev/null; then valgrind -q --error-exitcode=1 build/client >build/client.out; fi
 
 test: ## everything that must hold (.ci/run); from nothing some 25 minutes on four cores
